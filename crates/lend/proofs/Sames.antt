@@ -1,0 +1,57 @@
+-- `same` is true of equal lists alone, and how a loop comes to know it. Assumes nothing.
+use mathlib.Core.Path.{_≡_, refl, sym, ap, ap₂, _∙_}
+use mathlib.Core.Bool.{Bool, true, false}
+use mathlib.Core.List.{List, [], _∷_}
+use Prim.Native.Nat.{ℕ, suc, _+_, _≤_, _<_}
+use native.Mathlib.Numerals.{add-one}
+use native.Mathlib.Omega.{arith}
+use lib.ListN.{length, drop, getD, drop-of-length-le}
+use lib.Seq.{drop-cons}
+use lib.Dec.{eqb}
+use borrow.Author.Tests.{eqb-true, eq-eqb, ne-eqb}
+use Rattle.lend.specs.Same.{both, same}
+
+both-first : (a b : Bool) → both a b ≡ true → a ≡ true
+both-first true b e = refl
+both-first false b e = e
+
+both-second : (a b : Bool) → both a b ≡ true → b ≡ true
+both-second true b e = e
+both-second false b e = cc
+
+pub same-refl : (xs : List ℕ) → same xs xs ≡ true
+unfolding same
+same-refl [] = refl
+same-refl (x ∷ xs) = rw (eq-eqb x x refl) (same-refl xs)
+
+pub same-eq : (xs ys : List ℕ) → same xs ys ≡ true → xs ≡ ys
+unfolding same
+same-eq [] [] e = refl
+same-eq [] (y ∷ ys) e = cc
+same-eq (x ∷ xs) [] e = cc
+same-eq (x ∷ xs) (y ∷ ys) e =
+    let h : x ≡ y = eqb-true x y (both-first (eqb x y) (same xs ys) e) in
+    let t : xs ≡ ys = same-eq xs ys (both-second (eqb x y) (same xs ys) e) in
+    cc
+
+-- lists of different lengths differ
+pub same-lengths : (xs ys : List ℕ) → (length xs ≡ length ys → ⊥) → same xs ys ≡ false
+same-lengths xs ys h = go (same xs ys) refl
+  where
+    go : (b : Bool) → same xs ys ≡ b → same xs ys ≡ false
+    go true e = absurd (h (ap length (same-eq xs ys e)))
+    go false e = e
+
+-- a turn of a loop that compares, and its two ends
+module _ (a b : List ℕ) (i : ℕ) where
+  pub same-step : i < length a → i < length b → getD a i 0 ≡ getD b i 0 → same (drop i a) (drop i b) ≡ same (drop (i + 1) a) (drop (i + 1) b)
+  unfolding same
+  same-step h k e = rw (add-one, drop-cons a i 0 h, drop-cons b i 0 k, eq-eqb (getD a i 0) (getD b i 0) e)
+
+  pub same-stop : i < length a → i < length b → (getD a i 0 ≡ getD b i 0 → ⊥) → same (drop i a) (drop i b) ≡ false
+  unfolding same
+  same-stop h k e = rw (drop-cons a i 0 h, drop-cons b i 0 k, ne-eqb (getD a i 0) (getD b i 0) e)
+
+  pub same-end : length a ≤ i → length b ≤ i → same (drop i a) (drop i b) ≡ true
+  unfolding same
+  same-end h k = ap₂ same (drop-of-length-le a {i = i} h) (drop-of-length-le b {i = i} k)

@@ -1,0 +1,84 @@
+// Writes into lent buffers and comparison of them. Each function takes any arguments: a write that does not fit changes nothing.
+ghost use mathlib.Core.Path.{_≡_};
+ghost use mathlib.Core.List.{[], _∷_};
+ghost use Prim.Native.Nat.{_+_, _≤_};
+ghost use lib.ListN.{length, replicate};
+ghost use Rattle.wire.specs.Over.{over};
+ghost use Rattle.lend.specs.Same.{same};
+
+// One byte at index at.
+pub fn put(out: &mut [u8], at: usize, b: u8)
+    ensures { λ _. ⌜ now (out .exit) ≡ over at (b ∷ []) (now (out .entry)) ⌝ }
+{
+    if at < out.len() {
+        out[at] = b;
+    }
+}
+
+fn copy_fitting(out: &mut [u8], at: usize, src: &[u8])
+    requires { ⌜ at + length (now src) ≤ length (now out) ⌝ }
+    ensures { λ _. ⌜ now (out .exit) ≡ over at (now (src .entry)) (now (out .entry)) ⌝ }
+{
+    let mut i = 0;
+    while i < src.len() {
+        out[at + i] = src[i];
+        i += 1;
+    }
+}
+
+// All of src from index at on.
+pub fn copy(out: &mut [u8], at: usize, src: &[u8])
+    ensures { λ _. ⌜ now (out .exit) ≡ over at (now (src .entry)) (now (out .entry)) ⌝ }
+{
+    if at <= out.len() {
+        if src.len() <= out.len() - at {
+            copy_fitting(out, at, src);
+        }
+    }
+}
+
+fn fill_fitting(out: &mut [u8], at: usize, n: usize, b: u8)
+    requires { ⌜ at + n ≤ length (now out) ⌝ }
+    ensures { λ _. ⌜ now (out .exit) ≡ over at (replicate n b) (now (out .entry)) ⌝ }
+{
+    let mut i = 0;
+    while i < n {
+        out[at + i] = b;
+        i += 1;
+    }
+}
+
+// The byte b, n times, from index at on.
+pub fn fill(out: &mut [u8], at: usize, n: usize, b: u8)
+    ensures { λ _. ⌜ now (out .exit) ≡ over at (replicate n b) (now (out .entry)) ⌝ }
+{
+    if at <= out.len() {
+        if n <= out.len() - at {
+            fill_fitting(out, at, n, b);
+        }
+    }
+}
+
+// n zeros from index at on.
+pub fn clear(out: &mut [u8], at: usize, n: usize)
+    ensures { λ _. ⌜ now (out .exit) ≡ over at (replicate n 0) (now (out .entry)) ⌝ }
+{
+    fill(out, at, n, 0);
+}
+
+// Whether a and b hold the same bytes.
+pub fn equal(a: &[u8], b: &[u8]) -> bool
+    ensures { λ r. ⌜ r ≡ same (now (a .entry)) (now (b .entry)) ⌝ }
+{
+    if a.len() != b.len() {
+        return false;
+    }
+    let mut i = 0;
+    while i < a.len() {
+        if a[i] != b[i] {
+            return false;
+        }
+        i += 1;
+    }
+    true
+}

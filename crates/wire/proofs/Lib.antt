@@ -1,0 +1,5 @@
+pub mod Branch
+pub mod Cases
+pub mod Digits
+pub mod Overs
+pub mod Writes

@@ -1,0 +1,35 @@
+-- Laws of a writer's promise: two answers that keep it are equal, and the two ways to keep it. Assumes nothing.
+use mathlib.Core.Path.{_≡_, refl, sym, _∙_}
+use mathlib.Core.List.{List}
+use Prim.Native.Nat.{ℕ, _+_, _≤_, _<_}
+use borrow.Author.Tests.{le-leb, lt-leb}
+use lib.ListN.{length}
+use Rattle.wire.specs.Over.{over}
+use Rattle.wire.specs.Writing.{Verdict, bytes, fault, Outcome, wrote, failed, told, outcome, roomed, after, Written}
+use Rattle.wire.specs.declared.Wrote.{Wrote}
+use Rattle.wire.specs.declared.Wrote.the-variants.{Done, Refused}
+
+-- the enum says no more than 01's answer does
+pub told-injective : (r q : Wrote) → told r ≡ told q → r ≡ q
+told-injective (Done m) (Done n) e = cc
+told-injective (Done m) (Refused n) e = cc
+told-injective (Refused m) (Done n) e = cc
+told-injective (Refused m) (Refused n) e = cc
+
+-- a writer's promise fixes its answer and every byte of its output
+pub written-once : {at : ℕ} {v : Verdict} {out x y : List ℕ} {r q : Wrote} → Written at v out x r → Written at v out y q → (r ≡ q) × (x ≡ y)
+written-once {r = r} {q = q} p o = (told-injective r q (p .answer ∙ sym (o .answer)), p .output ∙ sym (o .output))
+
+module _ (at : ℕ) (out : List ℕ) where
+  -- the bytes fit
+  pub written : (bs out' : List ℕ) (n : ℕ) → at + length bs ≤ length out → n ≡ length bs → out' ≡ over at bs out → Written at (bytes bs) out out' (Done n)
+  written bs out' n h e o =
+      record { answer = rw (le-leb (at + length bs) (length out) h, e); output = rw (le-leb (at + length bs) (length out) h) o }
+
+  -- they do not
+  pub no-room : (bs : List ℕ) → length out < at + length bs → Written at (bytes bs) out out (Refused 11)
+  no-room bs h = record { answer = rw (lt-leb (at + length bs) (length out) h); output = rw (lt-leb (at + length bs) (length out) h) }
+
+  -- a refusal that comes before the output is looked at
+  pub denied : (e : ℕ) → Written at (fault e) out out (Refused e)
+  denied e = record { answer = refl; output = refl }

@@ -1,0 +1,4 @@
+pub mod Answer
+pub mod Number
+pub mod Over
+pub mod Writing

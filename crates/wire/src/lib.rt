@@ -1,0 +1,51 @@
+// What every crate of Stiltbasket shares: the numbers that a call may answer, and the answer of a call that writes.
+// The definitions that contracts cite are in specs/, their laws in proofs/.
+
+// Document 01, "Numbers a call may answer". Each refusal is its number, named here and nowhere else.
+pub const BAD_CHARACTER: u8 = 1;
+
+pub const BAD_TEXT_LENGTH: u8 = 2;
+
+pub const CUT_OR_LEFT_OVER: u8 = 3;
+
+pub const BAD_MAGIC: u8 = 4;
+
+pub const BAD_VERSION: u8 = 5;
+
+pub const BAD_FRAME_TYPE: u8 = 6;
+
+pub const BAD_VARINT: u8 = 7;
+
+pub const BAD_PLACE: u8 = 8;
+
+pub const TOO_LARGE: u8 = 9;
+
+pub const BAD_CHECKSUM: u8 = 10;
+
+pub const NO_ROOM: u8 = 11;
+
+pub const OTHER_DOCUMENT: u8 = 12;
+
+pub const BAD_COLLECTION: u8 = 13;
+
+pub const TOTALS_DISAGREE: u8 = 14;
+
+pub const PAGE_DISPUTED: u8 = 15;
+
+pub const PAGE_MISSING: u8 = 16;
+
+pub const OTHER_CIPHERTEXT: u8 = 17;
+
+pub const NOT_CANONICAL: u8 = 18;
+
+pub const OUT_OF_RANGE: u8 = 19;
+
+pub const BAD_PATH: u8 = 20;
+
+pub const BAD_CONTENTS: u8 = 21;
+
+// The answer of a call that writes into lent output: how many bytes it wrote, or the refusal, which wrote none.
+pub enum Wrote {
+    Done { len: usize },
+    Refused { no: u8 },
+}
