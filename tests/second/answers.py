@@ -1,0 +1,46 @@
+"""The numbers a call may answer (01, "Numbers a call may answer")."""
+
+BAD_CHARACTER = 1
+BAD_LENGTH = 2
+ENDS_OR_LEFT_OVER = 3
+MAGIC = 4
+VERSION = 5
+FRAME_TYPE = 6
+VARINT = 7
+INDEX_TOTAL = 8
+TOO_LARGE = 9
+FRAME_CRC = 10
+NO_ROOM = 11
+OTHER_DOCUMENT = 12
+NOT_WELL_FORMED = 13
+TOTALS_DISAGREE = 14
+TWO_VERSIONS = 15
+MISSING = 16
+WRONG_ID = 17
+NOT_CANONICAL = 18
+OUT_OF_RANGE = 19
+BAD_PATH = 20
+NOT_THE_FILES = 21
+
+WITH_PLACE = (TWO_VERSIONS, MISSING, NOT_THE_FILES)
+
+
+class Refusal(Exception):
+    """A call's answer where it is not 0, with its place for 15, 16 and 21."""
+
+    def __init__(self, number, place=0):
+        super().__init__(number, place)
+        self.number = number
+        self.place = place
+
+
+def refuse_if(fault, number, place=0):
+    """Leave at once with this number where the fault is there."""
+    if fault:
+        raise Refusal(number, place)
+
+
+def lend(room, output):
+    """Output into a buffer of `room` bytes: 11 where it is too short."""
+    refuse_if(len(output) > room, NO_ROOM)
+    return output

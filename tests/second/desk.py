@@ -1,0 +1,314 @@
+"""The call desk (CALLS.md): lines in, lines out.
+
+What CALLS.md leaves open is decided here, and nowhere else:
+
+- A line ends at a line feed, which does not count to its 262,144 bytes; the
+  last may lack it. Nothing after the last line feed is not a line. The length
+  is judged before all else, so a longer line that begins with `#` prints `?`.
+- Arguments are parted by exactly one space: two spaces, a trailing space, a
+  leading space, a tab or a carriage return make the form wrong.
+- BYTES is one or more pairs of lower-case hex digits, or `-` for no bytes. An
+  empty argument, an upper-case digit or an odd count is wrong.
+- A number is 1 to 40 decimal digits, leading zeros allowed, with a value of at
+  most 2^64 - 1. A signed number is one `-` or none, and then such digits; its
+  value lies from -2^63 to 2^63 - 1 (`-0` is 0).
+- ROOM is a number up to 65,536. SEALED is a number, 0 or 1. The N of
+  manifest-write is a number up to 65, and exactly N entries follow it.
+- CREATED is one argument: `i` and a signed number, or `f` and 16 lower-case
+  hex digits. SEED and MTIME may be `null`.
+- A register is one of the letters `a` to `d`, and holds no bytes at first.
+  `load` takes at most 65,536 bytes, else the form is wrong.
+- `load` prints `0`, `save` prints `0` and the bytes, `status` only its line.
+- A verb that has not landed is an unknown verb.
+- ` spilled` is never printed: it would be a fault of the library.
+"""
+
+import re
+
+from . import collection, envelope, forms, frames, payloads, sums
+from .answers import WITH_PLACE, Refusal, lend
+from .manifest import File, Manifest, manifest_read, manifest_write
+from .verbs import ALL
+
+LONGEST_LINE = 262144
+MOST_ROOM = 65536
+MOST_ENTRIES = 65
+
+HEX = re.compile(rb"(?:[0-9a-f]{2})+")
+DIGITS = re.compile(rb"[0-9]{1,40}")
+DOUBLE = re.compile(rb"f[0-9a-f]{16}")
+
+
+class Malformed(Exception):
+    """The line is not of the verb's form: `?`."""
+
+
+# Arguments.
+
+
+def demand(condition):
+    """The form's own demand on an argument."""
+    if not condition:
+        raise Malformed
+
+
+def as_bytes(argument):
+    """BYTES: lower-case hex, or `-`."""
+    if argument == b"-":
+        return b""
+    demand(HEX.fullmatch(argument))
+    return bytes.fromhex(argument.decode("ascii"))
+
+
+def as_number(argument, most=2**64 - 1):
+    """A decimal number from 0 to `most`."""
+    demand(DIGITS.fullmatch(argument) and int(argument) <= most)
+    return int(argument)
+
+
+def as_signed(argument):
+    """A number that may begin with `-`, from -2^63 to 2^63 - 1."""
+    digits = argument.removeprefix(b"-")
+    demand(DIGITS.fullmatch(digits) and -2**63 <= int(argument) <= 2**63 - 1)
+    return int(argument)
+
+
+def as_room(argument):
+    """ROOM: the length of the lent output."""
+    return as_number(argument, MOST_ROOM)
+
+
+def as_register(argument):
+    """REG: `a`, `b`, `c` or `d`."""
+    demand(argument in (b"a", b"b", b"c", b"d"))
+    return argument.decode("ascii")
+
+
+def as_contents(argument):
+    """What `load` puts into a register: BYTES, up to 65,536 of them."""
+    data = as_bytes(argument)
+    demand(len(data) <= MOST_ROOM)
+    return data
+
+
+def or_null(form):
+    """An argument that may be `null`."""
+    return lambda argument: None if argument == b"null" else form(argument)
+
+
+def as_created(argument):
+    """CREATED: `i` and a signed number, or `f` and a double's 16 digits."""
+    if argument.startswith(b"i"):
+        return "i", as_signed(argument[1:])
+    demand(DOUBLE.fullmatch(argument))
+    return "f", as_bytes(argument[1:])
+
+
+# Printed values.
+
+
+def shown(value):
+    """A value as it is printed: bytes, nothing, or a number or word."""
+    if isinstance(value, bytes):
+        return value.hex() or "-"
+    return "null" if value is None else str(value)
+
+
+def shown_created(created):
+    """CREATED as it is printed."""
+    return created[0] + shown(created[1])
+
+
+# Verbs. Each gives the values that are printed after the 0.
+
+
+def varint_write(number, room):
+    return [lend(room, forms.varint_write(number))]
+
+
+def through(function):
+    """A verb that turns bytes or text into the other within ROOM."""
+    return lambda given, room: [lend(room, function(given))]
+
+
+def one(function):
+    """A verb whose answer is one value."""
+    return lambda *arguments: [function(*arguments)]
+
+
+def frame_read(raw):
+    frame = frames.frame_read(raw)
+    return [bytes([frame.type]), frame.id, frame.index, frame.total, frame.data]
+
+
+def auth_write(pub, sig, digest, room):
+    return [payloads.auth_write(payloads.Auth(pub, sig, digest), room)]
+
+
+def auth_signed(pub, digest, room):
+    return [payloads.auth_signed(payloads.Auth(pub, b"", digest), room)]
+
+
+def shard_write(*values_and_room):
+    *values, room = values_and_room
+    return [payloads.shard_write(payloads.Shard(*values), room)]
+
+
+def shard_signed(pub, *values_and_room):
+    *values, room = values_and_room
+    return [payloads.shard_signed(payloads.Shard(pub, b"", *values), room)]
+
+
+def manifest_values(raw):
+    manifest = manifest_read(raw)
+    entries = [value for entry in manifest.files for value in entry]
+    return [manifest.seed, int(manifest.sealed), shown_created(manifest.created),
+            len(manifest.files), *entries]
+
+
+BYTES, NUMBER, SIGNED, ROOM, REG = as_bytes, as_number, as_signed, as_room, as_register
+SHARD_VALUES = (BYTES, BYTES, NUMBER, NUMBER, NUMBER, NUMBER)
+
+# Verbs that only answer: the forms of their arguments, and the call.
+CALLS = {
+    "varint-read": ((BYTES,), forms.varint_read),
+    "varint-write": ((NUMBER, ROOM), varint_write),
+    "base64-read": ((BYTES, ROOM), through(forms.base64_read)),
+    "base64-write": ((BYTES, ROOM), through(forms.base64_write)),
+    "zbase32-read": ((BYTES, ROOM), through(forms.zbase32_read)),
+    "zbase32-write": ((BYTES, ROOM), through(forms.zbase32_write)),
+    "crc": ((BYTES,), one(sums.crc)),
+    "sha256": ((BYTES,), one(sums.sha256)),
+    "blake2b": ((BYTES,), one(sums.blake2b)),
+    "doc-id": ((BYTES,), one(sums.doc_id)),
+    "frame-read": ((BYTES,), frame_read),
+    "page-write": ((BYTES, NUMBER, NUMBER, ROOM), one(frames.page_write)),
+    "key-write": ((BYTES, BYTES, ROOM), one(frames.key_write)),
+    "auth-frame-write": ((BYTES, BYTES, ROOM), one(frames.auth_frame_write)),
+    "auth-read": ((BYTES,), payloads.auth_read),
+    "auth-write": ((BYTES, BYTES, BYTES, ROOM), auth_write),
+    "auth-signed": ((BYTES, BYTES, ROOM), auth_signed),
+    "shard-read": ((BYTES,), payloads.shard_read),
+    "shard-write": ((BYTES, BYTES, BYTES, *SHARD_VALUES, ROOM), shard_write),
+    "shard-signed": ((BYTES, BYTES, *SHARD_VALUES, ROOM), shard_signed),
+    "manifest-read": ((BYTES,), manifest_values),
+    "envelope-read": ((BYTES,), envelope.envelope_read),
+    "envelope-write": ((BYTES, BYTES, ROOM), one(envelope.envelope_write)),
+}
+
+ENTRY = (BYTES, BYTES, NUMBER, or_null(SIGNED))
+
+
+def parsed(argument_forms, arguments):
+    """Each argument by its form; their count must be right."""
+    demand(len(arguments) == len(argument_forms))
+    return [form(argument) for form, argument in zip(argument_forms, arguments)]
+
+
+def manifest_write_parsed(arguments):
+    """SEED SEALED CREATED N (HASH PATH SIZE MTIME)xN ROOM."""
+    demand(len(arguments) >= 5)
+    seed = or_null(BYTES)(arguments[0])
+    sealed = as_number(arguments[1], 1) == 1
+    created = as_created(arguments[2])
+    count = as_number(arguments[3], MOST_ENTRIES)
+    room = as_room(arguments[-1])
+    values = parsed(ENTRY * count, arguments[4:-1])
+    files = tuple(File(*values[i:i + 4]) for i in range(0, 4 * count, 4))
+    return Manifest(seed, files, sealed, created), room
+
+
+class Desk:
+    """One run of the desk with the verbs that it knows, and its registers."""
+
+    def __init__(self, verbs=ALL):
+        self.verbs = frozenset(verbs)
+        self.registers = dict.fromkeys("abcd", b"")
+        self.register_calls = {
+            "load": ((REG, as_contents), self.load),
+            "save": ((REG,), self.save),
+            "open": ((REG, BYTES, ROOM), self.open),
+            "offer": ((REG, BYTES), self.offer),
+            "join": ((REG, REG), self.join),
+            "finish": ((REG, ROOM), self.finish),
+            "mend": ((REG,), self.mend),
+        }
+
+    def answer(self, line):
+        """The printed line for one line without its line feed, or None."""
+        if len(line) > LONGEST_LINE:
+            return "?"
+        if line == b"" or line.startswith(b"#"):
+            return None
+        try:
+            return self.call(*line.split(b" "))
+        except Malformed:
+            return "?"
+        except Refusal as refusal:
+            return self.refused(refusal)
+
+    def refused(self, refusal):
+        """The number, and the place for 15, 16 and 21."""
+        with_place = refusal.number in WITH_PLACE
+        return f"{refusal.number} {refusal.place}" if with_place else f"{refusal.number}"
+
+    def call(self, verb, *arguments):
+        """Make the call that the verb names."""
+        verb = verb.decode("latin-1")
+        demand(verb in self.verbs)
+        if verb == "status":
+            return self.status(*parsed((REG,), arguments))
+        return " ".join(["0", *map(shown, self.values(verb, arguments))])
+
+    def values(self, verb, arguments):
+        """What is printed after the 0."""
+        if verb == "manifest-write":
+            return [manifest_write(*manifest_write_parsed(arguments))]
+        argument_forms, function = CALLS.get(verb) or self.register_calls[verb]
+        return function(*parsed(argument_forms, arguments))
+
+    def load(self, register, data):
+        self.registers[register] = data
+        return []
+
+    def save(self, register):
+        return [self.registers[register]]
+
+    def open(self, register, ident, room):
+        self.registers[register] = b"\xa5" * room
+        self.registers[register] = collection.open_collection(ident, room)
+        return []
+
+    def offer(self, register, frame):
+        result, kind = collection.offer(self.registers[register], frame)
+        self.registers[register] = result
+        return [kind]
+
+    def join(self, register, other):
+        self.registers[register] = collection.join(self.registers[register],
+                                                   self.registers[other])
+        return []
+
+    def finish(self, register, room):
+        return [collection.finish(self.registers[register], room)]
+
+    def mend(self, register):
+        result, count = collection.mend(self.registers[register])
+        self.registers[register] = result
+        return [count]
+
+    def status(self, register):
+        return collection.status(self.registers[register])
+
+
+def lines_of(text):
+    """The lines of an input; the last may lack its line feed."""
+    lines = text.split(b"\n")
+    return lines[:-1] if lines[-1] == b"" else lines
+
+
+def answers(text, verbs=ALL):
+    """All that a desk prints for an input, as one text."""
+    desk = Desk(verbs)
+    printed = (desk.answer(line) for line in lines_of(text))
+    return "".join(line + "\n" for line in printed if line is not None).encode("ascii")

@@ -1,0 +1,43 @@
+"""The envelope (01, "CBOR payloads", its last paragraph; source 2, 5)."""
+
+from .answers import ENDS_OR_LEFT_OVER, MAGIC, NOT_THE_FILES, VERSION, lend, refuse_if
+from .cursor import Cursor
+from .forms import varint_write
+from .manifest import manifest_read
+from .sums import sha256
+
+
+def envelope_read(raw):
+    """Left to right as for frames, then what manifest and payload say."""
+    cursor = Cursor(raw)
+    refuse_if(cursor.take(2) != b"AY", MAGIC)
+    refuse_if(cursor.varint() != 1, VERSION)
+    manifest = cursor.take(cursor.varint())
+    length = cursor.varint()
+    refuse_if(cursor.left() != length, ENDS_OR_LEFT_OVER)
+    payload = cursor.take(length)
+    judge_contents(manifest, payload)
+    return manifest, payload
+
+
+def judge_contents(manifest, payload):
+    """Manifest size 9, manifest faults, 21 for the sum, 21 for each digest."""
+    files = manifest_read(manifest).files
+    refuse_if(sum(f.size for f in files) != len(payload), NOT_THE_FILES, len(files))
+    start = 0
+    for place, entry in enumerate(files):
+        contents = payload[start:start + entry.size]
+        refuse_if(sha256(contents) != entry.hash, NOT_THE_FILES, place)
+        start += entry.size
+
+
+def envelope_bytes(manifest, payload):
+    """The layout alone; nothing is judged."""
+    return (b"AY" + varint_write(1) + varint_write(len(manifest)) + manifest
+            + varint_write(len(payload)) + payload)
+
+
+def envelope_write(manifest, payload, room):
+    """The same from 9 on, then 11."""
+    judge_contents(manifest, payload)
+    return lend(room, envelope_bytes(manifest, payload))

@@ -1,0 +1,83 @@
+"""Varints and texts (01, "Varints and texts"; source 1, 10, 11)."""
+
+import base64
+
+from .answers import BAD_CHARACTER, BAD_LENGTH, ENDS_OR_LEFT_OVER, VARINT
+from .answers import Refusal, refuse_if
+
+BASE64 = b"ABCDEFGHIJKLMNOPQRSTUVWXYZabcdefghijklmnopqrstuvwxyz0123456789+/"
+ZBASE32 = b"ybndrfg8ejkmcpqxot1uwisza345h769"
+RFC_BASE32 = b"ABCDEFGHIJKLMNOPQRSTUVWXYZ234567"
+
+SPACES = bytes(range(0x09, 0x0E)) + b"\x20"
+DASH = b"-"
+
+TO_RFC = bytes.maketrans(ZBASE32, RFC_BASE32)
+FROM_RFC = bytes.maketrans(RFC_BASE32, ZBASE32)
+
+
+def varint_length(number):
+    """A number's length follows from its highest set bit."""
+    return max(1, (number.bit_length() + 6) // 7)
+
+
+def varint_write(number):
+    """Seven bits a byte, lowest first, top bit set on all but the last."""
+    last = varint_length(number) - 1
+    groups = [number >> 7 * i & 0x7F for i in range(last + 1)]
+    return bytes(0x80 | g for g in groups[:last]) + bytes(groups[last:])
+
+
+def varint_read(data):
+    """The varint at the start of data: its value and how many bytes it used.
+
+    A tenth byte above 1 is 7, and is judged before the input's end behind it;
+    a multi-byte form ending in 00 is 7; input ending inside one is 3.
+    """
+    for used, byte in enumerate(data[:10], start=1):
+        refuse_if(used == 10 and byte > 1, VARINT)
+        if byte < 0x80:
+            refuse_if(used > 1 and byte == 0, VARINT)
+            return varint_value(data[:used]), used
+    raise Refusal(ENDS_OR_LEFT_OVER)
+
+
+def varint_value(form):
+    """The number that the seven-bit groups stand for, lowest first."""
+    return sum((byte & 0x7F) << 7 * i for i, byte in enumerate(form))
+
+
+def characters(text, alphabet, skipped):
+    """The text without what is skipped; 1 for a character not allowed."""
+    kept = text.translate(None, delete=skipped)
+    refuse_if(kept.translate(None, delete=alphabet), BAD_CHARACTER)
+    return kept
+
+
+def base64_read(text):
+    """Base64 without padding. Order: 1, 2 (11 is the desk's `lend`)."""
+    kept = characters(text, BASE64, SPACES)
+    refuse_if(len(kept) % 4 == 1, BAD_LENGTH)
+    data = base64.b64decode(kept + b"=" * (-len(kept) % 4), validate=True)
+    refuse_if(base64_write(data) != kept, BAD_LENGTH)  # leftover bits not zero
+    return data
+
+
+def base64_write(data):
+    """Base64, standard alphabet, no padding, no spaces."""
+    return base64.b64encode(data).rstrip(b"=")
+
+
+def zbase32_read(text):
+    """z-base-32: RFC 4648's base32 under another alphabet. Order: 1, 2."""
+    kept = characters(text, ZBASE32, SPACES + DASH)
+    refuse_if(len(kept) % 8 in (1, 3, 6), BAD_LENGTH)
+    padded = kept.translate(TO_RFC) + b"=" * (-len(kept) % 8)
+    data = base64.b32decode(padded)
+    refuse_if(zbase32_write(data) != kept, BAD_LENGTH)  # leftover bits not zero
+    return data
+
+
+def zbase32_write(data):
+    """z-base-32, no padding, no spaces and no dashes."""
+    return base64.b32encode(data).rstrip(b"=").translate(FROM_RFC)
