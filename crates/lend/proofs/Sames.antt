@@ -1,6 +1,6 @@
 -- `same` is true of equal lists alone, and how a loop comes to know it. Assumes nothing.
 use mathlib.Core.Path.{_≡_, refl, sym, ap, ap₂, _∙_}
-use mathlib.Core.Bool.{Bool, true, false}
+use mathlib.Core.Bool.{Bool, true, false, _&&_}
 use mathlib.Core.List.{List, [], _∷_}
 use Prim.Native.Nat.{ℕ, suc, _+_, _≤_, _<_}
 use native.Mathlib.Numerals.{add-one}
@@ -9,13 +9,13 @@ use lib.ListN.{length, drop, getD, drop-of-length-le}
 use lib.Seq.{drop-cons}
 use lib.Dec.{eqb}
 use borrow.Author.Tests.{eqb-true, eq-eqb, ne-eqb}
-use Rattle.lend.specs.Same.{both, same}
+use Rattle.lend.specs.Same.{same}
 
-both-first : (a b : Bool) → both a b ≡ true → a ≡ true
+both-first : (a b : Bool) → a && b ≡ true → a ≡ true
 both-first true b e = refl
 both-first false b e = e
 
-both-second : (a b : Bool) → both a b ≡ true → b ≡ true
+both-second : (a b : Bool) → a && b ≡ true → b ≡ true
 both-second true b e = e
 both-second false b e = cc
 

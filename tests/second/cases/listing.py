@@ -10,9 +10,8 @@ from .common import Group, damaged, line, rooms, single, some_room, truncations,
 from .samples import (manifest_payload, manifest_values, sized_files, some_contents, some_files)
 from .tokens import INTEGERS, all_heads, joined, split, variations
 
-BOUNDS = [n for k in (63,) for n in (2**k - 2, 2**k - 1, -2**k, -2**k + 1)] + [
-    0, 1, 23, 24, 255, 256, 65535, 65536, 2**32 - 1, 2**32, -1, -24, -25, -256, -257, -2**16,
-    -2**16 - 1, -2**32, -2**32 - 1]
+BOUNDS = [-2**63, -2**63 + 1, -2**32 - 1, -2**32, -2**16 - 1, -2**16, -257, -256, -25, -24, -1,
+          0, 1, 23, 24, 255, 256, 65535, 65536, 2**32 - 1, 2**32, 2**63 - 2, 2**63 - 1]
 DOUBLES = ["0000000000000000", "8000000000000000", "0000000000000001", "000fffffffffffff",
            "0010000000000000", "3ff0000000000000", "3ff8000000000000", "40f86a0000000000",
            "7fefffffffffffff", "ffefffffffffffff", "7ff0000000000000", "fff0000000000000",

@@ -1,0 +1,81 @@
+-- Characters and their values, each from the other. Assumes nothing.
+use Prim.Native.Nat.{ℕ, zero, suc, _+_, _^_, _≤_, _<_}
+use mathlib.Core.Path.{_≡_, refl, sym, ap, ap₂, _∙_}
+use mathlib.Core.Bool.{Bool, true, false, _&&_, false≢true}
+use mathlib.Core.List.{List, [], _∷_, _++_, map}
+use native.Mathlib.Nat.{le-of-suc-le-suc}
+use native.Mathlib.Omega.{arith}
+use borrow.Author.Tests.{lt-ltb, ltb-true, eqb-true}
+use lib.Dec.{ltb, eqb}
+use lib.ListN.{length, getD}
+use Rattle.wire.specs.Answer.{choose}
+use Rattle.wire.specs.Number.{Digits}
+use Rattle.text.specs.Text.{Form, skipped, kept, place, value, values, letter, below}
+use Rattle.text.proofs.Forms.{Lawful}
+
+-- ---- all below a bound, as a test and as a fact
+
+and-true : (a b : Bool) → (a && b) ≡ true → (a ≡ true) × (b ≡ true)
+and-true true b e = (refl, e)
+and-true false b e = (e, absurd (false≢true e))
+
+pub below-true : (n : ℕ) (vs : List ℕ) → Digits n vs → below n vs ≡ true
+unfolding below
+below-true n [] all = refl
+below-true n (v ∷ vs) all = rw (lt-ltb v n (all 0)) (below-true n vs (λ i. all (suc i)))
+
+pub below-all : (n : ℕ) (vs : List ℕ) → 0 < n → below n vs ≡ true → Digits n vs
+unfolding below
+below-all n [] z e i = z
+below-all n (v ∷ vs) z e zero = ltb-true v n (and-true (ltb v n) (below n vs) e .0)
+below-all n (v ∷ vs) z e (suc i) = below-all n vs z (and-true (ltb v n) (below n vs) e .1) i
+
+-- ---- a character that is allowed stands in the alphabet at its value
+
+pub place-back : (c : ℕ) (letters : List ℕ) → place c letters < length letters → getD letters (place c letters) 0 ≡ c
+unfolding place
+place-back c [] h = absurd (omega arith)
+place-back c (a ∷ more) h = go (eqb c a) refl h (place-back c more)
+  where
+    go : (t : Bool) → eqb c a ≡ t → choose t 0 (suc (place c more)) < suc (length more)
+        → (place c more < length more → getD more (place c more) 0 ≡ c)
+        → getD (a ∷ more) (choose t 0 (suc (place c more))) 0 ≡ c
+    go true e l ih = sym (eqb-true c a e)
+    go false e l ih = ih (le-of-suc-le-suc l)
+
+-- what was written is read: every letter is kept, and has the value that it was written for
+module _ (f : Form) (law : Lawful f) where
+  pub letters-kept : (vs : List ℕ) → Digits (2 ^ f .width) vs → kept f (map (letter f) vs) ≡ map (letter f) vs
+  unfolding kept
+  letters-kept [] all = refl
+  letters-kept (v ∷ vs) all = rw (law .plain v (all 0)) (ap (λ (r : List ℕ). letter f v ∷ r) (letters-kept vs (λ i. all (suc i))))
+
+  letters-values : (vs : List ℕ) → Digits (2 ^ f .width) vs → map (value f) (map (letter f) vs) ≡ vs
+  letters-values [] all = refl
+  letters-values (v ∷ vs) all = ap₂ (λ (x : ℕ) (r : List ℕ). x ∷ r) (law .inverse v (all 0)) (letters-values vs (λ i. all (suc i)))
+
+  pub values-letters : (vs : List ℕ) → Digits (2 ^ f .width) vs → values f (map (letter f) vs) ≡ vs
+  unfolding values
+  values-letters vs all = ap (map (value f)) (letters-kept vs all) ∙ letters-values vs all
+
+  -- what is read is written: characters that are allowed are the letters of their values
+  pub letters-back : (cs : List ℕ) → Digits (2 ^ f .width) (map (value f) cs) → map (letter f) (map (value f) cs) ≡ cs
+  letters-back [] all = refl
+  letters-back (c ∷ cs) all =
+      ap₂ (λ (x : ℕ) (r : List ℕ). x ∷ r) (place-back c (f .alphabet) (rw (law .full) (all 0))) (letters-back cs (λ i. all (suc i)))
+
+-- ---- one character more
+
+pub kept-snoc-skipped : (f : Form) (cs : List ℕ) (c : ℕ) → skipped f c ≡ true → kept f (cs ++ (c ∷ [])) ≡ kept f cs
+unfolding kept
+kept-snoc-skipped f [] c e = rw e
+kept-snoc-skipped f (x ∷ cs) c e = ap (λ (r : List ℕ). choose (skipped f x) r (x ∷ r)) (kept-snoc-skipped f cs c e)
+
+pub kept-snoc : (f : Form) (cs : List ℕ) (c : ℕ) → skipped f c ≡ false → kept f (cs ++ (c ∷ [])) ≡ kept f cs ++ (c ∷ [])
+unfolding kept
+kept-snoc f [] c e = rw e
+kept-snoc f (x ∷ cs) c e = ap (λ (r : List ℕ). choose (skipped f x) r (x ∷ r)) (kept-snoc f cs c e) ∙ go (skipped f x)
+  where
+    go : (t : Bool) → choose t (kept f cs ++ (c ∷ [])) (x ∷ (kept f cs ++ (c ∷ []))) ≡ choose t (kept f cs) (x ∷ kept f cs) ++ (c ∷ [])
+    go true = refl
+    go false = refl

@@ -1,0 +1,100 @@
+-- What is written is read, and what is read was written. Assumes nothing.
+use Prim.Native.Nat.{ℕ, _+_, _*_, _/_, _%_, _^_, _<_}
+use mathlib.Core.Path.{_≡_, refl, sym, ap, _∙_}
+use mathlib.Core.Bool.{Bool, true, false}
+use mathlib.Core.List.{List, map}
+use native.Mathlib.Nat.{add-zero, mul-mod-left}
+use native.Mathlib.Omega.{arith}
+use borrow.Author.Tests.{lt-leb, leb-false, eq-eqb, eqb-true}
+use lib.Dec.{leb, eqb, lit<}
+use lib.ListN.{length}
+use lib.Pow.{pow-pos, shl-lt, shr-lt, shl-shr, split}
+use Rattle.wire.specs.Answer.{choose}
+use Rattle.wire.specs.Number.{digits, number, Digits, Bytes}
+use Rattle.wire.specs.Writing.{Verdict, bytes, fault}
+use Rattle.wire.proofs.Digits.{length-digits, digits-small, number-digits, digits-number, number-lt}
+use Rattle.wire.proofs.Writes.{passed, escaped, bytes-injective}
+use Rattle.text.specs.Text.{Form, kept, value, values, below, leftover, characters, filling, letter, textOf, readValues, readText}
+use Rattle.text.proofs.Forms.{Lawful}
+use Rattle.text.proofs.Counts.{pow-pow, width-bounds, filling-lt, filled, leftover-is, characters-is}
+use Rattle.text.proofs.Characters.{below-true, below-all, values-letters, letters-back}
+
+module _ (f : Form) (law : Lawful f) where
+  -- ---- written, then read
+
+  module _ (bs : List ℕ) (all : Bytes bs) where
+    -- the bytes and the filling as one number, which the characters hold
+    shifted : ℕ
+    shifted = number 256 bs * 2 ^ filling f (length bs)
+
+    shifted-lt : shifted < (2 ^ f .width) ^ characters f (length bs)
+    unfolding shifted
+    shifted-lt =
+        rw (pow-pow (f .width) (characters f (length bs)), filled f law (length bs))
+        (shl-lt (8 * length bs) (filling f (length bs)) (rw (pow-pow 8 (length bs)) at (number-lt 256 bs (length bs) refl all)))
+
+    written-values : List ℕ
+    written-values = digits (2 ^ f .width) (characters f (length bs)) shifted
+
+    read-values : readValues f written-values ≡ bytes bs
+    unfolding readValues written-values shifted
+    read-values =
+        let n : ℕ = length bs in
+        let c : ℕ = characters f n in
+        let p : ℕ = filling f n in
+        let l : p < f .width = filling-lt f law n in
+        let h = leftover-is f law n c p (filled f law n) (omega (arith, width-bounds f law)) in
+        rw (length-digits (2 ^ f .width) c shifted, number-digits (2 ^ f .width) c shifted (pow-pos (f .width)) shifted-lt, law .counts c, h .0, h .1, lt-leb (f .width) p l)
+        (last (number 256 bs) p ∙ ap bytes (digits-number 256 bs n refl all))
+      where
+        last : (m p : ℕ) → choose (eqb (m * 2 ^ p % 2 ^ p) 0) (bytes (digits 256 (length bs) (m * 2 ^ p / 2 ^ p))) (fault 2) ≡ bytes (digits 256 (length bs) m)
+        last m p = rw (eq-eqb (m * 2 ^ p % 2 ^ p) 0 (mul-mod-left m (2 ^ p)), shl-shr m p)
+
+    pub read-written : readText f (textOf f bs) ≡ bytes bs
+    unfolding readText textOf written-values shifted
+    read-written =
+        let small : Digits (2 ^ f .width) written-values = digits-small (2 ^ f .width) (characters f (length bs)) shifted (pow-pos (f .width)) in
+        rw (values-letters f law written-values small, below-true (2 ^ f .width) written-values small) read-values
+
+  -- ---- read, then written
+
+  -- the number of values whose leftover bits are zero is that of the bytes, moved up by the filling
+  module _ (vs : List ℕ) (small : Digits (2 ^ f .width) vs) (n k : ℕ) (count : f .width * length vs ≡ 8 * n + k) (zeros : number (2 ^ f .width) vs % 2 ^ k ≡ 0) where
+    whole : number 256 (digits 256 n (number (2 ^ f .width) vs / 2 ^ k)) * 2 ^ k ≡ number (2 ^ f .width) vs
+    whole =
+        let v : ℕ = number (2 ^ f .width) vs in
+        let l : v < 2 ^ (8 * n + k) = rw (pow-pow (f .width) (length vs), count) at (number-lt (2 ^ f .width) vs (length vs) refl small) in
+        let q : v / 2 ^ k < 256 ^ n = rw (pow-pow 8 n) (shr-lt (8 * n) k l) in
+        ap (λ (m : ℕ). m * 2 ^ k) (number-digits 256 n (v / 2 ^ k) (lit< tt) q)
+        ∙ sym (add-zero (v / 2 ^ k * 2 ^ k))
+        ∙ ap (λ (m : ℕ). v / 2 ^ k * 2 ^ k + m) (sym zeros)
+        ∙ split v k
+
+  values-written : (vs bs : List ℕ) → Digits (2 ^ f .width) vs → readValues f vs ≡ bytes bs
+      → (digits (2 ^ f .width) (characters f (length bs)) (number 256 bs * 2 ^ filling f (length bs)) ≡ vs) × Bytes bs
+  unfolding readValues leftover
+  values-written vs bs small h =
+      let w : ℕ = f .width in
+      let v : ℕ = number (2 ^ w) vs in
+      let n : ℕ = w * length vs / 8 in
+      let k : ℕ = leftover f (length vs) in
+      let a = escaped (f .impossible (length vs)) _ 2 h in
+      let b = passed (eqb (v % 2 ^ k) 0) (bytes (digits 256 n (v / 2 ^ k))) 2 (a .1) in
+      let l : k < w = leb-false w k (sym (law .counts (length vs)) ∙ a .0) in
+      let count : w * length vs ≡ 8 * n + k = omega arith in
+      let e : bs ≡ digits 256 n (v / 2 ^ k) = sym (bytes-injective (b .1)) in
+      let c = characters-is f law n (length vs) k count l in
+      let m : length bs ≡ n = ap length e ∙ length-digits 256 n (v / 2 ^ k) in
+      let z : v % 2 ^ k ≡ 0 = eqb-true (v % 2 ^ k) 0 (b .0) in (
+        rw (m, c .0, c .1, e, whole vs small n k count z) (digits-number (2 ^ w) vs (length vs) refl small),
+        rw e (digits-small 256 n (v / 2 ^ k) (lit< tt)),
+      )
+
+  pub written-read : (cs bs : List ℕ) → readText f cs ≡ bytes bs → (kept f cs ≡ textOf f bs) × Bytes bs
+  unfolding readText textOf values
+  written-read cs bs h =
+      let vs : List ℕ = map (value f) (kept f cs) in
+      let a = passed (below (2 ^ f .width) vs) (readValues f vs) 1 h in
+      let small : Digits (2 ^ f .width) vs = below-all (2 ^ f .width) vs (pow-pos (f .width)) (a .0) in
+      let b = values-written vs bs small (a .1) in
+      (sym (ap (map (letter f)) (b .0) ∙ letters-back f law (kept f cs) small), b .1)

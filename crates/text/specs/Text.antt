@@ -1,0 +1,99 @@
+-- The two text forms: document 01, "Varints and texts"; source document 002, sections 10 and 11.
+use Prim.Native.Nat.{ℕ, suc, _+_, _-_, _*_, _/_, _%_, _^_}
+use mathlib.Core.Bool.{Bool, true, false, _&&_, _||_}
+use mathlib.Core.List.{List, [], _∷_, map}
+use lib.Dec.{ltb, leb, eqb}
+use lib.ListN.{length, getD}
+use Rattle.wire.specs.Answer.{choose}
+use Rattle.wire.specs.Number.{digits, number}
+use Rattle.wire.specs.Writing.{Verdict, bytes, fault}
+
+-- what a form has of its own: how many bits a character stands for; the characters of the values 0, 1, 2, .. in that
+-- order; whether the dash is skipped; and which counts of characters no text has
+pub record Form : Type 0 where
+  pub width : ℕ
+  pub alphabet : List ℕ
+  pub dashes : Bool
+  pub impossible : ℕ → Bool
+
+-- RFC 4648, table 1
+unfoldable pub standard64 : List ℕ
+standard64 =
+    0x41 ∷ 0x42 ∷ 0x43 ∷ 0x44 ∷ 0x45 ∷ 0x46 ∷ 0x47 ∷ 0x48 ∷ 0x49 ∷ 0x4A ∷ 0x4B ∷ 0x4C ∷ 0x4D ∷ 0x4E ∷ 0x4F ∷ 0x50 ∷
+    0x51 ∷ 0x52 ∷ 0x53 ∷ 0x54 ∷ 0x55 ∷ 0x56 ∷ 0x57 ∷ 0x58 ∷ 0x59 ∷ 0x5A ∷ 0x61 ∷ 0x62 ∷ 0x63 ∷ 0x64 ∷ 0x65 ∷ 0x66 ∷
+    0x67 ∷ 0x68 ∷ 0x69 ∷ 0x6A ∷ 0x6B ∷ 0x6C ∷ 0x6D ∷ 0x6E ∷ 0x6F ∷ 0x70 ∷ 0x71 ∷ 0x72 ∷ 0x73 ∷ 0x74 ∷ 0x75 ∷ 0x76 ∷
+    0x77 ∷ 0x78 ∷ 0x79 ∷ 0x7A ∷ 0x30 ∷ 0x31 ∷ 0x32 ∷ 0x33 ∷ 0x34 ∷ 0x35 ∷ 0x36 ∷ 0x37 ∷ 0x38 ∷ 0x39 ∷ 0x2B ∷ 0x2F ∷ []
+
+-- ybndrfg8ejkmcpqxot1uwisza345h769
+unfoldable pub zooko32 : List ℕ
+zooko32 =
+    0x79 ∷ 0x62 ∷ 0x6E ∷ 0x64 ∷ 0x72 ∷ 0x66 ∷ 0x67 ∷ 0x38 ∷ 0x65 ∷ 0x6A ∷ 0x6B ∷ 0x6D ∷ 0x63 ∷ 0x70 ∷ 0x71 ∷ 0x78 ∷
+    0x6F ∷ 0x74 ∷ 0x31 ∷ 0x75 ∷ 0x77 ∷ 0x69 ∷ 0x73 ∷ 0x7A ∷ 0x61 ∷ 0x33 ∷ 0x34 ∷ 0x35 ∷ 0x68 ∷ 0x37 ∷ 0x36 ∷ 0x39 ∷ []
+
+-- no padding, so `=` is a character that is not allowed; no text has 1 character modulo 4
+unfoldable pub base64 : Form
+base64 = record { width = 6; alphabet = standard64; dashes = false; impossible = λ n. eqb (n % 4) 1 }
+
+-- no text has 1, 3 or 6 characters modulo 8
+unfoldable pub zbase32 : Form
+zbase32 =
+    record { width = 5; alphabet = zooko32; dashes = true; impossible = λ n. eqb (n % 8) 1 || (eqb (n % 8) 3 || eqb (n % 8) 6) }
+
+-- bytes 09 to 0D and 20 hex are skipped, and the dash in z-base-32
+unfoldable pub skipped : Form → ℕ → Bool
+skipped f c = (leb 0x09 c && leb c 0x0D) || (eqb c 0x20 || (f .dashes && eqb c 0x2D))
+
+-- the characters that are not skipped
+unfoldable pub kept : Form → List ℕ → List ℕ
+kept f [] = []
+kept f (c ∷ cs) = choose (skipped f c) (kept f cs) (c ∷ kept f cs)
+
+-- a character's place in an alphabet, which is its value; one that is not allowed has the alphabet's length
+unfoldable pub place : ℕ → List ℕ → ℕ
+place c [] = 0
+place c (a ∷ more) = choose (eqb c a) 0 (suc (place c more))
+
+abbrev pub value : Form → ℕ → ℕ
+value f c = place c (f .alphabet)
+
+unfoldable pub values : Form → List ℕ → List ℕ
+values f cs = map (value f) (kept f cs)
+
+-- each is below n
+unfoldable pub below : ℕ → List ℕ → Bool
+below n [] = true
+below n (v ∷ vs) = ltb v n && below n vs
+
+-- n characters have so many bits left over after the last whole byte
+unfoldable pub leftover : Form → ℕ → ℕ
+leftover f n = f .width * n % 8
+
+-- the values as one number, first bits first; its last `leftover` bits are no part of a byte, and must be zero
+unfoldable pub readValues : Form → List ℕ → Verdict
+readValues f vs =
+    choose (f .impossible (length vs)) (fault 2)
+    (choose (eqb (number (2 ^ f .width) vs % 2 ^ leftover f (length vs)) 0)
+    (bytes (digits 256 (f .width * length vs / 8) (number (2 ^ f .width) vs / 2 ^ leftover f (length vs))))
+    (fault 2))
+
+-- a character that is not allowed, anywhere, comes before all else
+unfoldable pub readText : Form → List ℕ → Verdict
+readText f cs = choose (below (2 ^ f .width) (values f cs)) (readValues f (values f cs)) (fault 1)
+
+-- the fewest characters that hold n bytes
+unfoldable pub characters : Form → ℕ → ℕ
+characters f n = (8 * n + (f .width - 1)) / f .width
+
+-- the zero bits that fill the last character
+unfoldable pub filling : Form → ℕ → ℕ
+filling f n = f .width * characters f n - 8 * n
+
+-- the character of a value
+abbrev pub letter : Form → ℕ → ℕ
+letter f v = getD (f .alphabet) v 0
+
+-- the text of bytes: first bits first, no spaces
+unfoldable pub textOf : Form → List ℕ → List ℕ
+textOf f bs =
+    map (letter f)
+    (digits (2 ^ f .width) (characters f (length bs)) (number 256 bs * 2 ^ filling f (length bs)))

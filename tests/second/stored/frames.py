@@ -1,0 +1,126 @@
+"""Stored calls of the frame verbs."""
+
+from ..cases.framing import ID, laid_out, with_crc
+from ..forms import varint_write
+from ..frames import AUTH, KEY, MAIN, Frame, frame_write
+from .payloads import AUTH_BYTES, SHARD_BYTES
+from .script import Section, call, note, title
+
+
+def read(raw, is_=None):
+    """A call of frame-read."""
+    return call("frame-read", raw, is_=is_)
+
+
+def main(index, total, data=b"x", kind=MAIN):
+    """A frame of any numbers."""
+    return frame_write(Frame(kind, ID, index, total, data))
+
+
+def frame_fields():
+    yield from title("Frames: the three types")
+    yield read(main(2, 5, b"data"), is_=f"0 44 {ID.hex()} 2 5 64617461")
+    yield read(main(0, 1, AUTH_BYTES, AUTH), is_=f"0 41 {ID.hex()} 0 1 {AUTH_BYTES.hex()}")
+    yield read(main(0, 1, SHARD_BYTES, KEY), is_=f"0 4b {ID.hex()} 0 1 {SHARD_BYTES.hex()}")
+    yield note("01, P11: an empty-data frame 0 of 1 has 19 bytes, as here; P12: 480 bytes make 500")
+    yield read(main(0, 1, b""), is_=f"0 44 {ID.hex()} 0 1 -")
+    yield read(main(1, 2, b"z" * 480), is_=f"0 44 {ID.hex()} 1 2 {'7a' * 480}")
+    yield note("every truncation of a frame is 3")
+    whole = main(2, 5, b"data")
+    yield from (read(whole[:length], is_="3") for length in range(len(whole)))
+    yield note("one byte behind it, too; and one byte of data left out")
+    yield read(whole + b"\0", is_="3")
+    yield read(with_crc(whole[:-5]), is_="3")
+
+
+def frame_faults():
+    yield note("magic 4, judged once it is whole: one wrong byte alone is 3")
+    yield read(b"B", is_="3")
+    yield read(b"BP", is_="4")
+    yield read(laid_out(magic=b"AY"), is_="4")
+    yield note("version: not 1 is 5, not shortest is 7")
+    yield from (read(laid_out(version=varint_write(n)), is_="5") for n in (0, 2, 128, 2**64 - 1))
+    yield from (read(laid_out(version=v), is_="7") for v in (b"\x81\x00", b"\xff" * 10))
+    yield read(b"AP\x81", is_="3")
+    yield note("type 6")
+    yield from (read(laid_out(kind=k), is_="6") for k in (b"\x00", b"\x40", b"\x43", b"\x64", b"\xff"))
+    yield note("INDEX, TOTAL and DATA_LEN not shortest, or 2^64 and more: 7")
+    for bad in (b"\x80\x00", b"\xff" * 9 + b"\x02"):
+        yield from (read(laid_out(**{f: bad}), is_="7") for f in ("index", "total", "length"))
+    yield note("DATA_LEN that does not fit, also where adding 4 would run over")
+    for length in (3, 5, 2**63, 2**64 - 4, 2**64 - 1):
+        yield read(laid_out(length=varint_write(length)), is_="3")
+
+
+def frame_numbers():
+    yield note("CRC 10, before 8 and 9")
+    whole = main(2, 5, b"data")
+    yield read(whole[:-1] + bytes([whole[-1] ^ 1]), is_="10")
+    yield read(main(97, 97, b"z" * 481)[:-1] + b"?", is_="10")
+    yield note("01: INDEX 95 of 96 passes, TOTAL 97 is 9, INDEX 1 of 1 is 8")
+    yield read(main(95, 96), is_=f"0 44 {ID.hex()} 95 96 78")
+    yield read(main(96, 97), is_="9")
+    yield read(main(0, 97), is_="9")
+    yield read(main(1, 1), is_="8")
+    yield read(main(0, 0), is_="8")
+    yield read(main(96, 96), is_="8")
+    yield note("an A or K frame with a TOTAL that is not 1: 8, also where 9 is true")
+    for kind in (AUTH, KEY):
+        yield from (read(main(0, total, b"x", kind), is_="8") for total in (0, 2, 97))
+    yield note("01: 481 data bytes are 9; with INDEX out of range 8 comes first")
+    yield read(main(0, 1, b"z" * 481), is_="9")
+    yield read(main(1, 1, b"z" * 481), is_="8")
+
+
+def frames():
+    yield from frame_fields()
+    yield from frame_faults()
+    yield from frame_numbers()
+
+
+def page(ciphertext, size, number, room, is_=None):
+    """A call of page-write."""
+    return call("page-write", ciphertext, size, number, room, is_=is_)
+
+
+def pages():
+    yield from title("Printing: five bytes on pages of two")
+    yield from (page(b"pages", 2, number, 21) for number in (0, 1, 2))
+    yield page(b"pages", 2, 3, 21, is_="8")
+    yield note("room: 18 bytes and the data")
+    yield from (page(b"pages", 5, 0, room) for room in (23, 24, 25, 0))
+    yield note("page size 0 and 481, and no ciphertext: 19 before all else")
+    yield page(b"pages", 0, 0, 600, is_="19")
+    yield page(b"x" * 97, 481, 97, 0, is_="19")
+    yield page(b"", 480, 0, 600, is_="19")
+    yield note("97 pages are 9, before a page number out of range; 96 are not")
+    yield page(b"x" * 97, 1, 97, 0, is_="9")
+    yield page(b"x" * 96, 1, 95, 600)
+    yield page(b"x" * 96, 1, 96, 0, is_="8")
+    yield page(b"x" * 96, 1, 95, 0, is_="11")
+    yield note("the largest numbers")
+    yield page(b"x", 2**64 - 1, 0, 600, is_="19")
+    yield page(b"x", 480, 2**64 - 1, 600, is_="8")
+
+
+def singles(verb, good):
+    """Stored calls of key-write or auth-frame-write."""
+    def entries():
+        exact = 18 + len(good) + len(varint_write(len(good))) - 0
+        yield from title(f"{verb}: id 19, data above 480 bytes 9, the reader's refusal, room 11")
+        yield from (call(verb, ID, good, room) for room in (exact, exact - 1))
+        yield call(verb, ID[:7], b"z" * 481, 0, is_="19")
+        yield call(verb, ID + b"\0", good, 600, is_="19")
+        yield call(verb, ID, b"z" * 481, 0, is_="9")
+        yield call(verb, ID, b"z" * 480, 0, is_="18")
+        yield call(verb, ID, good + b"\0", 0, is_="3")
+        yield call(verb, ID, b"", 0, is_="3")
+        yield call(verb, ID, good[:-1] + b"\x00", 0, is_="19")
+    return entries
+
+
+SECTIONS = [
+    Section(["frame-read"], frames), Section(["page-write"], pages),
+    Section(["key-write"], singles("key-write", SHARD_BYTES)),
+    Section(["auth-frame-write"], singles("auth-frame-write", AUTH_BYTES)),
+]

@@ -1,0 +1,272 @@
+"""Stored calls of the auth, shard, manifest and envelope verbs."""
+
+from ..cases.common import with_byte
+from ..cases.listing import manifest_line
+from ..cases.samples import manifest_payload
+from ..cases.tokens import joined, split, wide
+from ..envelope import envelope_bytes
+from ..manifest import File, Manifest
+from ..payloads import Auth, Shard, auth_pairs, encode, shard_pairs, without_sig
+from ..sums import sha256
+from .script import Entry, Section, call, note, title
+
+AUTH_VALUES = Auth(b"\x11" * 32, b"\x22" * 64, b"\x33" * 32)
+AUTH_BYTES = encode(auth_pairs(AUTH_VALUES))
+SHARD_VALUES = Shard(*AUTH_VALUES, b"passphrase", b"\x44" * 32, 17, 2, 3, 1)
+SHARD_BYTES = encode(shard_pairs(SHARD_VALUES))
+
+
+def items_changed(payload, place, head, contents):
+    """A payload with one of its items replaced."""
+    items = split(payload)
+    return joined(items[:place] + [(head, contents)] + items[place + 1:])
+
+
+def auth_reading():
+    yield from title("Auth payloads: 157 bytes (01)")
+    shown = " ".join(value.hex() for value in AUTH_VALUES)
+    yield call("auth-read", AUTH_BYTES, is_=f"0 {shown}")
+    yield note("head of the map 18; the input ends 3; bytes after it 3")
+    yield call("auth-read", b"\xa3" + AUTH_BYTES[1:], is_="18")
+    yield call("auth-read", b"\xbf" + AUTH_BYTES[1:], is_="18")
+    yield from (call("auth-read", AUTH_BYTES[:n], is_="3") for n in (0, 1, 2, 4, 5, 6, 7, 38, 156))
+    yield call("auth-read", AUTH_BYTES + b"\0", is_="3")
+    yield note("a key of another head or letters 18; a key cut short 3, whatever its letters")
+    yield call("auth-read", AUTH_BYTES.replace(b"cpub", b"dpub"), is_="18")
+    yield call("auth-read", AUTH_BYTES.replace(b"cpub", b"cPub"), is_="18")
+    yield call("auth-read", b"\xa4cP", is_="3")
+    yield note("pub as text 18, of reserved or indefinite length 18, with a long head 18, cut 3")
+    for head in (b"\x78\x20", b"\x5c\x20", b"\x5f", b"\x59\x00\x20", b"\x5b" + bytes(7) + b"\x20"):
+        yield call("auth-read", items_changed(AUTH_BYTES, 2, head, b"\x11" * 32), is_="18")
+    yield call("auth-read", b"\xa4cpub\x59\x00", is_="3")
+    yield note("pub of 31 bytes 19, before the input's end")
+    yield call("auth-read", b"\xa4cpub\x58\x1f", is_="19")
+    yield call("auth-read", b"\xa4cpub\x57", is_="19")
+    yield note("version 0, 2, -1 and 256 are 19; 1 with a long head 18; a float 18")
+    for item, number in ((b"\x00", "19"), (b"\x02", "19"), (b"\x20", "19"), (b"\x19\x01\x00", "19"),
+                         (b"\x18\x01", "18"), (b"\xf9\x3c\x00", "18"), (b"\x18", "3")):
+        yield call("auth-read", AUTH_BYTES[:-1] + item, is_=number)
+
+
+def auth_writing():
+    yield note("writing: a wrong length 19, then room 11; the signed message has 104 bytes")
+    yield call("auth-write", *AUTH_VALUES, 157, is_=f"0 {AUTH_BYTES.hex()}")
+    yield call("auth-write", *AUTH_VALUES, 156, is_="11")
+    yield call("auth-write", b"\x11" * 31, b"\x22" * 64, b"\x33" * 32, 0, is_="19")
+    yield call("auth-write", b"\x11" * 32, b"\x22" * 63, b"\x33" * 32, 157, is_="19")
+    yield call("auth-write", b"\x11" * 32, b"\x22" * 64, b"", 157, is_="19")
+    signed = b"ETHERNITY-AUTH-V1" + encode(without_sig(auth_pairs(AUTH_VALUES)))
+    yield call("auth-signed", AUTH_VALUES.pub, AUTH_VALUES.hash, 104, is_=f"0 {signed.hex()}")
+    yield call("auth-signed", AUTH_VALUES.pub, AUTH_VALUES.hash, 103, is_="11")
+    yield call("auth-signed", b"", AUTH_VALUES.hash, 0, is_="19")
+
+
+def auth():
+    yield from auth_reading()
+    yield from auth_writing()
+
+
+def shard_of(**changes):
+    """A shard payload with some values changed."""
+    return encode(shard_pairs(SHARD_VALUES._replace(**changes)))
+
+
+def shard_reading():
+    yield from title("Shard payloads")
+    yield call("shard-read", SHARD_BYTES)
+    yield call("shard-read", shard_of(type=b"signing-seed"))
+    yield note("type: of another length 19 before its contents, other letters 19, bytes 18")
+    for kind in (b"passphrasf", b"passphrases", b"signing-seee", b""):
+        yield call("shard-read", shard_of(type=kind), is_="19")
+    yield call("shard-read", SHARD_BYTES.replace(b"jpassphrase", b"Jpassphrase"), is_="18")
+    yield call("shard-read", SHARD_BYTES[:SHARD_BYTES.index(b"jpass")] + b"\x6b", is_="19")
+    yield note("01: share 224 passes, 240 is 19; one that does not go with length is judged there")
+    yield call("shard-read", shard_of(share=bytes(224), length=224))
+    yield call("shard-read", shard_of(share=bytes(240), length=240), is_="19")
+    at = SHARD_BYTES.index(b"flength")
+    yield call("shard-read", SHARD_BYTES[:at - 34] + b"\x4f" + bytes(15) + b"flengt", is_="3")
+    yield call("shard-read", SHARD_BYTES[:at - 34] + b"\x58\xf0", is_="19")
+    for length in (0, 1, 16, 17, 32, 33, 2**64 - 1):
+        yield call("shard-read", shard_of(length=length))
+    yield note("threshold, share_count, share_index: 1 to 255, the first and last at most the count")
+    for numbers in ((1, 1, 1), (255, 255, 255), (0, 3, 1), (2, 0, 1), (2, 3, 0), (4, 3, 1),
+                    (2, 3, 4), (3, 3, 3), (256, 256, 1), (1, 256, 1), (1, 255, 256)):
+        named = dict(zip(("threshold", "count", "index"), numbers))
+        yield call("shard-read", shard_of(**named))
+    yield note("threshold above share_count is judged at share_count: an index cut off is not reached")
+    cut = shard_of(threshold=4)
+    yield call("shard-read", cut[:cut.index(b"kshare_index")], is_="19")
+    yield call("shard-read", cut[:cut.index(b"kshare_count")], is_="3")
+
+
+def unsigned(shard):
+    """A shard's values without `sig`."""
+    return [value for name, value in shard._asdict().items() if name != "sig"]
+
+
+def shard_writing():
+    size = len(SHARD_BYTES)
+    yield note("writing and signing: the values in order, then room 11")
+    yield call("shard-write", *SHARD_VALUES, size, is_=f"0 {SHARD_BYTES.hex()}")
+    yield call("shard-write", *SHARD_VALUES, size - 1, is_="11")
+    signed = b"ETHERNITY-SHARD-V1" + encode(without_sig(shard_pairs(SHARD_VALUES)))
+    yield call("shard-signed", *unsigned(SHARD_VALUES), len(signed), is_=f"0 {signed.hex()}")
+    yield call("shard-signed", *unsigned(SHARD_VALUES), len(signed) - 1, is_="11")
+    for changes in ({"pub": b""}, {"sig": bytes(63)}, {"hash": bytes(33)}, {"type": b"seed"},
+                    {"share": bytes(240), "length": 240}, {"share": bytes(31)}, {"length": 0},
+                    {"length": 33}, {"threshold": 0}, {"threshold": 4}, {"count": 256},
+                    {"index": 4}, {"index": 2**64 - 1}):
+        shard = SHARD_VALUES._replace(**changes)
+        yield call("shard-write", *shard, 0, is_="19")
+        yield call("shard-signed", *unsigned(shard), 0, is_="11" if "sig" in changes else "19")
+    largest = SHARD_VALUES._replace(type=b"signing-seed", share=bytes(224), length=224,
+                                    threshold=255, count=255, index=255)
+    yield note("the largest shard has 456 bytes")
+    yield call("shard-write", *largest, 456)
+    yield call("shard-write", *largest, 455, is_="11")
+
+
+def shard():
+    yield from shard_reading()
+    yield from shard_writing()
+
+
+FILES = (File(sha256(b"hello"), b"a.txt", 5, None), File(sha256(b""), b"b/c", 0, -7))
+UNSEALED = Manifest(b"\x55" * 32, FILES, False, ("i", 1700000000))
+SEALED = Manifest(None, FILES, True, ("f", bytes.fromhex("3ff8000000000000")))
+
+
+def reading(manifest, is_=None):
+    """A manifest's bytes, whatever its values, to the reader."""
+    return call("manifest-read", manifest_payload(manifest), is_=is_)
+
+
+def writing(manifest, room, is_=None):
+    """A manifest's values to the writer."""
+    return Entry(manifest_line(manifest, room), is_)
+
+
+def one_file(**changes):
+    """A manifest of one file with some of its values changed."""
+    return UNSEALED._replace(files=(FILES[0]._replace(**changes),))
+
+
+def manifest_values():
+    yield from title("Manifests: unsealed with a seed, sealed without, read and written")
+    for manifest in (UNSEALED, SEALED):
+        raw = manifest_payload(manifest)
+        yield reading(manifest)
+        yield writing(manifest, len(raw), is_=f"0 {raw.hex()}")
+        yield writing(manifest, len(raw) - 1, is_="11")
+    yield note("sealed and seed disagree 19; a seed of 31 bytes 19")
+    for seed, sealed in ((None, False), (b"\x55" * 32, True), (b"\x55" * 31, False), (b"", False)):
+        yield reading(UNSEALED._replace(seed=seed, sealed=sealed), is_="19")
+        yield writing(UNSEALED._replace(seed=seed, sealed=sealed), 0, is_="19")
+    yield note("created and mtime at their bounds, and one past")
+    for number in (-2**63, 2**63 - 1):
+        yield reading(UNSEALED._replace(created=("i", number)))
+        yield reading(one_file(mtime=number))
+        yield writing(one_file(mtime=number)._replace(created=("i", number)), 300)
+    for number in (-2**63 - 1, 2**63):
+        yield reading(UNSEALED._replace(created=("i", number)), is_="19")
+        yield reading(one_file(mtime=number), is_="19")
+    yield note("doubles: minus zero and the largest pass; infinities and NaN are 19")
+    for double, number in (("8000000000000000", None), ("7fefffffffffffff", None),
+                           ("7ff0000000000000", "19"), ("fff0000000000000", "19"),
+                           ("7ff8000000000000", "19")):
+        manifest = SEALED._replace(created=("f", bytes.fromhex(double)))
+        yield reading(manifest, is_=number)
+        yield writing(manifest, 300, is_=number)
+    yield note("created as a single or a half float is 18, as null 18")
+    place = [c for _, c in split(manifest_payload(UNSEALED))].index(b"created") + 1
+    for item in (b"\xfa\x47\xc3\x50\x00", b"\xf9\x3e\x00", b"\xf6", b"\xf4"):
+        yield call("manifest-read", items_changed(manifest_payload(UNSEALED), place, item, b""),
+                   is_="18")
+
+
+def manifest_files():
+    yield note("a size of 2^32 - 1 passes, 2^32 is 19, a negative one 19")
+    yield reading(one_file(size=2**32 - 1))
+    yield reading(one_file(size=2**32), is_="19")
+    yield reading(one_file(size=-1), is_="19")
+    yield writing(one_file(size=2**32), 0, is_="19")
+    yield note("paths: empty, leading /, above 200 bytes, not UTF-8, U+0300 are 20; U+02FF passes")
+    for path in (b"", b"/a", b"p" * 201, b"\xff", b"\xc0\x80", b"\xc3", b"\xcc\x80", b"\xed\xa0\x80"):
+        yield reading(one_file(path=path), is_="20")
+        yield writing(one_file(path=path), 0, is_="20")
+    for path in (b"\xcb\xbf", b"p" * 200, b"a/../b", b"\x00", b"p" * 23, b"p" * 24):
+        yield reading(one_file(path=path))
+        yield writing(one_file(path=path), 500)
+    yield note("paths not above the one before: equal, lower, a beginning of it")
+    for pair in ((b"a", b"a"), (b"b", b"a"), (b"aa", b"a"), (b"\xc3\xa9", b"z")):
+        files = tuple(file._replace(path=path) for file, path in zip(FILES, pair))
+        yield reading(UNSEALED._replace(files=files), is_="20")
+        yield writing(UNSEALED._replace(files=files), 0, is_="20")
+    yield note("lists of 0 and 65 entries 19, of 64 not; the head of 24 and more has two bytes")
+    for count, number in ((0, "19"), (24, None), (64, None), (65, "19")):
+        files = tuple(File(bytes(32), b"%02d" % i, 0, None) for i in range(count))
+        yield reading(UNSEALED._replace(files=files), is_=number)
+        yield writing(UNSEALED._replace(files=files), 8000, is_=number)
+
+
+def manifest_shape():
+    raw = manifest_payload(UNSEALED)
+    yield note("the first fault from the left decides: a path before a seal, a hash before a path")
+    yield reading(one_file(path=b"/", size=2**32)._replace(sealed=True), is_="20")
+    yield reading(one_file(path=b"/", hash=b"")._replace(sealed=True), is_="19")
+    yield note("the list's head not shortest 18; seed as a list 18; keys in another order 18")
+    place = [c for _, c in split(raw)].index(b"files") + 1
+    yield call("manifest-read", items_changed(raw, place, wide(4, 2, 1), b""), is_="18")
+    yield call("manifest-read", with_byte(raw, 6, 0x98), is_="18")
+    items = split(raw)
+    yield call("manifest-read", joined(items[:1] + items[3:5] + items[1:3] + items[5:]), is_="18")
+    yield note("cut anywhere 3, bytes after it 3")
+    yield from (call("manifest-read", raw[:n], is_="3") for n in (0, 1, 3, 6, 7, 20, len(raw) - 1))
+    yield call("manifest-read", raw + b"\0", is_="3")
+    yield note("above 16,384 bytes 9 before all else; at 16,384 the contents are judged")
+    yield call("manifest-read", b"\xff" * 16385, is_="9")
+    yield call("manifest-read", b"\xff" * 16384, is_="18")
+
+
+def manifest():
+    yield from manifest_values()
+    yield from manifest_files()
+    yield from manifest_shape()
+
+
+def envelope():
+    raw = manifest_payload(UNSEALED)
+    whole = envelope_bytes(raw, b"hello")
+    yield from title("Envelopes: two files, `hello` and an empty one")
+    yield call("envelope-read", whole, is_=f"0 {raw.hex()} {b'hello'.hex()}")
+    yield call("envelope-write", raw, b"hello", len(whole), is_=f"0 {whole.hex()}")
+    yield call("envelope-write", raw, b"hello", len(whole) - 1, is_="11")
+    yield note("magic 4, version 5 or 7, lengths 7, cut or left over 3")
+    yield call("envelope-read", b"AP" + whole[2:], is_="4")
+    yield call("envelope-read", b"AY\x02" + whole[3:], is_="5")
+    yield call("envelope-read", b"AY\x81\x00" + whole[3:], is_="7")
+    yield call("envelope-read", b"AY\x01\x80\x00" + whole[3:], is_="7")
+    yield call("envelope-read", b"AY\x01" + b"\xff" * 9 + b"\x01" + whole[3:], is_="3")
+    yield from (call("envelope-read", whole[:n], is_="3") for n in (0, 1, 2, 3, 4, 5, 40, -6, -1))
+    yield call("envelope-read", whole + b"\0", is_="3")
+    yield note("sizes and payload: 21 with the file count for the sum, 21 with the place for a digest")
+    for payload, answer in ((b"hell", "21 2"), (b"hello!", "21 2"), (b"", "21 2"), (b"hellO", "21 0")):
+        yield call("envelope-read", envelope_bytes(raw, payload), is_=answer)
+        yield call("envelope-write", raw, payload, 0, is_=answer)
+    other = UNSEALED._replace(files=(FILES[0], FILES[1]._replace(hash=bytes(32))))
+    yield call("envelope-read", envelope_bytes(manifest_payload(other), b"hello"), is_="21 1")
+    yield note("the manifest's faults come before those, its size before all")
+    yield call("envelope-read", envelope_bytes(b"", b"x"), is_="3")
+    yield call("envelope-write", raw + b"\0", b"x", 0, is_="3")
+    yield call("envelope-read", envelope_bytes(b"\xa5", b"x")[:-1], is_="3")
+    yield call("envelope-read", envelope_bytes(manifest_payload(one_file(path=b"/")), b"x"), is_="20")
+    yield call("envelope-write", manifest_payload(one_file(size=2**32)), b"x", 0, is_="19")
+    yield call("envelope-write", b"\xff" * 16385, b"", 0, is_="9")
+
+
+SECTIONS = [
+    Section(["auth-read", "auth-write", "auth-signed"], auth),
+    Section(["shard-read", "shard-write", "shard-signed"], shard),
+    Section(["manifest-read", "manifest-write"], manifest),
+    Section(["envelope-read", "envelope-write"], envelope),
+]
