@@ -123,6 +123,7 @@ def shown_created(created):
 
 
 def varint_write(number, room):
+    """varint-write: 11 where it does not fit (01, "Varints and texts")."""
     return [lend(room, forms.varint_write(number))]
 
 
@@ -137,29 +138,35 @@ def one(function):
 
 
 def frame_read(raw):
+    """frame-read: TYPE ID INDEX TOTAL DATA (01, "Frames")."""
     frame = frames.frame_read(raw)
     return [bytes([frame.type]), frame.id, frame.index, frame.total, frame.data]
 
 
 def auth_write(pub, sig, digest, room):
+    """auth-write (01, "CBOR payloads")."""
     return [payloads.auth_write(payloads.Auth(pub, sig, digest), room)]
 
 
 def auth_signed(pub, digest, room):
+    """auth-signed: the values without `sig` (01, "CBOR payloads")."""
     return [payloads.auth_signed(payloads.Auth(pub, b"", digest), room)]
 
 
 def shard_write(*values_and_room):
+    """shard-write (01, "CBOR payloads")."""
     *values, room = values_and_room
     return [payloads.shard_write(payloads.Shard(*values), room)]
 
 
 def shard_signed(pub, *values_and_room):
+    """shard-signed: the values without `sig` (01, "CBOR payloads")."""
     *values, room = values_and_room
     return [payloads.shard_signed(payloads.Shard(pub, b"", *values), room)]
 
 
 def manifest_values(raw):
+    """manifest-read: SEED SEALED CREATED N, and four values for each file."""
     manifest = manifest_read(raw)
     entries = [value for entry in manifest.files for value in entry]
     return [manifest.seed, int(manifest.sealed), shown_created(manifest.created),
@@ -268,36 +275,44 @@ class Desk:
         return function(*parsed(argument_forms, arguments))
 
     def load(self, register, data):
+        """Puts any bytes into a register; no call is made."""
         self.registers[register] = data
         return []
 
     def save(self, register):
+        """The register's bytes; no call is made."""
         return [self.registers[register]]
 
     def open(self, register, ident, room):
+        """The register becomes ROOM bytes of A5, and stays so where open refuses."""
         self.registers[register] = b"\xa5" * room
         self.registers[register] = collection.open_collection(ident, room)
         return []
 
     def offer(self, register, frame):
+        """One raw frame; KIND is 1, 2 or 3. A refusal changes nothing."""
         result, kind = collection.offer(self.registers[register], frame)
         self.registers[register] = result
         return [kind]
 
     def join(self, register, other):
+        """The first is written; one register twice is joined with a copy of itself."""
         self.registers[register] = collection.join(self.registers[register],
                                                    self.registers[other])
         return []
 
     def finish(self, register, room):
+        """The ciphertext of a whole document."""
         return [collection.finish(self.registers[register], room)]
 
     def mend(self, register):
+        """How many page blocks became absent."""
         result, count = collection.mend(self.registers[register])
         self.registers[register] = result
         return [count]
 
     def status(self, register):
+        """The status line, and nothing before it."""
         return collection.status(self.registers[register])
 
 

@@ -2,10 +2,10 @@
 use Prim.Native.Nat.{ℕ, zero, suc, _+_, _^_, _≤_, _<_}
 use mathlib.Core.Path.{_≡_, refl, sym, ap, ap₂, _∙_}
 use mathlib.Core.Bool.{Bool, true, false, _&&_, false≢true}
-use mathlib.Core.List.{List, [], _∷_, _++_, map}
+use mathlib.Core.List.{List, [], _∷_, _++_, map, map-append}
 use native.Mathlib.Nat.{le-of-suc-le-suc}
 use native.Mathlib.Omega.{arith}
-use borrow.Author.Tests.{lt-ltb, ltb-true, eqb-true}
+use borrow.Author.Tests.{lt-ltb, le-ltb, ltb-true, eqb-true}
 use lib.Dec.{ltb, eqb}
 use lib.ListN.{length, getD}
 use Rattle.wire.specs.Answer.{choose}
@@ -64,18 +64,44 @@ module _ (f : Form) (law : Lawful f) where
   letters-back (c ∷ cs) all =
       ap₂ (λ (x : ℕ) (r : List ℕ). x ∷ r) (place-back c (f .alphabet) (rw (law .full) (all 0))) (letters-back cs (λ i. all (suc i)))
 
--- ---- one character more
+-- ---- a text in two parts
 
-pub kept-snoc-skipped : (f : Form) (cs : List ℕ) (c : ℕ) → skipped f c ≡ true → kept f (cs ++ (c ∷ [])) ≡ kept f cs
+kept-append : (f : Form) (xs ys : List ℕ) → kept f (xs ++ ys) ≡ kept f xs ++ kept f ys
 unfolding kept
-kept-snoc-skipped f [] c e = rw e
-kept-snoc-skipped f (x ∷ cs) c e = ap (λ (r : List ℕ). choose (skipped f x) r (x ∷ r)) (kept-snoc-skipped f cs c e)
-
-pub kept-snoc : (f : Form) (cs : List ℕ) (c : ℕ) → skipped f c ≡ false → kept f (cs ++ (c ∷ [])) ≡ kept f cs ++ (c ∷ [])
-unfolding kept
-kept-snoc f [] c e = rw e
-kept-snoc f (x ∷ cs) c e = ap (λ (r : List ℕ). choose (skipped f x) r (x ∷ r)) (kept-snoc f cs c e) ∙ go (skipped f x)
+kept-append f [] ys = refl
+kept-append f (x ∷ xs) ys = ap (λ (r : List ℕ). choose (skipped f x) r (x ∷ r)) (kept-append f xs ys) ∙ go (skipped f x)
   where
-    go : (t : Bool) → choose t (kept f cs ++ (c ∷ [])) (x ∷ (kept f cs ++ (c ∷ []))) ≡ choose t (kept f cs) (x ∷ kept f cs) ++ (c ∷ [])
+    go : (t : Bool) → choose t (kept f xs ++ kept f ys) (x ∷ (kept f xs ++ kept f ys)) ≡ choose t (kept f xs) (x ∷ kept f xs) ++ kept f ys
     go true = refl
     go false = refl
+
+pub values-append : (f : Form) (xs ys : List ℕ) → values f (xs ++ ys) ≡ values f xs ++ values f ys
+unfolding values
+values-append f xs ys = ap (map (value f)) (kept-append f xs ys) ∙ map-append (value f) (kept f xs) (kept f ys)
+
+pub values-skipped : (f : Form) (c : ℕ) → skipped f c ≡ true → values f (c ∷ []) ≡ []
+unfolding values kept
+values-skipped f c e = rw e
+
+pub values-one : (f : Form) (c : ℕ) → skipped f c ≡ false → values f (c ∷ []) ≡ value f c ∷ []
+unfolding values kept
+values-one f c e = rw e
+
+pub length-values : (f : Form) (cs : List ℕ) → length (values f cs) ≤ length cs
+unfolding values kept
+length-values f [] = omega arith
+length-values f (c ∷ cs) = go (skipped f c) (length-values f cs)
+  where
+    go : (t : Bool) → length (map (value f) (kept f cs)) ≤ length cs → length (map (value f) (choose t (kept f cs) (c ∷ kept f cs))) ≤ suc (length cs)
+    go true h = omega arith
+    go false h = omega arith
+
+-- one value that is not below the bound
+pub below-stop : (n v : ℕ) (xs ys : List ℕ) → n ≤ v → below n (xs ++ (v ∷ ys)) ≡ false
+unfolding below
+below-stop n v [] ys h = rw (le-ltb v n h)
+below-stop n v (x ∷ xs) ys h = rw (below-stop n v xs ys h) (and-false (ltb x n))
+  where
+    and-false : (a : Bool) → (a && false) ≡ false
+    and-false true = refl
+    and-false false = refl

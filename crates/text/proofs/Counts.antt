@@ -29,13 +29,13 @@ rounded-once w n c (inr e) h l =
     let y : 6 * c < 8 * n + 6 = rw e at l in
     rw e (omega arith)
 
-at-most-six : (w : ℕ) → (w ≡ 5) ⊎ (w ≡ 6) → (5 ≤ w) × (w ≤ 6)
-at-most-six w (inl e) = omega arith
-at-most-six w (inr e) = omega arith
+pub narrow-bounds : (w : ℕ) → (w ≡ 5) ⊎ (w ≡ 6) → (5 ≤ w) × (w ≤ 6)
+narrow-bounds w (inl e) = omega arith
+narrow-bounds w (inr e) = omega arith
 
 module _ (f : Form) (law : Lawful f) where
   pub width-bounds : (5 ≤ f .width) × (f .width ≤ 6)
-  width-bounds = at-most-six (f .width) (law .narrow)
+  width-bounds = narrow-bounds (f .width) (law .narrow)
 
   -- the last character is not empty: fewer bits fill it than it has
   pub filling-lt : (n : ℕ) → filling f n < f .width

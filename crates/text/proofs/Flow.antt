@@ -29,9 +29,9 @@ flow-in {a} {b} {xs} {ys} {held} {k} h x l =
     let n : ℕ = number (2 ^ b) ys in
     record {
       sum =
-        number-snoc (2 ^ a) 0 xs x
-        ∙ rw (h .sum, add-mul (n * 2 ^ k) held (2 ^ a), mul-assoc n (2 ^ k) (2 ^ a), ← pow-add 2 k a)
-        (add-assoc (n * 2 ^ (k + a)) (held * 2 ^ a) x);
+          number-snoc (2 ^ a) 0 xs x
+          ∙ rw (h .sum, add-mul (n * 2 ^ k) held (2 ^ a), mul-assoc n (2 ^ k) (2 ^ a), ← pow-add 2 k a)
+          (add-assoc (n * 2 ^ (k + a)) (held * 2 ^ a) x);
       fits = omega (arith, pow-add 2 k a, mul-le-mul-right (2 ^ a) (h .fits), suc-mul held (2 ^ a));
       count = rw (length-append xs (x ∷ []), add-one, mul-suc a (length xs), h .count) (add-assoc (b * length ys) k a);
       small = h .small;
@@ -46,13 +46,13 @@ flow-out {a} {b} {xs} {ys} {held} {k} h l =
     let e : k ≡ b + m = omega arith in
     record {
       sum =
-        h .sum
-        ∙ rw (number-snoc (2 ^ b) 0 ys q, add-mul (n * 2 ^ b) q (2 ^ m), mul-assoc n (2 ^ b) (2 ^ m), ← pow-add 2 b m, ← e)
-        (ap (λ (z : ℕ). n * 2 ^ k + z) (sym (split held m)) ∙ sym (add-assoc (n * 2 ^ k) (q * 2 ^ m) (held % 2 ^ m)));
+          h .sum
+          ∙ rw (number-snoc (2 ^ b) 0 ys q, add-mul (n * 2 ^ b) q (2 ^ m), mul-assoc n (2 ^ b) (2 ^ m), ← pow-add 2 b m, ← e)
+          (ap (λ (z : ℕ). n * 2 ^ k + z) (sym (split held m)) ∙ sym (add-assoc (n * 2 ^ k) (q * 2 ^ m) (held % 2 ^ m)));
       fits = mod-lt held (pow-pos m);
       count =
-        h .count
-        ∙ rw (length-append ys (q ∷ []), add-one, mul-suc b (length ys), add-assoc (b * length ys) b m) (ap (λ (z : ℕ). b * length ys + z) e);
+          h .count
+          ∙ rw (length-append ys (q ∷ []), add-one, mul-suc b (length ys), add-assoc (b * length ys) b m) (ap (λ (z : ℕ). b * length ys + z) e);
       small = small-snoc (2 ^ b) ys q (h .small) (shr-lt b m (rw e at (h .fits)));
     }
 

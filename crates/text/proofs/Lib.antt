@@ -3,3 +3,9 @@ pub mod Flow
 pub mod Counts
 pub mod Characters
 pub mod Round
+pub mod Packing
+pub mod Sorts
+pub mod Reading
+pub mod Encoding
+pub mod Verdicts
+pub mod Entries

@@ -1,1 +1,38 @@
+// Base64 and z-base-32, read and written: document 01, "Varints and texts". One code serves both forms: a form is the
+// number of bits of a character, w, and its two tables.
+mod pack;
+mod read;
+mod tables;
+mod write;
 
+ghost use Rattle.wire.specs.Writing.{Written, bytes};
+ghost use Rattle.text.specs.Text.{base64, zbase32, textOf, readText};
+use wire::Wrote;
+
+// The bytes of a base64 text, at the front of out.
+pub fn base64_read(text: &[u8], out: &mut [u8]) -> Wrote
+    ensures { λ r. ⌜ Written 0 (readText base64 (now (text .entry))) (now (out .entry)) (now (out .exit)) r ⌝ }
+{
+    read::read(&tables::BASE64_VALUES, 6, text, out)
+}
+
+// The base64 text of all bytes, at the front of out.
+pub fn base64_write(src: &[u8], out: &mut [u8]) -> Wrote
+    ensures { λ r. ⌜ Written 0 (bytes (textOf base64 (now (src .entry)))) (now (out .entry)) (now (out .exit)) r ⌝ }
+{
+    write::write(&tables::BASE64_LETTERS, 6, src, out)
+}
+
+// The bytes of a z-base-32 text, at the front of out.
+pub fn zbase32_read(text: &[u8], out: &mut [u8]) -> Wrote
+    ensures { λ r. ⌜ Written 0 (readText zbase32 (now (text .entry))) (now (out .entry)) (now (out .exit)) r ⌝ }
+{
+    read::read(&tables::ZBASE32_VALUES, 5, text, out)
+}
+
+// The z-base-32 text of all bytes, at the front of out.
+pub fn zbase32_write(src: &[u8], out: &mut [u8]) -> Wrote
+    ensures { λ r. ⌜ Written 0 (bytes (textOf zbase32 (now (src .entry)))) (now (out .entry)) (now (out .exit)) r ⌝ }
+{
+    write::write(&tables::ZBASE32_LETTERS, 5, src, out)
+}

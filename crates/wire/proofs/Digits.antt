@@ -48,6 +48,15 @@ digits-at w (suc k) n j h = pick (digits-at w k (n / 2 ^ w) j) (eq-or-lt-of-le (
         ∙ ih l
         ∙ ap (λ (x : ℕ). x % 2 ^ w) (shr-shr n w (w * (k - 1 - j)) ∙ ap (λ (e : ℕ). n / 2 ^ e) z)
 
+-- byte j of a number's k lowest, the lowest first
+pub little-at : (k n j : ℕ) → j < k → getD (littleEndian k n) j 0 ≡ n / 2 ^ (j * 8) % 256
+unfolding littleEndian
+little-at zero n j h = absurd (omega arith)
+little-at (suc k) n zero h = ap (λ (x : ℕ). x % 256) (sym (div-one n))
+little-at (suc k) n (suc j) h =
+    little-at k (n / 256) j (omega arith)
+    ∙ ap (λ (x : ℕ). x % 256) (shr-shr n 8 (j * 8) ∙ ap (λ (e : ℕ). n / 2 ^ e) (omega arith))
+
 -- ---- the number and its digits, each from the other
 
 -- the last step of a number, undone

@@ -253,12 +253,39 @@ def several_files(rng, raw):
     yield from (bytes(SIZE), b"\xa5" * SIZE, rng.randbytes(SIZE), raw[512:] + raw[:512])
 
 
+def bare_file():
+    """A collection just opened."""
+    session = Session()
+    built(session, "a", [])
+    return session.holds("a")
+
+
 def damaged_files(rng):
-    """All of these, and the good file."""
-    raw = sample_file()
-    yield raw
-    for part in (head_files(raw), page_files(raw), state_files(raw), several_files(rng, raw)):
+    """All of these, and the good files. Under a bare one no page hides a fault of the head."""
+    raw, bare = sample_file(), bare_file()
+    yield from (raw, bare)
+    for part in (head_files(raw), head_files(bare), page_files(raw), state_files(raw),
+                 several_files(rng, raw)):
         yield from part
+
+
+def resized_files():
+    """Good blocks, but too few, too many, or cut."""
+    for raw in (sample_file(), bare_file()):
+        yield from (raw[:-1], raw + b"\0", raw[:-512], raw + raw[-512:], raw[:512], raw[512:])
+
+
+def resized_sessions():
+    """Good blocks of a wrong total size, in every call that reads a collection."""
+    for raw in resized_files():
+        session = Session()
+        built(session, "b", HELD)
+        session.say("load", "a", raw)
+        for call in (("status", "a"), ("mend", "a"), ("offer", "a", page(2, 5, b"late")),
+                     ("finish", "a", 1000), ("join", "a", "b"), ("join", "b", "a"),
+                     ("join", "a", "a"), ("status", "b")):
+            session.say(*call)
+        yield session.lines
 
 
 def file_sessions(rng):
@@ -303,6 +330,7 @@ def edges(rng):
     yield from offer_sessions(rng)
     yield from finish_sessions(rng)
     yield from place_sessions(rng)
+    yield from resized_sessions()
     yield from file_sessions(rng)
     yield from emptied_sessions(rng)
 

@@ -1,6 +1,6 @@
 """Calls of the sums and digests."""
 
-from .common import BLOCK_EDGES, Group, line, single, some_bytes, some_length
+from .common import BLOCK_EDGES, Group, line, some_bytes, some_length
 
 LONGER = [511, 512, 513, 1000, 1023, 1024, 1025, 4095, 4096, 4097, 65535, 65536, 65537, 131000]
 

@@ -175,7 +175,8 @@ def some_fault(rng, manifest):
     place = rng.randrange(len(manifest.files))
     entry = manifest.files[place]
     changed = rng.choice((
-        entry._replace(hash=damaged(rng, entry.hash)), entry._replace(path=damaged(rng, entry.path)),
+        entry._replace(hash=damaged(rng, entry.hash)),
+        entry._replace(path=damaged(rng, entry.path)),
         entry._replace(size=rng.choice((2**32 - 1, 2**32, 2**64 - 1))), entry))
     files = manifest.files[:place] + (changed,) + manifest.files[place + 1:]
     if rng.random() < 0.3:
@@ -251,6 +252,18 @@ def mismatches(rng):
     yield manifest._replace(files=huge), payload
 
 
+def faulty(rng):
+    """Manifests with a fault of their own, with a right payload and with a wrong one."""
+    manifest, payload = some_envelope(rng, 1)
+    entry = manifest.files[0]
+    faults = [manifest._replace(sealed=not manifest.sealed), manifest._replace(files=()),
+              manifest._replace(created=("f", b"\xff" * 8))]
+    for changes in ({"hash": bytes(31)}, {"path": b"/a"}, {"path": b""}, {"size": 2**32}):
+        faults.append(manifest._replace(files=(entry._replace(**changes),)))
+    for bad in faults:
+        yield from ((bad, payload), (bad, payload + b"x"))
+
+
 def large_envelopes(rng):
     """Manifests around 16,384 bytes, payloads around the largest room."""
     for target in (16383, 16384, 16385):
@@ -276,7 +289,7 @@ def envelope_edges(rng):
     """The edges of both envelope verbs."""
     for part in (envelope_fields, envelope_damage):
         yield from single(line("envelope-read", raw) for raw in part(rng))
-    for part in (mismatches, large_envelopes):
+    for part in (mismatches, faulty, large_envelopes):
         for manifest, payload in part(rng):
             yield from single(envelope_pair_lines(manifest_payload(manifest), payload))
     for bad in (b"", b"\xa5", b"x" * 16384, b"x" * 16385, b"x" * 20000):

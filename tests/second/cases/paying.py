@@ -104,9 +104,10 @@ def shard_rooms(rng):
                           index=255)
     for shard in (small, large):
         unsigned = [value for name, value in shard._asdict().items() if name != "sig"]
-        exact, signed = len(encode(shard_pairs(shard))), len(encode(without_sig(shard_pairs(shard))))
+        exact = len(encode(shard_pairs(shard)))
+        signed = 18 + len(encode(without_sig(shard_pairs(shard))))
         yield from (line("shard-write", *shard, room) for room in rooms(exact))
-        yield from (line("shard-signed", *unsigned, room) for room in rooms(18 + signed))
+        yield from (line("shard-signed", *unsigned, room) for room in rooms(signed))
 
 
 def shard_edges(rng):

@@ -6,9 +6,9 @@ the run is not made if this program answers otherwise.
 """
 
 from ..desk import Desk
-from . import collections, digests, forms, frames, lines, payloads
+from . import digests, forms, frames, lines, payloads, sessions
 
-SECTIONS = [section for module in (forms, digests, frames, payloads, collections, lines)
+SECTIONS = [section for module in (forms, digests, frames, payloads, sessions, lines)
             for section in module.SECTIONS]
 
 OPENING = b"""\

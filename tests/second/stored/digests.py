@@ -52,7 +52,7 @@ def blake2b():
     yield from title("BLAKE2b of RFC 7693, unkeyed, 32-byte output: `abc` and the empty message")
     yield call("blake2b", b"abc", is_=f"0 {BLAKE2B[b'abc']}")
     yield call("blake2b", b"", is_=f"0 {BLAKE2B[b'']}")
-    yield note("lengths around the block of 128 bytes: a full last block is not followed by another")
+    yield note("lengths around the block of 128 bytes: no empty block follows a full one")
     for length in (1, 55, 56, 63, 64, 65, 111, 112, 119, 120, 127, 128, 129, 255, 256, 257):
         yield call("blake2b", counting(length))
     yield note("zeros are counted")

@@ -166,9 +166,9 @@ def zbase32_lengths():
     for count in range(1, 18):
         yield call("zbase32-read", b"y" * count, 20)
     yield note("leftover bits: 2 after two characters, 4 after four, 1 after five, 3 after seven")
-    for count, last in ((2, b"r"), (2, b"n"), (2, b"b"), (4, b"o"), (4, b"e"), (4, b"r"), (4, b"b"),
-                        (5, b"n"), (5, b"b"), (7, b"e"), (7, b"r"), (7, b"n"), (7, b"b"), (8, b"9")):
-        yield call("zbase32-read", b"y" * (count - 1) + last, 20)
+    for count, lasts in ((2, b"rnb"), (4, b"oerb"), (5, b"nb"), (7, b"ernb"), (8, b"9")):
+        for last in lasts:
+            yield call("zbase32-read", b"y" * (count - 1) + bytes([last]), 20)
     yield note("room one byte short, exact, one more, none, the most")
     for room in (4, 5, 6, 0, 65536):
         yield call("zbase32-read", b"9" * 8, room)

@@ -43,7 +43,8 @@ def frame_faults():
     yield from (read(laid_out(version=v), is_="7") for v in (b"\x81\x00", b"\xff" * 10))
     yield read(b"AP\x81", is_="3")
     yield note("type 6")
-    yield from (read(laid_out(kind=k), is_="6") for k in (b"\x00", b"\x40", b"\x43", b"\x64", b"\xff"))
+    for kind in (b"\x00", b"\x40", b"\x43", b"\x64", b"\xff"):
+        yield read(laid_out(kind=kind), is_="6")
     yield note("INDEX, TOTAL and DATA_LEN not shortest, or 2^64 and more: 7")
     for bad in (b"\x80\x00", b"\xff" * 9 + b"\x02"):
         yield from (read(laid_out(**{f: bad}), is_="7") for f in ("index", "total", "length"))
@@ -106,7 +107,7 @@ def pages():
 def singles(verb, good):
     """Stored calls of key-write or auth-frame-write."""
     def entries():
-        exact = 18 + len(good) + len(varint_write(len(good))) - 0
+        exact = 18 + len(good) + len(varint_write(len(good)))
         yield from title(f"{verb}: id 19, data above 480 bytes 9, the reader's refusal, room 11")
         yield from (call(verb, ID, good, room) for room in (exact, exact - 1))
         yield call(verb, ID[:7], b"z" * 481, 0, is_="19")

@@ -54,9 +54,8 @@ def room_forms():
 
 
 def large():
-    yield note("the most output: 65,536 characters from 49,152 bytes, and one byte more")
+    yield note("the most output: 65,536 characters from 49,152 bytes")
     yield raw(b"base64-write " + b"00" * 49152 + b" 65536")
-    yield raw(b"base64-write " + b"00" * 49153 + b" 65536", "11")
     yield note("a line of exactly 262,144 bytes, and one of 262,145")
     yield raw(b"crc " + b"5a" * ((LONGEST - 4) // 2))
     yield raw(b"crc " + b"5a" * ((LONGEST - 4) // 2) + b"5", "?")

@@ -88,12 +88,13 @@ def shard_reading():
     yield call("shard-read", SHARD_BYTES[:at - 34] + b"\x58\xf0", is_="19")
     for length in (0, 1, 16, 17, 32, 33, 2**64 - 1):
         yield call("shard-read", shard_of(length=length))
-    yield note("threshold, share_count, share_index: 1 to 255, the first and last at most the count")
+    yield call("shard-read", shard_of(share=b"", length=0), is_="19")
+    yield note("threshold, share_count, share_index: 1 to 255, none above the count")
     for numbers in ((1, 1, 1), (255, 255, 255), (0, 3, 1), (2, 0, 1), (2, 3, 0), (4, 3, 1),
                     (2, 3, 4), (3, 3, 3), (256, 256, 1), (1, 256, 1), (1, 255, 256)):
         named = dict(zip(("threshold", "count", "index"), numbers))
         yield call("shard-read", shard_of(**named))
-    yield note("threshold above share_count is judged at share_count: an index cut off is not reached")
+    yield note("threshold above share_count is judged at share_count, before the index")
     cut = shard_of(threshold=4)
     yield call("shard-read", cut[:cut.index(b"kshare_index")], is_="19")
     yield call("shard-read", cut[:cut.index(b"kshare_count")], is_="3")
@@ -114,6 +115,7 @@ def shard_writing():
     yield call("shard-signed", *unsigned(SHARD_VALUES), len(signed) - 1, is_="11")
     for changes in ({"pub": b""}, {"sig": bytes(63)}, {"hash": bytes(33)}, {"type": b"seed"},
                     {"share": bytes(240), "length": 240}, {"share": bytes(31)}, {"length": 0},
+                    {"share": b"", "length": 0},
                     {"length": 33}, {"threshold": 0}, {"threshold": 4}, {"count": 256},
                     {"index": 4}, {"index": 2**64 - 1}):
         shard = SHARD_VALUES._replace(**changes)
@@ -191,7 +193,8 @@ def manifest_files():
     yield reading(one_file(size=-1), is_="19")
     yield writing(one_file(size=2**32), 0, is_="19")
     yield note("paths: empty, leading /, above 200 bytes, not UTF-8, U+0300 are 20; U+02FF passes")
-    for path in (b"", b"/a", b"p" * 201, b"\xff", b"\xc0\x80", b"\xc3", b"\xcc\x80", b"\xed\xa0\x80"):
+    for path in (b"", b"/a", b"p" * 201, b"\xff", b"\xc0\x80", b"\xc3", b"\xcc\x80",
+                 b"\xed\xa0\x80"):
         yield reading(one_file(path=path), is_="20")
         yield writing(one_file(path=path), 0, is_="20")
     for path in (b"\xcb\xbf", b"p" * 200, b"a/../b", b"\x00", b"p" * 23, b"p" * 24):
@@ -249,8 +252,9 @@ def envelope():
     yield call("envelope-read", b"AY\x01" + b"\xff" * 9 + b"\x01" + whole[3:], is_="3")
     yield from (call("envelope-read", whole[:n], is_="3") for n in (0, 1, 2, 3, 4, 5, 40, -6, -1))
     yield call("envelope-read", whole + b"\0", is_="3")
-    yield note("sizes and payload: 21 with the file count for the sum, 21 with the place for a digest")
-    for payload, answer in ((b"hell", "21 2"), (b"hello!", "21 2"), (b"", "21 2"), (b"hellO", "21 0")):
+    yield note("21 with the file count for the sum, 21 with its place for a digest")
+    for payload, answer in ((b"hell", "21 2"), (b"hello!", "21 2"), (b"", "21 2"),
+                            (b"hellO", "21 0")):
         yield call("envelope-read", envelope_bytes(raw, payload), is_=answer)
         yield call("envelope-write", raw, payload, 0, is_=answer)
     other = UNSEALED._replace(files=(FILES[0], FILES[1]._replace(hash=bytes(32))))
@@ -259,7 +263,8 @@ def envelope():
     yield call("envelope-read", envelope_bytes(b"", b"x"), is_="3")
     yield call("envelope-write", raw + b"\0", b"x", 0, is_="3")
     yield call("envelope-read", envelope_bytes(b"\xa5", b"x")[:-1], is_="3")
-    yield call("envelope-read", envelope_bytes(manifest_payload(one_file(path=b"/")), b"x"), is_="20")
+    bad_path = manifest_payload(one_file(path=b"/"))
+    yield call("envelope-read", envelope_bytes(bad_path, b"x"), is_="20")
     yield call("envelope-write", manifest_payload(one_file(size=2**32)), b"x", 0, is_="19")
     yield call("envelope-write", b"\xff" * 16385, b"", 0, is_="9")
 

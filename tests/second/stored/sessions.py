@@ -49,10 +49,13 @@ def crossing():
 
 def refusals():
     yield note("frames that are not taken: cut, of another document, auth and key frames of this id")
-    for raw, answer in ((PAGES[0][:-1], "3"), (b"", "3"), (b"AQ", "4"), (page(0, 3, b"", STRANGE), "12"),
-                        (page(0, 1, b"", DOCUMENT, KEY), "12"), (page(0, 1, b"", DOCUMENT, AUTH), "12"),
-                        (page(0, 2, b"", DOCUMENT, AUTH), "8"), (page(3, 3, b"", DOCUMENT), "8"),
-                        (page(0, 97, b"", DOCUMENT), "9"), (PAGES[0][:-1] + b"?", "10")):
+    for raw, answer in ((PAGES[0][:-1], "3"), (b"", "3"), (b"AQ", "4"),
+                        (page(0, 3, b"", STRANGE), "12"),
+                        (page(0, 1, b"", DOCUMENT, KEY), "12"),
+                        (page(0, 1, b"", DOCUMENT, AUTH), "12"),
+                        (page(0, 2, b"", DOCUMENT, AUTH), "8"),
+                        (page(3, 3, b"", DOCUMENT), "8"), (page(0, 97, b"", DOCUMENT), "9"),
+                        (PAGES[0][:-1] + b"?", "10")):
         yield call("offer", "a", raw, is_=answer)
     yield call("status", "a", is_="pages 3 held 3 missing 0 disputed 0 first -")
 
@@ -104,15 +107,15 @@ def other_ids():
 
 
 def damaged_file():
-    """Pages 0 and 1 of two held; page 0 changed, page 5 held beyond the total under a right CRC."""
+    """Pages 0 and 1 of two held; page 0 changed, page 2 held under a right CRC."""
     good = save(Collection(ID, frozenset([2]), frozenset([(0, b"zero"), (1, b"one")])))
     bad = with_byte(good, 512 + 14, 0)
-    beyond = with_byte(block_of(bad, 6), 2, 1)
-    return reblocked(bad, 6, sealed(beyond[:508]))
+    beyond = with_byte(block_of(bad, 3), 2, 1)
+    return reblocked(bad, 3, sealed(beyond[:508]))
 
 
 def mending():
-    yield note("a damaged file: page 0 under a wrong CRC, page 5 held though the total is 2")
+    yield note("a damaged file: page 0 under a wrong CRC, page 2 held though the total is 2")
     yield call("load", "d", damaged_file(), is_="0")
     yield call("status", "d", is_="refused 13")
     yield call("mend", "d", is_="0 2")

@@ -1,0 +1,17 @@
+/* The plain textbook forms that the proved ones are measured against. */
+#ifndef PLAIN_H
+#define PLAIN_H
+
+#include <stddef.h>
+#include <stdint.h>
+
+/* CRC-32/ISO-HDLC, four bytes, big-endian. */
+void plain_crc32(const uint8_t *data, size_t length, uint8_t out[4]);
+
+/* SHA-256 of FIPS 180-4, 32 bytes. */
+void plain_sha256(const uint8_t *data, size_t length, uint8_t out[32]);
+
+/* BLAKE2b of RFC 7693, unkeyed, 32-byte output. */
+void plain_blake2b(const uint8_t *data, size_t length, uint8_t out[32]);
+
+#endif

@@ -1,0 +1,5 @@
+pub mod Mixing
+pub mod Output
+pub mod Reading
+pub mod Tables
+pub mod Vector

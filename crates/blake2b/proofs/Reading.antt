@@ -1,0 +1,80 @@
+-- Words are read from the part of a message that they stand in, so the padded message's blocks are the message's own but for
+-- the last. Assumes nothing.
+use mathlib.Core.Path.{_≡_, refl, sym, ap, _∙_}
+use mathlib.Core.Bool.{true}
+use mathlib.Core.List.{List, _++_, reverse}
+use Prim.Native.Nat.{ℕ, zero, suc, _+_, _-_, _*_, _≤_, _<_}
+use native.Mathlib.Nat.{add-zero, zero-add}
+use native.Mathlib.Numerals.{add-one}
+use native.Mathlib.Omega.{arith}
+use lib.Dec.{eqb·suc-zero}
+use lib.ListN.{length, getD, take, drop, set, replicate, length-drop}
+use lib.Seq.{drop-drop, drop-append-le, take-append-le, getD-drop, set-at, append-snoc, take-suc, length-take-le}
+use Rattle.wire.specs.Number.{number, numberFrom}
+use Rattle.blake2b.specs.Blake2b.{vector, wordAt, words, F, blocks, dd, padded, start, final}
+use Rattle.blake2b.proofs.Vector.{vector-same, take-vector}
+
+-- ---- a word
+pub wordAt-sum : (b : List ℕ) (i : ℕ) → i + 8 ≤ length b
+    → wordAt b i
+    ≡ getD b i 0 + getD b (i + 1) 0 * 0x100 + getD b (i + 2) 0 * 0x10000 + getD b (i + 3) 0 * 0x1000000
+    + getD b (i + 4) 0 * 0x100000000 + getD b (i + 5) 0 * 0x10000000000 + getD b (i + 6) 0 * 0x1000000000000
+    + getD b (i + 7) 0 * 0x100000000000000
+unfolding wordAt vector numberFrom
+wordAt-sum b i h =
+    let l : 8 ≤ length (drop i b) = simp length-drop (omega arith) in
+    let at : (j : ℕ) → getD (drop i b) j 0 ≡ getD b (i + j) 0 = λ j. getD-drop i b j 0 in
+    ap (λ (x : List ℕ). number 256 (reverse x)) (take-vector 8 (drop i b) l)
+    ∙ omega (arith, rw add-zero at (at 0), at 1, at 2, at 3, at 4, at 5, at 6, at 7)
+
+wordAt-append : (b r : List ℕ) (i : ℕ) → i + 8 ≤ length b → wordAt (b ++ r) i ≡ wordAt b i
+unfolding wordAt
+wordAt-append b r i h =
+    let l : 8 ≤ length (drop i b) = simp length-drop (omega arith) in
+    rw (drop-append-le i b r (omega arith), take-append-le 8 (drop i b) r l)
+
+-- ---- a block's words
+words-append : (b r : List ℕ) (at : ℕ) → at + 128 ≤ length b → words (b ++ r) at ≡ words b at
+unfolding words
+words-append b r at h =
+    vector-same 16 (λ j. wordAt (b ++ r) (at + j * 8)) (λ j. wordAt b (at + j * 8)) (λ j l. wordAt-append b r (at + j * 8) (omega arith))
+
+words-drop : (b : List ℕ) (at : ℕ) → words (drop at b) 0 ≡ words b at
+unfolding words wordAt
+words-drop b at =
+    vector-same 16 (λ j. wordAt (drop at b) (0 + j * 8)) (λ j. wordAt b (at + j * 8)) (λ j l. rw (zero-add, drop-drop))
+
+blocks-append : (n : ℕ) (b r h : List ℕ) → n * 128 ≤ length b → blocks n (b ++ r) h ≡ blocks n b h
+unfolding blocks
+blocks-append zero b r h l = refl
+blocks-append (suc n) b r h l = cc (blocks-append n b r h (omega arith), words-append b r (n * 128) (omega arith))
+
+-- ---- the last block
+-- a turn of the loop that copies what is left of the message over zeros
+pub fill-more : (r : List ℕ) (j : ℕ) → j < length r → j < 128
+    → set (take j r ++ replicate (128 - j) 0) j (getD r j 0) ≡ take (j + 1) r ++ replicate (128 - (j + 1)) 0
+fill-more r j h k =
+    let z : List ℕ = replicate (128 - (j + 1)) 0 in
+    let e : 128 - j ≡ suc (128 - (j + 1)) = omega arith in
+    ap (λ (n : ℕ). set (take j r ++ replicate n 0) j (getD r j 0)) e
+    ∙ set-at (take j r) 0 z (getD r j 0) j (length-take-le j r (omega arith))
+    ∙ sym (append-snoc (take j r) (getD r j 0) z)
+    ∙ ap (λ (p : List ℕ). p ++ z) (sym (take-suc r j 0 h) ∙ ap (λ (n : ℕ). take n r) (sym (add-one j)))
+
+-- how many bytes the blocks before the last one have
+pub dd-blocks : (n : ℕ) → (dd n ≡ dd n - 1 + 1) × ((dd n - 1) * 128 ≤ n) × (n ≤ (dd n - 1) * 128 + 128)
+unfolding dd
+dd-blocks zero = (refl, omega arith, omega arith)
+dd-blocks (suc n) = rw (eqb·suc-zero n) (omega arith)
+
+-- the message's own blocks, and then a buffer t with what is left of it and zeros
+pub whole : (s t : List ℕ) (n : ℕ) → n ≡ dd (length s) - 1 → t ≡ drop (n * 128) s ++ replicate (n * 128 + 128 - length s) 0
+    → F (blocks n s start) (words t 0) (length s) true ≡ final s
+unfolding padded final
+whole s t n e et =
+    let b = dd-blocks (length s) in
+    let z : List ℕ = replicate (dd (length s) * 128 - length s) 0 in
+    let l : n * 128 ≤ length s = omega arith in
+    let k : n * 128 + 128 - length s ≡ dd (length s) * 128 - length s = omega arith in
+    let p : t ≡ drop (n * 128) (s ++ z) = et ∙ rw k (sym (drop-append-le (n * 128) s z l)) in
+    cc (blocks-append n s z start l, words-drop (s ++ z) (n * 128))

@@ -1,0 +1,4 @@
+pub mod Filling
+pub mod Joined
+pub mod Message
+pub mod Roots

@@ -1,0 +1,4 @@
+pub mod Functions
+pub mod Constants
+pub mod Message
+pub mod Sha

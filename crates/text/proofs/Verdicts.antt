@@ -1,0 +1,78 @@
+-- What was judged of a text, as 01's answer. Assumes nothing.
+use Prim.Native.Nat.{ℕ, suc, _+_, _*_, _/_, _%_, _^_, _≤_, _<_}
+use mathlib.Core.Path.{_≡_, refl, sym, ap, _∙_}
+use mathlib.Core.Bool.{Bool, true, false}
+use mathlib.Core.List.{List}
+use native.Mathlib.Omega.{arith}
+use borrow.Author.Tests.{le-leb, lt-leb, eq-eqb, ne-eqb}
+use lib.Dec.{leb, eqb}
+use lib.ListN.{length}
+use Rattle.wire.specs.Answer.{choose}
+use Rattle.wire.specs.Number.{digits, number}
+use Rattle.wire.specs.Writing.{Verdict, bytes, fault}
+use Rattle.wire.proofs.Digits.{length-digits}
+use Rattle.text.specs.Text.{values, below, leftover, readValues, readText}
+use Rattle.text.specs.Parts.{Narrow, formOf, decoded, judged}
+use Rattle.text.specs.declared.read.Judged.{Judged}
+use Rattle.text.specs.declared.read.Judged.the-variants.{Good, Bad}
+use Rattle.text.proofs.Sorts.{form-width, form-lawful}
+
+module _ (w : ℕ) (narrow : Narrow w) (cs : List ℕ) where
+  n : ℕ
+  n = length (values (formOf w) cs)
+
+  k : ℕ
+  k = leftover (formOf w) n
+
+  v : ℕ
+  v = number (2 ^ w) (values (formOf w) cs)
+
+  -- the answer at this width, with the count that no text has as a test of the bits left over
+  answer : readText (formOf w) cs
+      ≡ choose (below (2 ^ w) (values (formOf w) cs)) (choose (leb w k) (fault 2) (choose (eqb (v % 2 ^ k) 0) (bytes (decoded w cs)) (fault 2))) (fault 1)
+  unfolding readText readValues decoded n k v
+  answer =
+      let l : ℕ = leftover (formOf w) (length (values (formOf w) cs)) in
+      let vs : List ℕ = values (formOf w) cs in
+      ap (λ (t : Bool). choose (below (2 ^ formOf w .width) vs) (choose t (fault 2) (choose (eqb (number (2 ^ formOf w .width) vs % 2 ^ l) 0) (bytes (digits 256 (formOf w .width * length vs / 8) (number (2 ^ formOf w .width) vs / 2 ^ l))) (fault 2))) (fault 1)) (form-lawful w narrow .counts (length vs))
+      ∙ ap (λ (x : ℕ). choose (below (2 ^ x) vs) (choose (leb x l) (fault 2) (choose (eqb (number (2 ^ x) vs % 2 ^ l) 0) (bytes (digits 256 (x * length vs / 8) (number (2 ^ x) vs / 2 ^ l))) (fault 2))) (fault 1)) (form-width w narrow)
+
+  -- the two ways of having been judged
+  good-is : (b c m : ℕ) → Good b c m ≡ judged w cs → (below (2 ^ w) (values (formOf w) cs) ≡ true) × (b ≡ v % 2 ^ k) × (c ≡ k) × (m ≡ w * n / 8)
+  unfolding judged n k v
+  good-is b c m e = go (below (2 ^ w) (values (formOf w) cs)) refl e
+    where
+      go : (t : Bool) → below (2 ^ w) (values (formOf w) cs) ≡ t → Good b c m ≡ choose t (Good (v % 2 ^ k) k (w * n / 8)) Bad
+          → (below (2 ^ w) (values (formOf w) cs) ≡ true) × (b ≡ v % 2 ^ k) × (c ≡ k) × (m ≡ w * n / 8)
+      go true p h = (p, cc, cc, cc)
+      go false p h = let z : _≡_ {A = ℕ} 0 1 = cc in absurd (omega arith)
+
+  pub verdict-bad : Bad ≡ judged w cs → readText (formOf w) cs ≡ fault 1
+  unfolding judged
+  verdict-bad e = answer ∙ go (below (2 ^ w) (values (formOf w) cs)) e
+    where
+      go : (t : Bool) → Bad ≡ choose t (Good (number (2 ^ w) (values (formOf w) cs) % 2 ^ leftover (formOf w) (length (values (formOf w) cs))) (leftover (formOf w) (length (values (formOf w) cs))) (w * length (values (formOf w) cs) / 8)) Bad
+          → choose t (choose (leb w k) (fault 2) (choose (eqb (v % 2 ^ k) 0) (bytes (decoded w cs)) (fault 2))) (fault 1) ≡ fault 1
+      go true h = let z : _≡_ {A = ℕ} 0 1 = cc in absurd (omega arith)
+      go false h = refl
+
+  module _ (b c m : ℕ) (e : Good b c m ≡ judged w cs) where
+    pub verdict-count : w ≤ c → readText (formOf w) cs ≡ fault 2
+    verdict-count h = let g = good-is b c m e in answer ∙ rw (g .0, le-leb w k (omega (arith, g .2)))
+
+    pub verdict-bits : c < w → (b ≡ 0 → ⊥) → readText (formOf w) cs ≡ fault 2
+    verdict-bits h z =
+        let g = good-is b c m e in
+        answer ∙ rw (g .0, lt-leb w k (omega (arith, g .2)), ne-eqb (v % 2 ^ k) 0 (λ (q : v % 2 ^ k ≡ 0). z (g .1 ∙ q)))
+
+    pub verdict-good : c < w → b ≡ 0 → readText (formOf w) cs ≡ bytes (decoded w cs)
+    verdict-good h z =
+        let g = good-is b c m e in
+        answer ∙ rw (g .0, lt-leb w k (omega (arith, g .2)), eq-eqb (v % 2 ^ k) 0 (sym (g .1) ∙ z))
+
+    pub verdict-below : below (2 ^ w) (values (formOf w) cs) ≡ true
+    verdict-below = good-is b c m e .0
+
+    pub verdict-length : m ≡ length (decoded w cs)
+    unfolding decoded n
+    verdict-length = good-is b c m e .3 ∙ sym (length-digits 256 _ _)

@@ -1,0 +1,2 @@
+pub mod Varint
+pub mod Answer
