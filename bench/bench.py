@@ -1,6 +1,5 @@
 """Building and measuring, shared by bench/check and bench/run."""
 
-import glob
 import hashlib
 import os
 import platform
@@ -13,8 +12,8 @@ BENCH = os.path.dirname(os.path.realpath(__file__))
 ROOT = os.path.dirname(BENCH)
 X86 = platform.machine() in ("x86_64", "AMD64")
 
-ALGORITHMS = {"crc32": "bench_crc", "sha256": "bench_sha256", "blake2b": "bench_blake2b"}
-OURS = os.path.join(ROOT, "target", "staticlib", "lib*.a")
+ALGORITHMS = ("crc32", "sha256", "blake2b")
+ARCHIVE = os.path.join(ROOT, "target", "staticlib", "libspeed.a")
 
 
 def compiler():
@@ -41,30 +40,11 @@ def build_plain(folder):
     return build(os.path.join(folder, "plain"), [os.path.join("plain", name) for name in names])
 
 
-def symbols(archive):
-    """The names that an archive defines."""
-    listed = subprocess.run(["nm", "--defined-only", "-g", archive], check=False, text=True,
-                            stdout=subprocess.PIPE, stderr=subprocess.DEVNULL)
-    return {words[-1] for words in map(str.split, listed.stdout.splitlines()) if len(words) == 3}
-
-
-def build_ours(folder, archives):
-    """Our side, with the functions that the archives have, or None."""
-    chosen, have = [], []
-    for function in ALGORITHMS.values():
-        archive = next((a for a in archives if function in symbols(a)), None)
-        if archive:
-            have.append(f"-DHAVE_{function}")
-            chosen += [archive] if archive not in chosen else []
-    if not have:
-        return None
-    flags = ["-Wl,--start-group", *chosen, "-Wl,--end-group"]
-    return build(os.path.join(folder, "ours"), ["plain/main.c", "ours.c"], *have, *flags)
-
-
-def archives(given):
-    """The archives named, or those of the last build."""
-    return given or sorted(glob.glob(OURS))
+def build_ours(folder):
+    """Our side, over the archive of crates/speed, which is proved and built where it is lacking."""
+    if not os.path.exists(ARCHIVE):
+        subprocess.run(["rt", "staticlib", "speed"], cwd=ROOT, check=True, stdout=subprocess.DEVNULL)
+    return build(os.path.join(folder, "ours"), ["plain/main.c", "ours.c"], ARCHIVE)
 
 
 # Right answers.
@@ -85,11 +65,9 @@ def right(name, data):
 
 
 def wrong_lengths(program, name, most):
-    """The lengths up to `most` at which a program is wrong; None where it lacks the name."""
+    """The lengths up to `most` at which a program is wrong."""
     done = subprocess.run([*runner(), program, name, "list", str(most)], text=True, check=False,
                           stdout=subprocess.PIPE)
-    if done.returncode == 2:
-        return None
     lines = done.stdout.split()
     if done.returncode != 0 or len(lines) != most + 1:
         return [len(lines)]

@@ -1,9 +1,6 @@
 /*
- * THE RATTLE SIDE: what a static library (target/staticlib/lib*.a) must export
- * to be measured by bench/run. Each may come from an archive of its own, and
- * one that no archive has is left out of the table.
- *
- * A digest is answered as its first eight bytes, the first byte highest.
+ * THE RATTLE SIDE: what crates/speed exports (rt staticlib speed writes
+ * target/staticlib/libspeed.a). A slice passes as a pointer and a length.
  */
 #ifndef RATTLE_H
 #define RATTLE_H
@@ -11,8 +8,8 @@
 #include <stddef.h>
 #include <stdint.h>
 
-uint32_t bench_crc(const uint8_t *data, size_t length);
-uint64_t bench_sha256(const uint8_t *data, size_t length);
-uint64_t bench_blake2b(const uint8_t *data, size_t length);
+uint32_t speed_crc32(const uint8_t *data, size_t length);
+void speed_sha256(const uint8_t *data, size_t length, uint8_t *out, size_t out_length);
+void speed_blake2b(const uint8_t *data, size_t length, uint8_t *out, size_t out_length);
 
 #endif

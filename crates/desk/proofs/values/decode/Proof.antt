@@ -1,0 +1,72 @@
+-- Safe and ending: each turn takes two digits of the word, so what is left of its pairs falls; the pool keeps its length.
+use mathlib.Core.Path.{_≡_}
+use Prim.Native.Nat.{_≤_, _-_, _/_}
+use borrow.Author.Needs.{needs}
+use lib.ListN.{length}
+use Rattle.desk.proofs.values.decode.Statement.{statement}
+use Rattle.desk.proofs.values.decode.Tie as tie
+
+abbrev Inv-loop : tie.InvT-loop
+Inv-loop word pool₀ i₀ pool i = (i ≤ length word / 2) × (length pool ≡ length pool₀)
+
+abbrev μ-loop : tie.MeasureT-loop
+μ-loop word pool₀ i₀ pool i = length word / 2 - i
+
+loop-holds : tie.Need-loop-holds Inv-loop μ-loop
+loop-holds c = search needs
+
+mul-pair : tie.Need-mul-pair Inv-loop μ-loop
+mul-pair c = search needs
+
+shared-slice-read-pair : tie.Need-shared-slice-read-pair Inv-loop μ-loop
+shared-slice-read-pair c = search needs
+
+mul-pair-2 : tie.Need-mul-pair-2 Inv-loop μ-loop
+mul-pair-2 c = search needs
+
+add-pair : tie.Need-add-pair Inv-loop μ-loop
+add-pair c = search needs
+
+shared-slice-read-pair-2 : tie.Need-shared-slice-read-pair-2 Inv-loop μ-loop
+shared-slice-read-pair-2 c = search needs
+
+pair-requires : tie.Need-pair-requires Inv-loop μ-loop
+pair-requires c κs = search needs
+
+put-requires : tie.Need-put-requires Inv-loop μ-loop
+put-requires c κs = search needs
+
+add-i : tie.Need-add-i Inv-loop μ-loop
+add-i c = search needs
+
+loop-less : tie.Need-loop-less Inv-loop μ-loop
+loop-less c = search needs
+
+loop-again : tie.Need-loop-again Inv-loop μ-loop
+loop-again c = search needs
+
+same-length : tie.Need-same-length Inv-loop μ-loop
+same-length c = search needs
+
+returns : tie.Need-returns Inv-loop μ-loop
+returns c = search needs
+
+pub decode-spec : {M : Type 1} → statement M
+decode-spec =
+    tie.close
+    (tie.spec
+    Inv-loop
+    μ-loop
+    loop-holds
+    mul-pair
+    shared-slice-read-pair
+    mul-pair-2
+    add-pair
+    shared-slice-read-pair-2
+    pair-requires
+    put-requires
+    add-i
+    loop-less
+    loop-again
+    same-length
+    returns)

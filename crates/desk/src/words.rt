@@ -1,0 +1,180 @@
+// A line's words, and what they stand for.
+//
+// `starts` has where each word starts, and then where a next one would: word k is line[starts[k]..starts[k + 1] - 1].
+// The bytes of a word of hex stand in `pool` at half the word's place in the line: two digits make a byte, so the bytes of
+// two words never meet, and the pool is half as long as the longest line.
+
+use crate::parts::part;
+use crate::parts::until;
+use crate::values;
+use crate::values::Parsed;
+
+// The letters of a form, which say what a verb asks of each argument, as b"br" for BYTES ROOM.
+const BYTES: u8 = b'b';
+
+const NUMBER: u8 = b'n';
+
+const ROOM: u8 = b'r';
+
+pub(crate) const ROOM_MOST: u64 = 65_536;
+
+fn start(starts: &[usize], k: usize) -> usize {
+    if k < starts.len() { starts[k] } else { 0 }
+}
+
+fn word_length(starts: &[usize], k: usize) -> usize {
+    if starts.len() < 1 {
+        return 0;
+    }
+    if k < starts.len() - 1 {
+        let first = starts[k];
+        let next = starts[k + 1];
+        if first < next {
+            return next - first - 1;
+        }
+    }
+    0
+}
+
+pub(crate) fn word<'a>(line: &'a [u8], starts: &[usize], k: usize) -> &'a [u8] {
+    part(line, start(starts, k), word_length(starts, k))
+}
+
+// The bytes of word k, where it is BYTES.
+pub(crate) fn bytes<'a>(pool: &'a [u8], starts: &[usize], k: usize) -> &'a [u8] {
+    part(pool, start(starts, k) / 2, word_length(starts, k) / 2)
+}
+
+// Word n ends before the space that stands before next. The table's length is the answer for a word that is empty and
+// for one too many, from then on.
+fn close(starts: &mut [usize], n: usize, next: usize) -> usize {
+    if starts.len() < 1 {
+        return 0;
+    }
+    if n < starts.len() - 1 {
+        let first = starts[n];
+        if first < next {
+            if next - first > 1 {
+                starts[n + 1] = next;
+                return n + 1;
+            }
+        }
+    }
+    starts.len()
+}
+
+fn pass(starts: &mut [usize], n: usize, b: u8, next: usize) -> usize {
+    if b == b' ' {
+        return close(starts, n, next);
+    }
+    n
+}
+
+// How many words the line has: the table's length where a word is empty or there are too many.
+pub(crate) fn split(line: &[u8], starts: &mut [usize]) -> usize {
+    let mut n = 0;
+    let mut i = 0;
+    while i < line.len() {
+        n = pass(starts, n, line[i], i + 1);
+        i += 1;
+    }
+    close(starts, n, line.len() + 1)
+}
+
+// The number that word k says, where it is one.
+pub(crate) fn number(line: &[u8], starts: &[usize], k: usize) -> u64 {
+    let said = values::decimal(word(line, starts, k));
+    match said {
+        Parsed::Is { n } => n,
+        Parsed::Not => 0,
+    }
+}
+
+// What the last word asks for as a ROOM; 0 where it is none.
+pub(crate) fn last_room(line: &[u8], starts: &[usize]) -> usize {
+    if starts.len() < 2 {
+        return 0;
+    }
+    let k = starts.len() - 2;
+    if values::is_at_most(word(line, starts, k), ROOM_MOST) {
+        return number(line, starts, k) as usize;
+    }
+    0
+}
+
+fn decode_word(line: &[u8], starts: &[usize], pool: &mut [u8], k: usize) {
+    let at = start(starts, k) / 2;
+    if at <= pool.len() {
+        values::decode(word(line, starts, k), &mut pool[at..]);
+    }
+}
+
+// Puts the bytes of every word into the pool. What a word that is no BYTES puts there is never used.
+pub(crate) fn decode_all(line: &[u8], starts: &[usize], pool: &mut [u8]) {
+    let mut k = 1;
+    while k < starts.len() {
+        decode_word(line, starts, pool, k);
+        k += 1;
+    }
+}
+
+fn fits(word: &[u8], kind: u8) -> bool {
+    match kind {
+        BYTES => values::is_bytes(word),
+        NUMBER => values::is_at_most(word, u64::MAX),
+        ROOM => values::is_at_most(word, ROOM_MOST),
+        _ => false,
+    }
+}
+
+fn all_fit(line: &[u8], starts: &[usize], form: &[u8]) -> bool {
+    let mut k = 0;
+    while k < form.len() {
+        if !fits(word(line, starts, k + 1), form[k]) {
+            return false;
+        }
+        k += 1;
+    }
+    true
+}
+
+// Whether the line is the verb `name` with arguments of the given form.
+fn asks(line: &[u8], starts: &[usize], name: &[u8], form: &[u8]) -> bool {
+    if !lend::equal(word(line, starts, 0), name) {
+        return false;
+    }
+    if starts.len() != form.len() + 2 {
+        return false;
+    }
+    all_fit(line, starts, form)
+}
+
+fn asks_row(line: &[u8], starts: &[usize], row: &[u8]) -> bool {
+    let n = until(row, 0, b' ');
+    if n < row.len() {
+        asks(
+            line,
+            starts,
+            part(row, 0, n),
+            part(row, n + 1, row.len() - n - 1),
+        )
+    } else {
+        false
+    }
+}
+
+// Which row of a table of verbs the line is a call of, counted from 1; 0 where it is of none. A row is a verb and its form,
+// and a comma parts two rows.
+pub(crate) fn verb(line: &[u8], starts: &[usize], table: &[u8]) -> usize {
+    let mut n = 1;
+    let mut at = 0;
+    while at < table.len() {
+        let end = until(table, at, b',');
+        if asks_row(line, starts, part(table, at, end - at)) {
+            return n;
+        }
+        at = end + 1;
+        n += 1;
+    }
+    0
+}
