@@ -1,0 +1,21 @@
+-- Two tests at once, from each of them and back; the ruleset `tests` lets `search` pick the case of a definition. Assumes nothing.
+use mathlib.Core.Path.{_≡_, refl}
+use mathlib.Core.Bool.{Bool, true, false, _&&_, false≢true}
+use borrow.Author.Tests.{lt-ltb, le-ltb, le-leb, lt-leb, eq-eqb, ne-eqb}
+use Rattle.wire.proofs.Branch.{choose-yes, choose-no}
+
+pub both : (t u : Bool) → (t && u) ≡ true → (t ≡ true) × (u ≡ true)
+both true u e = (refl, e)
+both false u e = (e, absurd (false≢true e))
+
+pub both-hold : (t u : Bool) → t ≡ true → u ≡ true → (t && u) ≡ true
+both-hold t u d e = rw d e
+
+pub first-fails : (t u : Bool) → t ≡ false → (t && u) ≡ false
+first-fails t u e = rw e
+
+pub second-fails : (t u : Bool) → u ≡ false → (t && u) ≡ false
+second-fails true u e = e
+second-fails false u e = refl
+
+pub ruleset tests = (choose-yes, choose-no, both-hold, first-fails, second-fails, lt-ltb, le-ltb, le-leb, lt-leb, eq-eqb, ne-eqb)

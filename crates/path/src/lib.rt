@@ -1,0 +1,110 @@
+// Which paths a manifest may name, and their order: document 01, "CBOR payloads" and "House sizes".
+ghost use mathlib.Core.Path.{_≡_};
+ghost use Prim.Native.Nat.{_<_};
+ghost use lib.ListN.{length};
+ghost use Rattle.path.specs.Utf8.{twoBytes};
+ghost use Rattle.path.specs.Order.{below};
+ghost use Rattle.path.specs.Path.{pathSized, plainText, pathAllowed};
+ghost use Rattle.path.specs.Parts.{Spans};
+
+// A path has at most so many bytes.
+const LONGEST: usize = 200;
+
+// Only code points below this one are allowed.
+const END: u32 = 0x300;
+
+// No code point at all: the last is U+10FFFF.
+const OUTSIDE: u32 = 0x110000;
+
+// Whether a path may have n bytes. A reader judges this before it has the bytes.
+pub fn sized(n: usize) -> bool
+    ensures { λ r. ⌜ r ≡ pathSized n ⌝ }
+{
+    1 <= n && n <= LONGEST
+}
+
+// The code point of two bytes.
+fn two_bytes(a: u8, b: u8) -> u32
+    ensures { λ r. ⌜ r ≡ twoBytes a b ⌝ }
+{
+    if a < 0xC0 {
+        return OUTSIDE;
+    }
+    if 0xE0 <= a {
+        return OUTSIDE;
+    }
+    if b < 0x80 {
+        return OUTSIDE;
+    }
+    if 0xC0 <= b {
+        return OUTSIDE;
+    }
+    let c = ((a - 0xC0) as u32) * 64 + ((b - 0x80) as u32);
+    if c < 0x80 {
+        return OUTSIDE;
+    }
+    c
+}
+
+// How many bytes the code point at index i has; 0 where it is not allowed.
+fn width(s: &[u8], i: usize) -> usize
+    requires { ⌜ i < length (now s) ⌝ }
+    ensures { λ r. ⌜ Spans (now (s .entry)) i r ⌝ }
+{
+    let a = s[i];
+    if a < 0x80 {
+        return 1;
+    }
+    if s.len() - i < 2 {
+        return 0;
+    }
+    if two_bytes(a, s[i + 1]) < END {
+        return 2;
+    }
+    0
+}
+
+// Whether s is UTF-8 whose code points are all allowed.
+fn plain(s: &[u8]) -> bool
+    ensures { λ r. ⌜ r ≡ plainText (now (s .entry)) ⌝ }
+{
+    let mut at = 0;
+    while at < s.len() {
+        let n = width(s, at);
+        if n == 0 {
+            return false;
+        }
+        at += n;
+    }
+    true
+}
+
+// Whether s is a path that a manifest may name.
+pub fn allowed(s: &[u8]) -> bool
+    ensures { λ r. ⌜ r ≡ pathAllowed (now (s .entry)) ⌝ }
+{
+    if !sized(s.len()) {
+        return false;
+    }
+    if s[0] == b'/' {
+        return false;
+    }
+    plain(s)
+}
+
+// Whether b may follow a in a manifest: a is strictly below b by bytes.
+pub fn ascends(a: &[u8], b: &[u8]) -> bool
+    ensures { λ r. ⌜ r ≡ below (now (a .entry)) (now (b .entry)) ⌝ }
+{
+    let mut i = 0;
+    while i < a.len() {
+        if b.len() <= i {
+            return false;
+        }
+        if a[i] != b[i] {
+            return a[i] < b[i];
+        }
+        i += 1;
+    }
+    i < b.len()
+}
