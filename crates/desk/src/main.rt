@@ -5,6 +5,7 @@
 // short function. The buffers are arrays of `main`: `input` for what was read, `pool` for the bytes that a line's words
 // say in hex, `room` for what a call is lent to write into, and `out` for the replies that are not written out yet.
 mod forms;
+mod frames;
 mod parts;
 mod reading;
 mod reply;
@@ -34,6 +35,10 @@ struct Fed {
 // The reply of the group that has the line's verb; 0 where none has, or the arguments are not of its form.
 fn call(line: &[u8], starts: &[usize], pool: &[u8], room: &mut [u8], out: &mut [u8]) -> usize {
     let n = forms::call(line, starts, pool, room, out);
+    if n > 0 {
+        return n;
+    }
+    let n = frames::call(line, starts, pool, room, out);
     if n > 0 {
         return n;
     }

@@ -8,8 +8,8 @@ use native.Mathlib.Nat.{add-mul-div-right, add-mul-mod-self-right, div-lt-iff-lt
 use native.Mathlib.Numerals.{add-one}
 use native.Mathlib.Omega.{arith}
 use lib.Pow.{shr-shr}
-use lib.ListN.{length, take, getD, length-append, List·getD-append, List·getD-eq-default}
-use lib.Seq.{getD-at, take-all, take-suc, length-take-le, getD-take}
+use lib.ListN.{length, take, drop, getD, length-append, List·getD-append, List·getD-eq-default}
+use lib.Seq.{getD-at, take-all, take-suc, length-take-le, getD-take, getD-drop}
 use lib.Dec.{lit<}
 use Rattle.wire.specs.Number.{digits, numberFrom, number, littleEndian, Digits}
 use Rattle.wire.proofs.Cases.{lt-or-le}
@@ -125,3 +125,14 @@ number-lt base ds (suc k) e all =
     let n : number base ds ≡ number base f * base + d = ap (number base) (split base ds k e all) ∙ number-snoc base 0 f d in
     let ih : number base f < base ^ k = number-lt base f k (length-take-le k ds (omega arith)) (front-small base ds k e all) in
     omega (arith, n, pow-suc base k, all k, mul-le-mul-right base ih, suc-mul (number base f) base)
+
+-- ---- digits of a part
+
+pub small-drop : (base k : ℕ) (ds : List ℕ) → Digits base ds → Digits base (drop k ds)
+small-drop base k ds all i = rw (getD-drop k ds i 0) (all (k + i))
+
+pub small-take : (base k : ℕ) (ds : List ℕ) → Digits base ds → Digits base (take k ds)
+small-take base zero ds all i = omega (arith, all 0)
+small-take base (suc k) [] all i = all i
+small-take base (suc k) (d ∷ ds) all zero = all 0
+small-take base (suc k) (d ∷ ds) all (suc i) = small-take base k ds (λ j. all (suc j)) i

@@ -1,10 +1,12 @@
 -- Laws of a writer's promise: two answers that keep it are equal, and the two ways to keep it. Assumes nothing.
-use mathlib.Core.Path.{_≡_, refl, sym, _∙_}
+use mathlib.Core.Path.{_≡_, refl, sym, ap, _∙_}
+use mathlib.Core.Logic.{_⊎_, inl, inr}
 use mathlib.Core.List.{List}
 use Prim.Native.Nat.{ℕ, _+_, _≤_, _<_}
 use mathlib.Core.Bool.{Bool, true, false}
 use native.Mathlib.Omega.{arith}
-use borrow.Author.Tests.{le-leb, lt-leb}
+use borrow.Author.Tests.{le-leb, lt-leb, leb-true, leb-false}
+use lib.Dec.{leb}
 use lib.ListN.{length}
 use Rattle.wire.specs.Answer.{choose}
 use Rattle.wire.specs.Over.{over}
@@ -52,3 +54,36 @@ escaped false v e h = (refl, h)
 -- the bytes are the verdict's own
 pub bytes-injective : {xs ys : List ℕ} → bytes xs ≡ bytes ys → xs ≡ ys
 bytes-injective h = cc
+
+-- ---- what a caller learns of a writer's answer
+
+-- the bytes were written
+pub record Stood (at : ℕ) (v : Verdict) (out out' : List ℕ) (n : ℕ) : Type 0 where
+  pub what : List ℕ
+  pub meant : v ≡ bytes what
+  pub count : n ≡ length what
+  pub fits : at + n ≤ length out
+  pub stands : out' ≡ over at what out
+
+pub done-stood : (at : ℕ) (v : Verdict) (out out' : List ℕ) (n : ℕ) → Written at v out out' (Done n) → Stood at v out out' n
+done-stood at (fault e) out out' n w = let q = w .answer in let z : _≡_ {A = ℕ} 0 1 = cc in absurd (omega arith)
+done-stood at (bytes bs) out out' n w = go (leb (at + length bs) (length out)) refl (w .answer) (w .output)
+  where
+    go : (t : Bool) → leb (at + length bs) (length out) ≡ t → wrote n ≡ outcome (choose t (bytes bs) (fault 11)) → out' ≡ after at out (choose t (bytes bs) (fault 11))
+        → Stood at (bytes bs) out out' n
+    go true p q o =
+        let e : n ≡ length bs = cc in
+        let l = leb-true (at + length bs) (length out) p in
+        record { what = bs; meant = refl; count = e; fits = omega arith; stands = o }
+    go false p q o = let z : _≡_ {A = ℕ} 0 1 = cc in absurd (omega arith)
+
+-- nothing was written: the verdict was a refusal, or the bytes had no room
+pub refused-why : (at : ℕ) (v : Verdict) (out out' : List ℕ) (e : ℕ) → Written at v out out' (Refused e)
+    → (v ≡ fault e) ⊎ ((bs : List ℕ) × (v ≡ bytes bs) × (length out < at + length bs))
+refused-why at (fault f) out out' e w = let q = w .answer in let z : f ≡ e = cc in inl (ap fault z)
+refused-why at (bytes bs) out out' e w = go (leb (at + length bs) (length out)) refl (w .answer)
+  where
+    go : (t : Bool) → leb (at + length bs) (length out) ≡ t → failed e ≡ outcome (choose t (bytes bs) (fault 11))
+        → (bytes bs ≡ fault e) ⊎ ((xs : List ℕ) × (bytes bs ≡ bytes xs) × (length out < at + length xs))
+    go true p q = let z : _≡_ {A = ℕ} 0 1 = cc in absurd (omega arith)
+    go false p q = inr (bs, refl, leb-false (at + length bs) (length out) p)

@@ -1,0 +1,10 @@
+pub mod Chain
+pub mod Answers
+pub mod Within
+pub mod Digest
+pub mod Lengths
+pub mod Range
+pub mod Laying
+pub mod Allowed
+pub mod ReadsBack
+pub mod OnlyLayouts

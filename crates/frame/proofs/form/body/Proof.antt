@@ -1,0 +1,30 @@
+-- `frame::form::body` meets its contract: writes in a row are one. Assumes nothing.
+use borrow.Author.Needs.{needs}
+use Rattle.frame.proofs.Laying.{body-laid}
+use Rattle.frame.proofs.form.body.Statement.{statement}
+use Rattle.frame.proofs.form.body.Tie as tie
+
+start-requires : tie.Need-start-requires
+start-requires c κs = search needs
+
+numbers-requires : tie.Need-numbers-requires
+numbers-requires c κs = search needs
+
+copy-requires : tie.Need-copy-requires
+copy-requires c κs = search needs
+
+add-result : tie.Need-add-result
+add-result c = search needs
+
+same-length : tie.Need-same-length
+same-length c = search needs
+
+returns : tie.Need-returns
+returns c =
+    let s = c .before .before .before .before .before .before .before .before .before .before .before .before .before .before .before in
+    body-laid (s .args .kind) (s .args .id .now) (s .args .index) (s .args .total) (s .args .contents .now) (s .args .out .now) (s .pre .0) _ _ _ _ (s .pre .1) (c .before .before .before .before .before .before .before .before .before .before .start .ensures) (c .before .before .before .before .before .before .numbers .ensures) (c .before .before .copy .ensures)
+
+pub body-spec : {M : Type 1} → statement M
+body-spec =
+    tie.close
+    (tie.spec start-requires numbers-requires copy-requires add-result same-length returns)

@@ -1,0 +1,34 @@
+-- `frame::form::numbers` meets its contract: each varint starts where the one before it ended. Assumes nothing.
+use native.Mathlib.Omega.{arith}
+use borrow.Author.Needs.{needs}
+use Rattle.frame.proofs.Laying.{numbers-laid}
+use Rattle.frame.proofs.Lengths.{numbers-length}
+use Rattle.frame.proofs.form.numbers.Statement.{statement}
+use Rattle.frame.proofs.form.numbers.Tie as tie
+
+number-requires : tie.Need-number-requires
+number-requires c κs =
+    let a = c .before .before .args in
+    omega (arith, numbers-length (a .index) (a .total) (a .len))
+
+number-requires-2 : tie.Need-number-requires-2
+number-requires-2 c κs =
+    let a = c .before .before .before .before .before .before .args in
+    omega (arith, numbers-length (a .index) (a .total) (a .len))
+
+number-requires-3 : tie.Need-number-requires-3
+number-requires-3 c κs =
+    let a = c .before .before .before .before .before .before .before .before .before .before .args in
+    omega (arith, numbers-length (a .index) (a .total) (a .len))
+
+same-length : tie.Need-same-length
+same-length c = search needs
+
+returns : tie.Need-returns
+returns c =
+    let s = c .before .before .before .before .before .before .before .before .before .before .before .before .before in
+    numbers-laid (s .args .index) (s .args .total) (s .args .len) (s .args .at) (s .args .out .now) _ _ _ _ _ _ (s .pre) (c .before .before .before .before .before .before .before .before .before .before .number .ensures) (c .before .before .before .before .before .before .number2 .ensures) (c .before .before .number3 .ensures)
+
+pub numbers-spec : {M : Type 1} → statement M
+numbers-spec =
+    tie.close (tie.spec number-requires number-requires-2 number-requires-3 same-length returns)

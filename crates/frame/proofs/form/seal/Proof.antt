@@ -1,0 +1,40 @@
+-- `frame::form::seal` meets its contract. Assumes nothing.
+use mathlib.Core.Path.{sym}
+use native.Mathlib.Omega.{arith}
+use borrow.Author.Needs.{needs}
+use lib.Seq.{length-take-le}
+use Rattle.frame.proofs.form.seal.Statement.{statement}
+use Rattle.frame.proofs.form.seal.Tie as tie
+
+slice-reshare-prefix-of : tie.Need-slice-reshare-prefix-of
+slice-reshare-prefix-of c = search needs
+
+slice-aggregate-of : tie.Need-slice-aggregate-of
+slice-aggregate-of c = sym (length-take-le _ _ (omega arith))
+
+of-requires : tie.Need-of-requires
+of-requires c κs = search needs
+
+slice-aggregate-copy : tie.Need-slice-aggregate-copy
+slice-aggregate-copy c = search needs
+
+copy-requires : tie.Need-copy-requires
+copy-requires c κs = search needs
+
+same-length : tie.Need-same-length
+same-length c = search needs
+
+returns : tie.Need-returns
+returns c = cc
+
+pub seal-spec : {M : Type 1} → statement M
+seal-spec =
+    tie.close
+    (tie.spec
+    slice-reshare-prefix-of
+    slice-aggregate-of
+    of-requires
+    slice-aggregate-copy
+    copy-requires
+    same-length
+    returns)

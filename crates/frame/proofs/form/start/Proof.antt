@@ -1,0 +1,23 @@
+-- `frame::form::start` meets its contract: writes in a row are one. Assumes nothing.
+use borrow.Author.Needs.{needs}
+use Rattle.frame.proofs.Laying.{start-laid}
+use Rattle.frame.proofs.form.start.Statement.{statement}
+use Rattle.frame.proofs.form.start.Tie as tie
+
+opening-requires : tie.Need-opening-requires
+opening-requires c κs = search needs
+
+put-requires : tie.Need-put-requires
+put-requires c κs = search needs
+
+copy-requires : tie.Need-copy-requires
+copy-requires c κs = search needs
+
+same-length : tie.Need-same-length
+same-length c = search needs
+
+returns : tie.Need-returns
+returns c = search start-laid
+
+pub start-spec : {M : Type 1} → statement M
+start-spec = tie.close (tie.spec opening-requires put-requires copy-requires same-length returns)

@@ -1,0 +1,36 @@
+-- `frame::part::data_and_sum` meets its contract: what is left is the length and four bytes more, and then the sum decides. Assumes nothing.
+use native.Mathlib.Omega.{arith}
+use borrow.Author.Needs.{needs}
+use Rattle.wire.proofs.Cases.{flag}
+use Rattle.frame.proofs.Within.{data-cut, data-stands, data-differs}
+use Rattle.frame.proofs.part.data_and_sum.Statement.{statement}
+use Rattle.frame.proofs.part.data_and_sum.Tie as tie
+
+sub-left : tie.Need-sub-left
+sub-left c = search needs
+
+returns : tie.Need-returns
+returns c = data-cut _ _ _ (λ e. omega arith)
+
+returns-2 : tie.Need-returns-2
+returns-2 c = data-cut _ _ _ (λ e. omega arith)
+
+add-end : tie.Need-add-end
+add-end c = search needs
+
+stands-requires : tie.Need-stands-requires
+stands-requires c κs = search needs
+
+add-t10 : tie.Need-add-t10
+add-t10 c = search needs
+
+returns-3 : tie.Need-returns-3
+returns-3 c = data-stands _ _ _ (omega arith) (flag _ _ _ (c .before .stands .ensures) (c .if3 .taken))
+
+returns-4 : tie.Need-returns-4
+returns-4 c = data-differs _ _ _ (omega arith) (flag _ _ _ (c .before .stands .ensures) (c .if3 .left))
+
+pub data-and-sum-spec : {M : Type 1} → statement M
+data-and-sum-spec =
+    tie.close
+    (tie.spec sub-left returns returns-2 add-end stands-requires add-t10 returns-3 returns-4)

@@ -1,0 +1,103 @@
+-- One frame, read: document 01, "Frames" and "House sizes"; source document 002, section 6.
+use Prim.Native.Nat.{ℕ, _+_, _-_}
+use mathlib.Core.Bool.{Bool, true, false}
+use mathlib.Core.List.{List, [], _∷_}
+use lib.Dec.{ltb, leb, eqb}
+use lib.ListN.{length, take, drop, getD}
+use Rattle.wire.specs.Answer.{choose, Got, got, refused, then}
+use Rattle.wire.specs.Number.{bigEndian}
+use Rattle.lend.specs.Same.{same}
+use Rattle.varint.specs.Varint.{varintAt}
+use Rattle.crc.specs.Crc.{crc32}
+
+-- what is read of a frame: its type byte, INDEX, TOTAL, and where its data stand in the input, len bytes from at on
+pub record Frame : Type 0 where
+  pub kind : ℕ
+  pub index : ℕ
+  pub total : ℕ
+  pub at : ℕ
+  pub len : ℕ
+
+-- the id of a frame that is read stands at bytes 4 to 11
+abbrev pub idOf : List ℕ → List ℕ
+idOf s = take 8 (drop 4 s)
+
+abbrev pub dataOf : List ℕ → Frame → List ℕ
+dataOf s f = take (f .len) (drop (f .at) s)
+
+-- ---- the fields, left to right: each is judged once it is whole
+
+-- `41 50`
+abbrev pub magic : List ℕ
+magic = 0x41 ∷ 0x50 ∷ []
+
+unfoldable pub magicOf : List ℕ → Got Unit
+magicOf s = choose (ltb (length s) 2) (refused 3) (choose (same (take 2 s) magic) (got tt 2) (refused 4))
+
+-- version 1
+unfoldable pub versionAt : List ℕ → ℕ → Got Unit
+versionAt s at = then (varintAt s at) (λ version next. choose (eqb version 1) (got tt next) (refused 5))
+
+-- type byte (44 main, 4B key, 41 auth)
+unfoldable pub known : ℕ → Bool
+known kind = choose (eqb kind 0x44) true (choose (eqb kind 0x4B) true (eqb kind 0x41))
+
+unfoldable pub kindAt : List ℕ → ℕ → Got ℕ
+kindAt s at = choose (leb (length s) at) (refused 3) (choose (known (getD s at 0)) (got (getD s at 0) (at + 1)) (refused 6))
+
+-- 8 bytes id
+unfoldable pub idAt : List ℕ → ℕ → Got Unit
+idAt s at = choose (ltb (length s - at) 8) (refused 3) (got tt (at + 8))
+
+-- all before the varints: the type byte
+unfoldable pub startOf : List ℕ → Got ℕ
+startOf s =
+    then (magicOf s) (λ _ a.
+    then (versionAt s a) (λ _ b.
+    then (kindAt s b) (λ kind c.
+    then (idAt s c) (λ _ d. got kind d))))
+
+-- varints INDEX, TOTAL, DATA_LEN
+pub record Numbers : Type 0 where
+  pub index : ℕ
+  pub total : ℕ
+  pub len : ℕ
+
+unfoldable pub numbersAt : List ℕ → ℕ → Got Numbers
+numbersAt s at =
+    then (varintAt s at) (λ index a.
+    then (varintAt s a) (λ total b.
+    then (varintAt s b) (λ len c. got (record { index = index; total = total; len = len }) c)))
+
+-- after DATA_LEN exactly DATA_LEN + 4 bytes must remain, else 3; then the CRC-32/ISO-HDLC of all before it, big-endian, else 10
+unfoldable pub dataAt : List ℕ → ℕ → ℕ → Got Unit
+dataAt s at len =
+    choose (eqb (length s - at) (len + 4))
+    (choose (same (drop (at + len) s) (bigEndian 4 (crc32 (take (at + len) s)))) (got tt (at + len + 4)) (refused 10))
+    (refused 3)
+
+-- ---- the frame as a whole
+
+-- unless 8 is due: TOTAL is 0, INDEX not below TOTAL, or an A or K frame with TOTAL not 1
+unfoldable pub inPlace : ℕ → ℕ → ℕ → Bool
+inPlace kind index total = choose (eqb total 0) false (choose (leb total index) false (choose (eqb kind 0x44) true (eqb total 1)))
+
+-- unless 9 is due: TOTAL above 96, frame data above 480
+unfoldable pub inSize : ℕ → ℕ → Bool
+inSize total len = choose (ltb 96 total) false (leb len 480)
+
+-- the type byte and the numbers are judged together, after the CRC: 8, then 9
+unfoldable pub judged : ℕ → Numbers → ℕ → ℕ → Got Frame
+judged kind n at next =
+    choose (inPlace kind (n .index) (n .total))
+    (choose (inSize (n .total) (n .len))
+    (got (record { kind = kind; index = n .index; total = n .total; at = at; len = n .len }) next)
+    (refused 9))
+    (refused 8)
+
+-- fields are read left to right and the first fault decides; then 10, then 8, then 9
+unfoldable pub frameOf : List ℕ → Got Frame
+frameOf s =
+    then (startOf s) (λ kind a.
+    then (numbersAt s a) (λ n b.
+    then (dataAt s b (n .len)) (λ _ c. judged kind n b c)))

@@ -1,0 +1,24 @@
+-- One frame, laid out from its parts, whatever they are: document 01, "Frames"; source document 002, section 6.
+use Prim.Native.Nat.{ℕ}
+use mathlib.Core.List.{List, [], _∷_, _++_}
+use lib.ListN.{length}
+use Rattle.wire.specs.Number.{bigEndian}
+use Rattle.varint.specs.Varint.{varint}
+use Rattle.crc.specs.Crc.{crc32}
+use Rattle.frame.specs.Frame.{magic}
+
+-- `41 50`, version 1, type byte, 8 bytes id
+unfoldable pub start : ℕ → List ℕ → List ℕ
+start kind id = magic ++ varint 1 ++ (kind ∷ []) ++ id
+
+-- varints INDEX, TOTAL, DATA_LEN
+unfoldable pub numbers : ℕ → ℕ → ℕ → List ℕ
+numbers index total len = varint index ++ varint total ++ varint len
+
+-- the data
+unfoldable pub body : ℕ → List ℕ → ℕ → ℕ → List ℕ → List ℕ
+body kind id index total contents = start kind id ++ numbers index total (length contents) ++ contents
+
+-- CRC-32/ISO-HDLC of all before it, big-endian
+unfoldable pub layout : ℕ → List ℕ → ℕ → ℕ → List ℕ → List ℕ
+layout kind id index total contents = body kind id index total contents ++ bigEndian 4 (crc32 (body kind id index total contents))

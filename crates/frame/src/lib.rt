@@ -1,0 +1,127 @@
+// One frame, read and laid out: document 01, "Frames".
+mod form;
+mod part;
+mod sum;
+
+ghost use mathlib.Core.Path.{_≡_};
+ghost use Prim.Native.Nat.{_+_};
+ghost use Rattle.wire.specs.Writing.{Written, bytes};
+ghost use Rattle.frame.specs.Frame.{frameOf, judged, inPlace, inSize};
+ghost use Rattle.frame.specs.Layout.{layout};
+ghost use Rattle.frame.specs.Answer.{told};
+use part::KindRead;
+use part::NumbersRead;
+use part::Step;
+use wire::Wrote;
+
+// The type bytes of source 6.
+pub const MAIN: u8 = 0x44;
+
+pub const KEY: u8 = 0x4B;
+
+pub const AUTH: u8 = 0x41;
+
+// House sizes.
+pub const MOST_PAGES: u64 = 96;
+
+pub const MOST_DATA: u64 = 480;
+
+pub enum FrameRead {
+    // The data stand in the input, len bytes from at on; the id always at bytes 4 to 11.
+    Frame {
+        kind: u8,
+        index: u64,
+        total: u64,
+        at: usize,
+        len: usize,
+    },
+    // 01's number of the refusal.
+    Refused {
+        no: u8,
+    },
+}
+
+fn in_place(kind: u8, index: u64, total: u64) -> bool
+    ensures { λ r. ⌜ r ≡ inPlace kind index total ⌝ }
+{
+    if total == 0 {
+        return false;
+    }
+    if total <= index {
+        return false;
+    }
+    if kind == MAIN {
+        return true;
+    }
+    total == 1
+}
+
+fn in_size(total: u64, len: u64) -> bool
+    ensures { λ r. ⌜ r ≡ inSize total len ⌝ }
+{
+    if MOST_PAGES < total {
+        return false;
+    }
+    len <= MOST_DATA
+}
+
+// What is left to judge once every field is there and the CRC is right; the data start at index at.
+fn judge(kind: u8, index: u64, total: u64, len: u64, at: usize) -> FrameRead
+    ensures { λ r. ⌜ told r ≡ judged kind (record { index = index; total = total; len = len }) at (at + len + 4) ⌝ }
+{
+    if !in_place(kind, index, total) {
+        return FrameRead::Refused {
+            no: wire::BAD_PLACE,
+        };
+    }
+    if !in_size(total, len) {
+        return FrameRead::Refused {
+            no: wire::TOO_LARGE,
+        };
+    }
+    FrameRead::Frame {
+        kind,
+        index,
+        total,
+        at,
+        len: len as usize,
+    }
+}
+
+// The frame that s is, all of s.
+pub fn read(s: &[u8]) -> FrameRead
+    ensures { λ r. ⌜ told r ≡ frameOf (now (s .entry)) ⌝ }
+{
+    let r1 = part::start(s);
+    let KindRead::Kind { kind, next: a } = r1 else {
+        return FrameRead::Refused {
+            no: part::kind_no(r1),
+        };
+    };
+    let r2 = part::numbers(s, a);
+    let NumbersRead::Numbers {
+        index,
+        total,
+        len,
+        next: b,
+    } = r2
+    else {
+        return FrameRead::Refused {
+            no: part::numbers_no(r2),
+        };
+    };
+    let r3 = part::data_and_sum(s, b, len);
+    let Step::At { next: _ } = r3 else {
+        return FrameRead::Refused {
+            no: part::step_no(r3),
+        };
+    };
+    judge(kind, index, total, len, b)
+}
+
+// The frame of these parts, whatever they are, at the front of out.
+pub fn lay(kind: u8, id: &[u8; 8], index: u64, total: u64, contents: &[u8], out: &mut [u8]) -> Wrote
+    ensures { λ r. ⌜ Written 0 (bytes (layout kind (now (id .entry)) index total (now (contents .entry)))) (now (out .entry)) (now (out .exit)) r ⌝ }
+{
+    form::lay(kind, id, index, total, contents, out)
+}

@@ -1,0 +1,221 @@
+// The fields of a frame, from left to right: the first fault decides.
+ghost use mathlib.Core.Path.{_≡_};
+ghost use Prim.Native.Nat.{_≤_};
+ghost use lib.ListN.{length};
+ghost use Rattle.wire.specs.Answer.{numberOf};
+ghost use Rattle.varint.specs.Answer as Varint;
+ghost use Rattle.frame.specs.Frame.{magicOf, versionAt, known, kindAt, idAt, startOf, numbersAt, dataAt};
+ghost use Rattle.frame.specs.Parts.{stepOf, kindOf, numbersOf};
+use super::sum;
+use varint::VarintRead;
+
+// A field that has no value, and the position past it.
+pub enum Step {
+    At { next: usize },
+    Refused { no: u8 },
+}
+
+pub enum KindRead {
+    Kind { kind: u8, next: usize },
+    Refused { no: u8 },
+}
+
+pub enum NumbersRead {
+    Numbers {
+        index: u64,
+        total: u64,
+        len: u64,
+        next: usize,
+    },
+    Refused {
+        no: u8,
+    },
+}
+
+// The number of a refusal, which leaves at once.
+pub(super) fn step_no(r: Step) -> u8
+    ensures { λ n. ⌜ n ≡ numberOf (stepOf r) ⌝ }
+{
+    match r {
+        Step::At { next: _ } => 0,
+        Step::Refused { no } => no,
+    }
+}
+
+pub(super) fn kind_no(r: KindRead) -> u8
+    ensures { λ n. ⌜ n ≡ numberOf (kindOf r) ⌝ }
+{
+    match r {
+        KindRead::Kind { kind: _, next: _ } => 0,
+        KindRead::Refused { no } => no,
+    }
+}
+
+pub(super) fn numbers_no(r: NumbersRead) -> u8
+    ensures { λ n. ⌜ n ≡ numberOf (numbersOf r) ⌝ }
+{
+    match r {
+        NumbersRead::Numbers {
+            index: _,
+            total: _,
+            len: _,
+            next: _,
+        } => 0,
+        NumbersRead::Refused { no } => no,
+    }
+}
+
+fn varint_no(r: VarintRead) -> u8
+    ensures { λ n. ⌜ n ≡ numberOf (Varint.told r) ⌝ }
+{
+    match r {
+        VarintRead::Value { n: _, next: _ } => 0,
+        VarintRead::Refused { no } => no,
+    }
+}
+
+fn magic(s: &[u8]) -> Step
+    ensures { λ r. ⌜ stepOf r ≡ magicOf (now (s .entry)) ⌝ }
+{
+    if s.len() < 2 {
+        return Step::Refused {
+            no: wire::CUT_OR_LEFT_OVER,
+        };
+    }
+    if lend::equal(&s[..2], b"AP") {
+        return Step::At { next: 2 };
+    }
+    Step::Refused {
+        no: wire::BAD_MAGIC,
+    }
+}
+
+fn version(s: &[u8], at: usize) -> Step
+    ensures { λ r. ⌜ stepOf r ≡ versionAt (now (s .entry)) at ⌝ }
+{
+    let r = varint::read(s, at);
+    let VarintRead::Value { n, next } = r else {
+        return Step::Refused { no: varint_no(r) };
+    };
+    if n == 1 {
+        return Step::At { next };
+    }
+    Step::Refused {
+        no: wire::BAD_VERSION,
+    }
+}
+
+fn is_known(kind: u8) -> bool
+    ensures { λ r. ⌜ r ≡ known kind ⌝ }
+{
+    if kind == super::MAIN {
+        return true;
+    }
+    if kind == super::KEY {
+        return true;
+    }
+    kind == super::AUTH
+}
+
+fn kind(s: &[u8], at: usize) -> KindRead
+    ensures { λ r. ⌜ kindOf r ≡ kindAt (now (s .entry)) at ⌝ }
+{
+    if s.len() <= at {
+        return KindRead::Refused {
+            no: wire::CUT_OR_LEFT_OVER,
+        };
+    }
+    if is_known(s[at]) {
+        return KindRead::Kind {
+            kind: s[at],
+            next: at + 1,
+        };
+    }
+    KindRead::Refused {
+        no: wire::BAD_FRAME_TYPE,
+    }
+}
+
+fn id(s: &[u8], at: usize) -> Step
+    requires { ⌜ at ≤ length (now s) ⌝ }
+    ensures { λ r. ⌜ stepOf r ≡ idAt (now (s .entry)) at ⌝ }
+{
+    if s.len() - at < 8 {
+        return Step::Refused {
+            no: wire::CUT_OR_LEFT_OVER,
+        };
+    }
+    Step::At { next: at + 8 }
+}
+
+// All before the varints.
+pub(super) fn start(s: &[u8]) -> KindRead
+    ensures { λ r. ⌜ kindOf r ≡ startOf (now (s .entry)) ⌝ }
+{
+    let r1 = magic(s);
+    let Step::At { next: a } = r1 else {
+        return KindRead::Refused { no: step_no(r1) };
+    };
+    let r2 = version(s, a);
+    let Step::At { next: b } = r2 else {
+        return KindRead::Refused { no: step_no(r2) };
+    };
+    let r3 = kind(s, b);
+    let KindRead::Kind { kind, next: c } = r3 else {
+        return KindRead::Refused { no: kind_no(r3) };
+    };
+    let r4 = id(s, c);
+    let Step::At { next: d } = r4 else {
+        return KindRead::Refused { no: step_no(r4) };
+    };
+    KindRead::Kind { kind, next: d }
+}
+
+// INDEX, TOTAL and DATA_LEN.
+pub(super) fn numbers(s: &[u8], at: usize) -> NumbersRead
+    ensures { λ r. ⌜ numbersOf r ≡ numbersAt (now (s .entry)) at ⌝ }
+{
+    let r1 = varint::read(s, at);
+    let VarintRead::Value { n: index, next: a } = r1 else {
+        return NumbersRead::Refused { no: varint_no(r1) };
+    };
+    let r2 = varint::read(s, a);
+    let VarintRead::Value { n: total, next: b } = r2 else {
+        return NumbersRead::Refused { no: varint_no(r2) };
+    };
+    let r3 = varint::read(s, b);
+    let VarintRead::Value { n: len, next: c } = r3 else {
+        return NumbersRead::Refused { no: varint_no(r3) };
+    };
+    NumbersRead::Numbers {
+        index,
+        total,
+        len,
+        next: c,
+    }
+}
+
+// The data, len bytes from at on, and the CRC of all before it. A length near 2^64 is compared, and never added to.
+pub(super) fn data_and_sum(s: &[u8], at: usize, len: u64) -> Step
+    requires { ⌜ at ≤ length (now s) ⌝ }
+    ensures { λ r. ⌜ stepOf r ≡ dataAt (now (s .entry)) at len ⌝ }
+{
+    let left = s.len() - at;
+    if left < 4 {
+        return Step::Refused {
+            no: wire::CUT_OR_LEFT_OVER,
+        };
+    }
+    if (left - 4) as u64 != len {
+        return Step::Refused {
+            no: wire::CUT_OR_LEFT_OVER,
+        };
+    }
+    let end = at + (len as usize);
+    if sum::stands(s, end) {
+        return Step::At { next: end + 4 };
+    }
+    Step::Refused {
+        no: wire::BAD_CHECKSUM,
+    }
+}

@@ -1,0 +1,58 @@
+-- How many pages there are, as the code tests it. Assumes nothing.
+use Prim.Native.Nat.{ℕ, zero, suc, _+_, _-_, _*_, _/_, _≤_, _<_}
+use mathlib.Core.Path.{_≡_, refl, sym, ap, _∙_}
+use mathlib.Core.Bool.{Bool, true, false, _&&_}
+use mathlib.Core.List.{List, [], _∷_}
+use native.Mathlib.Nat.{add-mul-div-right, one-mul}
+use native.Mathlib.Omega.{arith}
+use borrow.Author.Tests.{lt-ltb, le-ltb, le-leb, lt-leb}
+use lib.Dec.{ltb, leb}
+use lib.ListN.{length, take, getD}
+use Rattle.page.specs.Page.{pageCount, printable, Counted, pages, unprintable, countOf}
+
+-- one more than the pages before the last
+pub count-is : (n size : ℕ) → 0 < n → 0 < size → pageCount n size ≡ (n - 1) / size + 1
+unfolding pageCount
+count-is n size h z =
+    let e : n + (size - 1) ≡ (n - 1) + 1 * size = omega (arith, one-mul size) in
+    ap (λ (x : ℕ). x / size) e ∙ add-mul-div-right (n - 1) 1 z
+
+module _ (n size : ℕ) where
+  -- the three ways to have no pages
+  pub nothing : n ≡ 0 → unprintable 19 ≡ countOf n size
+  unfolding countOf printable
+  nothing e = rw (le-ltb 0 n (omega arith))
+
+  pub no-size : 0 < n → size ≡ 0 → unprintable 19 ≡ countOf n size
+  unfolding countOf printable
+  no-size h e = rw (lt-ltb 0 n h, le-ltb 0 size (omega arith))
+
+  pub large-size : 0 < n → 0 < size → 480 < size → unprintable 19 ≡ countOf n size
+  unfolding countOf printable
+  large-size h z l = rw (lt-ltb 0 n h, lt-ltb 0 size z, lt-leb size 480 l)
+
+  module _ (h : 0 < n) (z : 0 < size) (l : size ≤ 480) where
+    in-print : printable n size ≡ true
+    unfolding printable
+    in-print = rw (lt-ltb 0 n h, lt-ltb 0 size z, le-leb size 480 l)
+
+    pub too-many : 96 ≤ (n - 1) / size → unprintable 9 ≡ countOf n size
+    unfolding countOf
+    too-many m = rw (in-print, count-is n size h z, lt-leb ((n - 1) / size + 1) 96 (omega arith))
+
+    pub few-enough : (n - 1) / size < 96 → pages ((n - 1) / size + 1) ≡ countOf n size
+    unfolding countOf
+    few-enough m = rw (in-print, count-is n size h z, le-leb ((n - 1) / size + 1) 96 (omega arith))
+
+-- the first eight elements of a list that has them
+pub first-eight : (l : List ℕ) → 8 ≤ length l
+    → getD l 0 0 ∷ getD l 1 0 ∷ getD l 2 0 ∷ getD l 3 0 ∷ getD l 4 0 ∷ getD l 5 0 ∷ getD l 6 0 ∷ getD l 7 0 ∷ [] ≡ take 8 l
+first-eight [] h = absurd (omega arith)
+first-eight (a ∷ []) h = absurd (omega arith)
+first-eight (a ∷ b ∷ []) h = absurd (omega arith)
+first-eight (a ∷ b ∷ c ∷ []) h = absurd (omega arith)
+first-eight (a ∷ b ∷ c ∷ d ∷ []) h = absurd (omega arith)
+first-eight (a ∷ b ∷ c ∷ d ∷ e ∷ []) h = absurd (omega arith)
+first-eight (a ∷ b ∷ c ∷ d ∷ e ∷ f ∷ []) h = absurd (omega arith)
+first-eight (a ∷ b ∷ c ∷ d ∷ e ∷ f ∷ g ∷ []) h = absurd (omega arith)
+first-eight (a ∷ b ∷ c ∷ d ∷ e ∷ f ∷ g ∷ i ∷ l) h = refl

@@ -1,0 +1,82 @@
+-- What a page's answer is, from the tests that the code makes. Assumes nothing.
+use Prim.Native.Nat.{ℕ, zero, suc, _+_, _-_, _*_, _≤_, _<_, min}
+use mathlib.Core.Path.{_≡_, refl, sym, ap, _∙_}
+use mathlib.Core.Bool.{Bool, true, false, _&&_}
+use mathlib.Core.Logic.{⊎-elim}
+use mathlib.Core.List.{List}
+use native.Mathlib.Nat.{mul-le-mul-right}
+use native.Mathlib.Omega.{arith}
+use borrow.Author.Tests.{lt-ltb, le-ltb, ltb-true, leb-true}
+use lib.Dec.{ltb, leb}
+use lib.ListN.{length, take, drop, length-drop}
+use lib.Seq.{take-all}
+use Rattle.wire.specs.Answer.{choose}
+use Rattle.wire.specs.Writing.{Verdict, bytes, fault}
+use Rattle.wire.proofs.Cases.{lt-or-le}
+use Rattle.frame.specs.Layout.{layout}
+use Rattle.page.specs.Page.{documentId, pageCount, pageData, printable, Counted, pages, unprintable, countOf, pageOf, pageVerdict}
+use Rattle.page.proofs.Pages.{count-fewest}
+
+and-true : (a b : Bool) → (a && b) ≡ true → (a ≡ true) × (b ≡ true)
+and-true true b e = (refl, e)
+and-true false b e = let z : _≡_ {A = ℕ} 0 1 = cc in absurd (omega arith)
+
+printable-facts : (n size : ℕ) → printable n size ≡ true → (0 < n) × (0 < size) × (size ≤ 480)
+unfolding printable
+printable-facts n size e =
+    let a = and-true (ltb 0 n) (ltb 0 size && leb size 480) e in
+    let b = and-true (ltb 0 size) (leb size 480) (a .1) in
+    (ltb-true 0 n (a .0), ltb-true 0 size (b .0), leb-true size 480 (b .1))
+
+-- where there are pages, all that was asked for holds
+pub counted-facts : (n size k : ℕ) → pages k ≡ countOf n size → (0 < n) × (0 < size) × (size ≤ 480) × (k ≡ pageCount n size) × (k ≤ 96)
+unfolding countOf
+counted-facts n size k e = go (printable n size) (leb (pageCount n size) 96) refl refl e
+  where
+    go : (a b : Bool) → printable n size ≡ a → leb (pageCount n size) 96 ≡ b → pages k ≡ choose a (choose b (pages (pageCount n size)) (unprintable 9)) (unprintable 19)
+        → (0 < n) × (0 < size) × (size ≤ 480) × (k ≡ pageCount n size) × (k ≤ 96)
+    go true true p q h =
+        let f = printable-facts n size p in
+        let s : k ≡ pageCount n size = cc in
+        (f .0, f .1, f .2, s, omega (arith, leb-true (pageCount n size) 96 q))
+    go true false p q h = let z : _≡_ {A = ℕ} 0 1 = cc in absurd (omega arith)
+    go false b p q h = let z : _≡_ {A = ℕ} 0 1 = cc in absurd (omega arith)
+
+module _ (c : List ℕ) (size number : ℕ) where
+  pub refused-count : (e : ℕ) → unprintable e ≡ countOf (length c) size → pageVerdict c size number ≡ fault e
+  unfolding pageVerdict
+  refused-count e h = rw (← h)
+
+  module _ (n : ℕ) (h : pages n ≡ countOf (length c) size) where
+    pub no-page : n ≤ number → pageVerdict c size number ≡ fault 8
+    unfolding pageVerdict
+    no-page l = rw (← h, le-ltb number n l)
+
+    pub page-is : number < n → pageVerdict c size number ≡ bytes (layout 0x44 (documentId c) number n (pageData c size number))
+    unfolding pageVerdict
+    page-is l = rw (← h, lt-ltb number n l)
+
+    -- it starts within the ciphertext
+    pub page-start : number < n → (number * size ≤ length c) × (number * size < 46081)
+    page-start l =
+        let f = counted-facts (length c) size n h in
+        let t : number ≤ pageCount (length c) size - 1 = omega (arith, f .3) in
+        let m : number ≤ 96 = omega (arith, f .4) in (
+          omega (arith, mul-le-mul-right size t, count-fewest (length c) size (f .1) (f .0)),
+          omega (arith, mul-le-mul-right size m, f .2),
+        )
+
+-- the part of the ciphertext from a page's start to its end
+pub page-part : (c : List ℕ) (size number k : ℕ) → k ≡ min size (length c - number * size) → take k (drop (number * size) c) ≡ pageData c size number
+unfolding pageData
+page-part c size number k e = ⊎-elim short full (lt-or-le (length c - number * size) size)
+  where
+    short : length c - number * size < size → take k (drop (number * size) c) ≡ take size (drop (number * size) c)
+    short l =
+        let n = length-drop (number * size) c in
+        take-all k (drop (number * size) c) (omega arith) ∙ sym (take-all size (drop (number * size) c) (omega arith))
+
+    full : size ≤ length c - number * size → take k (drop (number * size) c) ≡ take size (drop (number * size) c)
+    full l =
+        let q : k ≡ size = omega arith in
+        ap (λ (x : ℕ). take x (drop (number * size) c)) q

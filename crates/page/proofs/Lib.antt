@@ -1,0 +1,5 @@
+pub mod Pages
+pub mod Counts
+pub mod Cutting
+pub mod Typing
+pub mod Round

@@ -1,0 +1,68 @@
+-- A page through a text form: the frame is made in a room of its own, which always suffices. Assumes nothing.
+use Prim.Native.Nat.{ℕ, _+_, _-_, _≤_, _<_}
+use mathlib.Core.Path.{_≡_, refl, sym, ap, _∙_}
+use mathlib.Core.Bool.{Bool, true, false}
+use mathlib.Core.Logic.{_⊎_, inl, inr, ⊎-elim}
+use mathlib.Core.List.{List}
+use native.Mathlib.Omega.{arith}
+use borrow.Author.Tests.{ltb-true}
+use lib.Dec.{ltb}
+use lib.ListN.{length, take, drop}
+use lib.Seq.{length-take-le}
+use Rattle.wire.specs.Answer.{choose}
+use Rattle.wire.specs.Over.{over}
+use Rattle.wire.specs.Writing.{Verdict, bytes, fault, Written}
+use Rattle.wire.specs.declared.Wrote.{Wrote}
+use Rattle.wire.specs.declared.Wrote.the-variants.{Done, Refused}
+use Rattle.wire.proofs.Cases.{lt-or-le}
+use Rattle.wire.proofs.Overs.{read-over}
+use Rattle.wire.proofs.Writes.{bytes-injective, Stood, done-stood, refused-why, denied}
+use Rattle.text.specs.Text.{Form, textOf}
+use Rattle.varint.proofs.Lengths.{varint-length-two}
+use Rattle.blake2b.specs.Blake2b.{blake2b}
+use Rattle.blake2b.proofs.Output.{length-blake2b}
+use Rattle.frame.specs.Layout.{layout}
+use Rattle.frame.proofs.Lengths.{layout-length-short}
+use Rattle.page.specs.Page.{documentId, pageData, Counted, pages, unprintable, countOf, pageVerdict, typed}
+use Rattle.page.proofs.Pages.{page-length}
+use Rattle.page.proofs.Cutting.{counted-facts, refused-count, no-page, page-is}
+
+pub id-length : (c : List ℕ) → length (documentId c) ≡ 8
+unfolding documentId
+id-length c = length-take-le 8 (blake2b c) (omega (arith, length-blake2b c))
+
+not-both : {P : Type 0} {v : Verdict} {bs : List ℕ} {e : ℕ} → v ≡ bytes bs → v ≡ fault e → P
+not-both p q = let z : _≡_ {A = ℕ} 0 1 = cc in absurd (omega arith)
+
+-- a frame of a page has at most 500 bytes
+pub frame-short : (c : List ℕ) (size number : ℕ) (bs : List ℕ) → pageVerdict c size number ≡ bytes bs → length bs ≤ 500
+frame-short c size number bs e = go (countOf (length c) size) refl
+  where
+    laid : (n : ℕ) → pages n ≡ countOf (length c) size → number < n → length (layout 0x44 (documentId c) number n (pageData c size number)) ≤ 500
+    laid n h l =
+        let f = counted-facts (length c) size n h in
+        let d = page-length c size (f .1) number in
+        omega (arith, f .2, f .4, layout-length-short 0x44 (documentId c) number n (pageData c size number) (id-length c) (omega (arith, f .4)) (omega (arith, f .4)), varint-length-two (length (pageData c size number)) (omega (arith, f .2)))
+
+    go : (k : Counted) → countOf (length c) size ≡ k → length bs ≤ 500
+    go (unprintable f) h = not-both e (refused-count c size number f (sym h))
+    go (pages n) h =
+        ⊎-elim (λ l. rw (bytes-injective (sym e ∙ page-is c size number n (sym h) l)) (laid n (sym h) l))
+        (λ l. not-both e (no-page c size number n (sym h) l)) (lt-or-le number n)
+
+-- the frame was made, and its text is what is written
+pub typed-done : (f : Form) (v : Verdict) (room room' : List ℕ) (n : ℕ) (out out' : List ℕ) (r : Wrote) → Stood 0 v room room' n
+    → Written 0 (bytes (textOf f (take (n - 0) (drop 0 room')))) out out' r → Written 0 (typed f v) out out' r
+typed-done f v room room' n out out' r s w =
+    let bs = s .what in
+    let l : 0 + length bs ≤ length room = omega (arith, s .fits, s .count) in
+    let z : n - 0 ≡ n = omega arith in
+    let e : take (n - 0) (drop 0 room') ≡ bs = ap (λ (k : ℕ). take k (drop 0 room')) z ∙ ap (λ (x : List ℕ). take n (drop 0 x)) (s .stands) ∙ ap (λ (k : ℕ). take k (drop 0 (over 0 bs room))) (s .count) ∙ read-over 0 bs room l in
+    rw (s .meant) (rw e at w)
+
+-- it was refused, and so is the text
+pub typed-refused : (f : Form) (c : List ℕ) (size number : ℕ) (room room' : List ℕ) (e : ℕ) (out : List ℕ) → 500 ≤ length room
+    → Written 0 (pageVerdict c size number) room room' (Refused e) → Written 0 (typed f (pageVerdict c size number)) out out (Refused e)
+typed-refused f c size number room room' e out h w =
+    ⊎-elim (λ q. rw q (denied 0 out e)) (λ q. absurd (omega (arith, q .2, frame-short c size number (q .0) (q .1), h)))
+    (refused-why 0 (pageVerdict c size number) room room' e w)

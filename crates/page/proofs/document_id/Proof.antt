@@ -1,0 +1,61 @@
+-- `page::document_id` meets its contract. Assumes nothing.
+use mathlib.Core.Path.{ap, _∙_}
+use native.Mathlib.Omega.{arith}
+use borrow.Author.Needs.{needs}
+use lib.ListN.{length, take}
+use Rattle.blake2b.proofs.Output.{length-blake2b}
+use Rattle.page.specs.Page.{documentId}
+use Rattle.page.proofs.Counts.{first-eight}
+use Rattle.page.proofs.document_id.Statement.{statement}
+use Rattle.page.proofs.document_id.Tie as tie
+use Rattle.page.proofs.document_id.Reads as reads
+use Rattle.page.proofs.document_id.Lts as lts
+use Rattle.blake2b.proofs.blake2b.Reads as blake2b-reads
+
+blake2b-requires : tie.Need-blake2b-requires
+blake2b-requires c κs = search needs
+
+array-read-t6 : tie.Need-array-read-t6
+array-read-t6 c = search needs
+
+array-read-t9 : tie.Need-array-read-t9
+array-read-t9 c = search needs
+
+array-read-t12 : tie.Need-array-read-t12
+array-read-t12 c = search needs
+
+array-read-t15 : tie.Need-array-read-t15
+array-read-t15 c = search needs
+
+array-read-t18 : tie.Need-array-read-t18
+array-read-t18 c = search needs
+
+array-read-t21 : tie.Need-array-read-t21
+array-read-t21 c = search needs
+
+array-read-t24 : tie.Need-array-read-t24
+array-read-t24 c = search needs
+
+array-read-t27 : tie.Need-array-read-t27
+array-read-t27 c = search needs
+
+returns : tie.Need-returns
+unfolding documentId
+returns c =
+    let d = c .blake2b in
+    first-eight (d .result) (omega (arith, ap length (d .ensures), length-blake2b (c .before .before .args .c .now))) ∙ ap (take 8) (d .ensures)
+
+pub document-id-spec : {M : Type 1} → statement M
+document-id-spec =
+    tie.close
+    (tie.spec
+    blake2b-requires
+    array-read-t6
+    array-read-t9
+    array-read-t12
+    array-read-t15
+    array-read-t18
+    array-read-t21
+    array-read-t24
+    array-read-t27
+    returns)

@@ -1,0 +1,125 @@
+// A document's pages: document 01, "Frames", the paragraph "Printing".
+ghost use mathlib.Core.Path.{_≡_};
+ghost use Prim.Native.Nat.{_-_, _≤_, min};
+ghost use Rattle.wire.specs.Writing.{Written};
+ghost use Rattle.text.specs.Text.{base64, zbase32};
+ghost use Rattle.page.specs.Page.{documentId, countOf, pageVerdict, typed};
+ghost use Rattle.page.specs.Answer.{told, numberOf};
+use wire::Wrote;
+
+// The id is the front of the digest of the whole ciphertext.
+pub fn document_id(c: &[u8]) -> [u8; 8]
+    ensures { λ r. ⌜ r ≡ documentId (now (c .entry)) ⌝ }
+{
+    let d = blake2b::blake2b(c);
+    [d[0], d[1], d[2], d[3], d[4], d[5], d[6], d[7]]
+}
+
+pub enum PageCount {
+    Pages { n: usize },
+    // 01's number of the refusal.
+    Refused { no: u8 },
+}
+
+// How many pages of size bytes hold a ciphertext of n bytes.
+pub fn count(n: usize, size: usize) -> PageCount
+    ensures { λ r. ⌜ told r ≡ countOf n size ⌝ }
+{
+    if n == 0 {
+        return PageCount::Refused {
+            no: wire::OUT_OF_RANGE,
+        };
+    }
+    if size == 0 {
+        return PageCount::Refused {
+            no: wire::OUT_OF_RANGE,
+        };
+    }
+    if 480 < size {
+        return PageCount::Refused {
+            no: wire::OUT_OF_RANGE,
+        };
+    }
+    let before_last = (n - 1) / size;
+    if 96 <= before_last {
+        return PageCount::Refused {
+            no: wire::TOO_LARGE,
+        };
+    }
+    PageCount::Pages { n: before_last + 1 }
+}
+
+fn count_no(r: PageCount) -> u8
+    ensures { λ n. ⌜ n ≡ numberOf (told r) ⌝ }
+{
+    match r {
+        PageCount::Pages { n: _ } => 0,
+        PageCount::Refused { no } => no,
+    }
+}
+
+// Where a page ends that starts at `start`: every page but the last is full.
+fn page_end(start: usize, size: usize, n: usize) -> usize
+    requires { ⌜ start ≤ n ⌝ }
+    ensures { λ r. ⌜ (start ≤ r) × (r ≤ n) × (r - start ≡ min size (n - start)) ⌝ }
+{
+    if size < n - start {
+        return start + size;
+    }
+    n
+}
+
+// Page `number` of the document, as a frame at the front of out.
+pub fn write(c: &[u8], size: usize, number: usize, out: &mut [u8]) -> Wrote
+    ensures { λ r. ⌜ Written 0 (pageVerdict (now (c .entry)) size number) (now (out .entry)) (now (out .exit)) r ⌝ }
+{
+    let counted = count(c.len(), size);
+    let PageCount::Pages { n } = counted else {
+        return Wrote::Refused {
+            no: count_no(counted),
+        };
+    };
+    if n <= number {
+        return Wrote::Refused {
+            no: wire::BAD_PLACE,
+        };
+    }
+    let start = number * size;
+    let end = page_end(start, size, c.len());
+    let id = document_id(c);
+    frame::lay(
+        frame::MAIN,
+        &id,
+        number as u64,
+        n as u64,
+        &c[start..end],
+        out,
+    )
+}
+
+// No frame of a page has more bytes.
+const FRAME_ROOM: usize = 512;
+
+// The page as the text of its code square.
+pub fn write_base64(c: &[u8], size: usize, number: usize, out: &mut [u8]) -> Wrote
+    ensures { λ r. ⌜ Written 0 (typed base64 (pageVerdict (now (c .entry)) size number)) (now (out .entry)) (now (out .exit)) r ⌝ }
+{
+    let mut room = [0u8; FRAME_ROOM];
+    let made = write(c, size, number, &mut room);
+    let Wrote::Done { len } = made else {
+        return made;
+    };
+    text::base64_write(&room[0..len], out)
+}
+
+// The page as the text that is typed below the square.
+pub fn write_zbase32(c: &[u8], size: usize, number: usize, out: &mut [u8]) -> Wrote
+    ensures { λ r. ⌜ Written 0 (typed zbase32 (pageVerdict (now (c .entry)) size number)) (now (out .entry)) (now (out .exit)) r ⌝ }
+{
+    let mut room = [0u8; FRAME_ROOM];
+    let made = write(c, size, number, &mut room);
+    let Wrote::Done { len } = made else {
+        return made;
+    };
+    text::zbase32_write(&room[0..len], out)
+}
