@@ -1,6 +1,6 @@
 -- `same` is true of equal lists alone, and how a loop comes to know it. Assumes nothing.
 use mathlib.Core.Path.{_≡_, refl, sym, ap, ap₂, _∙_}
-use mathlib.Core.Bool.{Bool, true, false, _&&_}
+use mathlib.Core.Bool.{Bool, true, false}
 use mathlib.Core.List.{List, [], _∷_}
 use Prim.Native.Nat.{ℕ, suc, _+_, _≤_, _<_}
 use native.Mathlib.Numerals.{add-one}
@@ -9,15 +9,8 @@ use lib.ListN.{length, drop, getD, drop-of-length-le}
 use lib.Seq.{drop-cons}
 use lib.Dec.{eqb}
 use borrow.Author.Tests.{eqb-true, eq-eqb, ne-eqb}
+use Rattle.wire.proofs.Cases.{both-hold}
 use Rattle.lend.specs.Same.{same}
-
-both-first : (a b : Bool) → a && b ≡ true → a ≡ true
-both-first true b e = refl
-both-first false b e = e
-
-both-second : (a b : Bool) → a && b ≡ true → b ≡ true
-both-second true b e = e
-both-second false b e = cc
 
 pub same-refl : (xs : List ℕ) → same xs xs ≡ true
 unfolding same
@@ -30,8 +23,9 @@ same-eq [] [] e = refl
 same-eq [] (y ∷ ys) e = cc
 same-eq (x ∷ xs) [] e = cc
 same-eq (x ∷ xs) (y ∷ ys) e =
-    let h : x ≡ y = eqb-true x y (both-first (eqb x y) (same xs ys) e) in
-    let t : xs ≡ ys = same-eq xs ys (both-second (eqb x y) (same xs ys) e) in
+    let b = both-hold (eqb x y) (same xs ys) e in
+    let h : x ≡ y = eqb-true x y (b .0) in
+    let t : xs ≡ ys = same-eq xs ys (b .1) in
     cc
 
 -- lists of different lengths differ

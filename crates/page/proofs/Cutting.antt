@@ -12,20 +12,16 @@ use lib.ListN.{length, take, drop, length-drop}
 use lib.Seq.{take-all}
 use Rattle.wire.specs.Answer.{choose}
 use Rattle.wire.specs.Writing.{Verdict, bytes, fault}
-use Rattle.wire.proofs.Cases.{lt-or-le}
+use Rattle.wire.proofs.Cases.{lt-or-le, both-hold}
 use Rattle.frame.specs.Layout.{layout}
 use Rattle.page.specs.Page.{documentId, pageCount, pageData, printable, Counted, pages, unprintable, countOf, pageOf, pageVerdict}
 use Rattle.page.proofs.Pages.{count-fewest}
 
-and-true : (a b : Bool) → (a && b) ≡ true → (a ≡ true) × (b ≡ true)
-and-true true b e = (refl, e)
-and-true false b e = let z : _≡_ {A = ℕ} 0 1 = cc in absurd (omega arith)
-
 printable-facts : (n size : ℕ) → printable n size ≡ true → (0 < n) × (0 < size) × (size ≤ 480)
 unfolding printable
 printable-facts n size e =
-    let a = and-true (ltb 0 n) (ltb 0 size && leb size 480) e in
-    let b = and-true (ltb 0 size) (leb size 480) (a .1) in
+    let a = both-hold (ltb 0 n) (ltb 0 size && leb size 480) e in
+    let b = both-hold (ltb 0 size) (leb size 480) (a .1) in
     (ltb-true 0 n (a .0), ltb-true 0 size (b .0), leb-true size 480 (b .1))
 
 -- where there are pages, all that was asked for holds

@@ -1,7 +1,7 @@
 -- Characters and their values, each from the other. Assumes nothing.
 use Prim.Native.Nat.{ℕ, zero, suc, _+_, _^_, _≤_, _<_}
 use mathlib.Core.Path.{_≡_, refl, sym, ap, ap₂, _∙_}
-use mathlib.Core.Bool.{Bool, true, false, _&&_, false≢true}
+use mathlib.Core.Bool.{Bool, true, false, _&&_}
 use mathlib.Core.List.{List, [], _∷_, _++_, map, map-append}
 use native.Mathlib.Nat.{le-of-suc-le-suc}
 use native.Mathlib.Omega.{arith}
@@ -10,14 +10,11 @@ use lib.Dec.{ltb, eqb}
 use lib.ListN.{length, getD}
 use Rattle.wire.specs.Answer.{choose}
 use Rattle.wire.specs.Number.{Digits}
+use Rattle.wire.proofs.Cases.{both-hold}
 use Rattle.text.specs.Text.{Form, skipped, kept, place, value, values, letter, below}
 use Rattle.text.proofs.Forms.{Lawful}
 
 -- ---- all below a bound, as a test and as a fact
-
-and-true : (a b : Bool) → (a && b) ≡ true → (a ≡ true) × (b ≡ true)
-and-true true b e = (refl, e)
-and-true false b e = (e, absurd (false≢true e))
 
 pub below-true : (n : ℕ) (vs : List ℕ) → Digits n vs → below n vs ≡ true
 unfolding below
@@ -27,8 +24,8 @@ below-true n (v ∷ vs) all = rw (lt-ltb v n (all 0)) (below-true n vs (λ i. al
 pub below-all : (n : ℕ) (vs : List ℕ) → 0 < n → below n vs ≡ true → Digits n vs
 unfolding below
 below-all n [] z e i = z
-below-all n (v ∷ vs) z e zero = ltb-true v n (and-true (ltb v n) (below n vs) e .0)
-below-all n (v ∷ vs) z e (suc i) = below-all n vs z (and-true (ltb v n) (below n vs) e .1) i
+below-all n (v ∷ vs) z e zero = ltb-true v n (both-hold (ltb v n) (below n vs) e .0)
+below-all n (v ∷ vs) z e (suc i) = below-all n vs z (both-hold (ltb v n) (below n vs) e .1) i
 
 -- ---- a character that is allowed stands in the alphabet at its value
 
