@@ -7,6 +7,7 @@
 mod forms;
 mod frames;
 mod parts;
+mod payloads;
 mod reading;
 mod reply;
 mod sums;
@@ -39,6 +40,10 @@ fn call(line: &[u8], starts: &[usize], pool: &[u8], room: &mut [u8], out: &mut [
         return n;
     }
     let n = frames::call(line, starts, pool, room, out);
+    if n > 0 {
+        return n;
+    }
+    let n = payloads::call(line, starts, pool, room, out);
     if n > 0 {
         return n;
     }

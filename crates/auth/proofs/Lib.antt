@@ -1,0 +1,4 @@
+pub mod Answers
+pub mod Lengths
+pub mod Writers
+pub mod Rounds

@@ -1,0 +1,9 @@
+-- What `claim` and `read` answer, as document 01's number and values.
+use Rattle.wire.specs.Answer.{Got, got, refused}
+use Rattle.auth.specs.Auth.{Claim}
+use Rattle.auth.specs.declared.ClaimRead.{ClaimRead}
+use Rattle.auth.specs.declared.ClaimRead.the-variants.{Value, Refused}
+
+abbrev pub claimTold : ClaimRead → Got Claim
+claimTold (Value public sig hash next) = got (record { public = public; sig = sig; hash = hash }) next
+claimTold (Refused e) = refused e

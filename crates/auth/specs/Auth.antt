@@ -1,0 +1,61 @@
+-- The auth payload and the bytes that get signed: document 01, "CBOR payloads" (source 8).
+use Prim.Native.Nat.{ℕ}
+use mathlib.Core.List.{List, [], _∷_, _++_}
+use lib.Dec.{eqb, leb}
+use lib.ListN.{length}
+use Rattle.wire.specs.Answer.{choose, Got, got, then}
+use Rattle.wire.specs.Writing.{Verdict, bytes, fault}
+use Rattle.cbor.specs.Form.{stringFieldOf, numberFieldOf}
+use Rattle.cbor.specs.Item.{demand, oneAt, stringFieldAt, numberFieldAt}
+use Rattle.cbor.specs.Names.{pubKey, sigKey, hashKey, versionKey}
+
+-- who signed what: where pub, sig and hash start. They are 32, 64 and 32 bytes
+pub record Claim : Type 0 where
+  pub public : ℕ
+  pub sig : ℕ
+  pub hash : ℕ
+
+-- `pub`, `sig`, `hash`: a shard has them too
+unfoldable pub claimAt : List ℕ → ℕ → Got Claim
+claimAt s at =
+    then (stringFieldAt s at pubKey 2 32 32 19) (λ public a.
+    then (stringFieldAt s a sigKey 2 64 64 19) (λ sig b.
+    then (stringFieldAt s b hashKey 2 32 32 19) (λ hash next.
+    got (record { public = public .start; sig = sig .start; hash = hash .start }) next)))
+
+-- head A4: the three and `version`, which is 1, and nothing after
+unfoldable pub authAt : List ℕ → Got Claim
+authAt s =
+    then (oneAt s 0 0xA4) (λ _ a.
+    then (claimAt s a) (λ claim b.
+    then (numberFieldAt s b versionKey 1 1) (λ _ next.
+    demand (eqb next (length s)) 3 (got claim next))))
+
+-- the same, written
+unfoldable pub authOf : List ℕ → List ℕ → List ℕ → List ℕ
+authOf public sig hash =
+    (0xA4 ∷ [])
+    ++ (stringFieldOf pubKey 2 public ++ (stringFieldOf sigKey 2 sig ++ (stringFieldOf hashKey 2 hash ++ numberFieldOf versionKey 1)))
+
+-- a value of another length is 19, in the order of the keys; then a payload above 480 bytes is 9
+unfoldable pub authVerdict : List ℕ → List ℕ → List ℕ → Verdict
+authVerdict public sig hash =
+    choose (eqb (length public) 32)
+    (choose (eqb (length sig) 64)
+    (choose (eqb (length hash) 32) (choose (leb (length (authOf public sig hash)) 480) (bytes (authOf public sig hash)) (fault 9)) (fault 19))
+    (fault 19))
+    (fault 19)
+
+-- `ETHERNITY-AUTH-V1`
+abbrev pub authDomain : List ℕ
+authDomain = 69 ∷ 84 ∷ 72 ∷ 69 ∷ 82 ∷ 78 ∷ 73 ∷ 84 ∷ 89 ∷ 45 ∷ 65 ∷ 85 ∷ 84 ∷ 72 ∷ 45 ∷ 86 ∷ 49 ∷ []
+
+-- signed bytes: the domain, then the map without `sig`, head A3
+unfoldable pub signedOf : List ℕ → List ℕ → List ℕ
+signedOf public hash =
+    authDomain ++ ((0xA3 ∷ []) ++ (stringFieldOf pubKey 2 public ++ (stringFieldOf hashKey 2 hash ++ numberFieldOf versionKey 1)))
+
+-- the values are judged as by the writer, sig apart
+unfoldable pub signedVerdict : List ℕ → List ℕ → Verdict
+signedVerdict public hash =
+    choose (eqb (length public) 32) (choose (eqb (length hash) 32) (bytes (signedOf public hash)) (fault 19)) (fault 19)

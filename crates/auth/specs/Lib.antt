@@ -1,0 +1,2 @@
+pub mod Auth
+pub mod Answer

@@ -1,0 +1,180 @@
+// The auth payload, read and written, and the bytes that get signed: document 01, "CBOR payloads".
+ghost use mathlib.Core.Path.{_≡_};
+ghost use Prim.Native.Nat.{_≤_};
+ghost use lib.ListN.{length};
+ghost use Rattle.wire.specs.Answer.{numberOf};
+ghost use Rattle.wire.specs.Over.{over};
+ghost use Rattle.wire.specs.Writing.{Written};
+ghost use Rattle.auth.specs.Auth.{claimAt, authAt, authOf, authVerdict, signedOf, signedVerdict};
+ghost use Rattle.auth.specs.Answer.{claimTold};
+use cbor::BYTES;
+use cbor::NumberRead;
+use cbor::StepRead;
+use cbor::StringRead;
+use cbor::number_no;
+use cbor::step_no;
+use cbor::string_no;
+use wire::OUT_OF_RANGE;
+use wire::Wrote;
+
+pub enum ClaimRead {
+    // Where pub, sig and hash start, which are 32, 64 and 32 bytes, and the position past them.
+    Value {
+        public: usize,
+        sig: usize,
+        hash: usize,
+        next: usize,
+    },
+    // 01's number of the refusal.
+    Refused {
+        no: u8,
+    },
+}
+
+// The number of a refusal, for a caller's `else`.
+pub fn claim_no(r: ClaimRead) -> u8
+    ensures { λ n. ⌜ n ≡ numberOf (claimTold r) ⌝ }
+{
+    match r {
+        ClaimRead::Value {
+            public: _,
+            sig: _,
+            hash: _,
+            next: _,
+        } => 0,
+        ClaimRead::Refused { no } => no,
+    }
+}
+
+// The fields pub, sig and hash at position at.
+pub fn claim(s: &[u8], at: usize) -> ClaimRead
+    ensures { λ r. ⌜ claimTold r ≡ claimAt (now (s .entry)) at ⌝ }
+{
+    let p = cbor::read::string_field(s, at, b"pub", BYTES, 32, 32, OUT_OF_RANGE);
+    let StringRead::Value {
+        start: public,
+        len: _,
+        next: a,
+    } = p
+    else {
+        return ClaimRead::Refused { no: string_no(p) };
+    };
+    let g = cbor::read::string_field(s, a, b"sig", BYTES, 64, 64, OUT_OF_RANGE);
+    let StringRead::Value {
+        start: sig,
+        len: _,
+        next: b,
+    } = g
+    else {
+        return ClaimRead::Refused { no: string_no(g) };
+    };
+    let h = cbor::read::string_field(s, b, b"hash", BYTES, 32, 32, OUT_OF_RANGE);
+    let StringRead::Value {
+        start: hash,
+        len: _,
+        next,
+    } = h
+    else {
+        return ClaimRead::Refused { no: string_no(h) };
+    };
+    ClaimRead::Value {
+        public,
+        sig,
+        hash,
+        next,
+    }
+}
+
+// The whole payload: its claim, and the length of s as the position past it.
+pub fn read(s: &[u8]) -> ClaimRead
+    ensures { λ r. ⌜ claimTold r ≡ authAt (now (s .entry)) ⌝ }
+{
+    let m = cbor::read::one_byte(s, 0, 0xA4);
+    let StepRead::Past { next: a } = m else {
+        return ClaimRead::Refused { no: step_no(m) };
+    };
+    let c = claim(s, a);
+    let ClaimRead::Value {
+        public,
+        sig,
+        hash,
+        next: b,
+    } = c
+    else {
+        return ClaimRead::Refused { no: claim_no(c) };
+    };
+    let v = cbor::read::number_field(s, b, b"version", 1, 1);
+    let NumberRead::Value { n: _, next } = v else {
+        return ClaimRead::Refused { no: number_no(v) };
+    };
+    if next != s.len() {
+        return ClaimRead::Refused {
+            no: wire::CUT_OR_LEFT_OVER,
+        };
+    }
+    ClaimRead::Value {
+        public,
+        sig,
+        hash,
+        next,
+    }
+}
+
+fn write_fitting(public: &[u8], sig: &[u8], hash: &[u8], out: &mut [u8])
+    requires { ⌜ length (authOf (now public) (now sig) (now hash)) ≤ length (now out) ⌝ }
+    ensures { λ _. ⌜ now (out .exit) ≡ over 0 (authOf (now (public .entry)) (now (sig .entry)) (now (hash .entry))) (now (out .entry)) ⌝ }
+{
+    let a = cbor::write::fixed(out, 0, b"\xA4");
+    let b = cbor::write::string_field(out, a, b"pub", BYTES, public);
+    let c = cbor::write::string_field(out, b, b"sig", BYTES, sig);
+    let d = cbor::write::string_field(out, c, b"hash", BYTES, hash);
+    cbor::write::number_field(out, d, b"version", 1);
+}
+
+// The payload has 157 bytes.
+pub fn write(public: &[u8], sig: &[u8], hash: &[u8], out: &mut [u8]) -> Wrote
+    ensures { λ r. ⌜ Written 0 (authVerdict (now (public .entry)) (now (sig .entry)) (now (hash .entry))) (now (out .entry)) (now (out .exit)) r ⌝ }
+{
+    if public.len() != 32 {
+        return Wrote::Refused { no: OUT_OF_RANGE };
+    }
+    if sig.len() != 64 {
+        return Wrote::Refused { no: OUT_OF_RANGE };
+    }
+    if hash.len() != 32 {
+        return Wrote::Refused { no: OUT_OF_RANGE };
+    }
+    if out.len() < 157 {
+        return Wrote::Refused { no: wire::NO_ROOM };
+    }
+    write_fitting(public, sig, hash, out);
+    Wrote::Done { len: 157 }
+}
+
+fn signed_fitting(public: &[u8], hash: &[u8], out: &mut [u8])
+    requires { ⌜ length (signedOf (now public) (now hash)) ≤ length (now out) ⌝ }
+    ensures { λ _. ⌜ now (out .exit) ≡ over 0 (signedOf (now (public .entry)) (now (hash .entry))) (now (out .entry)) ⌝ }
+{
+    let a = cbor::write::fixed(out, 0, b"ETHERNITY-AUTH-V1");
+    let b = cbor::write::fixed(out, a, b"\xA3");
+    let c = cbor::write::string_field(out, b, b"pub", BYTES, public);
+    let d = cbor::write::string_field(out, c, b"hash", BYTES, hash);
+    cbor::write::number_field(out, d, b"version", 1);
+}
+
+// The bytes that get signed are 104.
+pub fn signed(public: &[u8], hash: &[u8], out: &mut [u8]) -> Wrote
+    ensures { λ r. ⌜ Written 0 (signedVerdict (now (public .entry)) (now (hash .entry))) (now (out .entry)) (now (out .exit)) r ⌝ }
+{
+    if public.len() != 32 {
+        return Wrote::Refused { no: OUT_OF_RANGE };
+    }
+    if hash.len() != 32 {
+        return Wrote::Refused { no: OUT_OF_RANGE };
+    }
+    if out.len() < 104 {
+        return Wrote::Refused { no: wire::NO_ROOM };
+    }
+    signed_fitting(public, hash, out);
+    Wrote::Done { len: 104 }
+}

@@ -1,0 +1,105 @@
+-- What a reader answers is fixed by its contract, and how a chain of items goes on from it. Assumes nothing.
+use Prim.Native.Nat.{ℕ}
+use mathlib.Core.Path.{_≡_, refl, sym, ap, _∙_}
+use mathlib.Core.Bool.{true, false}
+use borrow.Author.Tests.{eq-eqb, ne-eqb}
+use lib.Dec.{eqb}
+use Rattle.wire.specs.Answer.{Got, refused, then, numberOf}
+use Rattle.wire.proofs.Branch.{branch}
+use Rattle.cbor.specs.Item.{Head, Place}
+use Rattle.cbor.specs.Answer.{stepTold, numberTold, headTold, stringTold}
+use Rattle.cbor.specs.declared.StepRead.{StepRead}
+use Rattle.cbor.specs.declared.StepRead.the-variants as step
+use Rattle.cbor.specs.declared.NumberRead.{NumberRead}
+use Rattle.cbor.specs.declared.NumberRead.the-variants as number
+use Rattle.cbor.specs.declared.HeadRead.{HeadRead}
+use Rattle.cbor.specs.declared.HeadRead.the-variants as head
+use Rattle.cbor.specs.declared.StringRead.{StringRead}
+use Rattle.cbor.specs.declared.StringRead.the-variants as string
+
+-- ---- an enum says no more than 01's answer does
+
+pub step-injective : (r q : StepRead) → stepTold r ≡ stepTold q → r ≡ q
+step-injective (step.Past i) (step.Past j) e = cc
+step-injective (step.Past i) (step.Refused n) e = cc
+step-injective (step.Refused m) (step.Past j) e = cc
+step-injective (step.Refused m) (step.Refused n) e = cc
+
+pub number-injective : (r q : NumberRead) → numberTold r ≡ numberTold q → r ≡ q
+number-injective (number.Value m i) (number.Value n j) e = cc
+number-injective (number.Value m i) (number.Refused n) e = cc
+number-injective (number.Refused m) (number.Value n j) e = cc
+number-injective (number.Refused m) (number.Refused n) e = cc
+
+pub head-injective : (r q : HeadRead) → headTold r ≡ headTold q → r ≡ q
+head-injective (head.Value a m i) (head.Value b n j) e =
+    let v : _≡_ {A = Head} (record { major = a; number = m }) (record { major = b; number = n }) = cc in
+    let p : a ≡ b = ap (λ (h : Head). h .major) v in
+    let q : m ≡ n = ap (λ (h : Head). h .number) v in
+    cc
+head-injective (head.Value a m i) (head.Refused n) e = cc
+head-injective (head.Refused m) (head.Value b n j) e = cc
+head-injective (head.Refused m) (head.Refused n) e = cc
+
+pub string-injective : (r q : StringRead) → stringTold r ≡ stringTold q → r ≡ q
+string-injective (string.Value a m i) (string.Value b n j) e =
+    let v : _≡_ {A = Place} (record { start = a; len = m }) (record { start = b; len = n }) = cc in
+    let p : a ≡ b = ap (λ (h : Place). h .start) v in
+    let q : m ≡ n = ap (λ (h : Place). h .len) v in
+    cc
+string-injective (string.Value a m i) (string.Refused n) e = cc
+string-injective (string.Refused m) (string.Value b n j) e = cc
+string-injective (string.Refused m) (string.Refused n) e = cc
+
+-- ---- for `search`: one item of a chain. g is what a reader's contract says, r what it answered, n the number that the code took from r
+
+-- one law for every enum, which told reads; a crate with an enum of its own cites it
+module _ {A B E : Type 0} (told : E → Got A) (g : Got A) (f : A → ℕ → Got B) where
+  -- it was read, and the chain goes on
+  pub go : (r x : E) (y : Got B) → told r ≡ g → r ≡ x → y ≡ then (told x) f → y ≡ then g f
+  go r x y e k h = rw (← e, k) h
+
+  -- it was refused, and so is the chain
+  pub stop : (r x : E) (n e : ℕ) → told r ≡ g → r ≡ x → told x ≡ refused e → n ≡ numberOf (told r) → refused n ≡ then g f
+  stop r x n e h k w q = rw (q, ← h, k, w)
+
+module _ {B : Type 0} (g : Got Unit) (f : Unit → ℕ → Got B) where
+  pub go-step : (r : StepRead) (next : ℕ) (y : Got B) → stepTold r ≡ g → r ≡ step.Past next → y ≡ f tt next → y ≡ then g f
+  go-step r next y = go stepTold g f r (step.Past next) y
+
+  pub no-step : (r : StepRead) (n e : ℕ) → stepTold r ≡ g → r ≡ step.Refused e → n ≡ numberOf (stepTold r) → refused n ≡ then g f
+  no-step r n e h k q = stop stepTold g f r (step.Refused e) n e h k refl q
+
+module _ {B : Type 0} (g : Got ℕ) (f : ℕ → ℕ → Got B) where
+  pub go-number : (r : NumberRead) (v next : ℕ) (y : Got B) → numberTold r ≡ g → r ≡ number.Value v next → y ≡ f v next → y ≡ then g f
+  go-number r v next y = go numberTold g f r (number.Value v next) y
+
+  pub no-number : (r : NumberRead) (n e : ℕ) → numberTold r ≡ g → r ≡ number.Refused e → n ≡ numberOf (numberTold r) → refused n ≡ then g f
+  no-number r n e h k q = stop numberTold g f r (number.Refused e) n e h k refl q
+
+module _ {B : Type 0} (g : Got Head) (f : Head → ℕ → Got B) where
+  pub go-head : (r : HeadRead) (m v next : ℕ) (y : Got B) → headTold r ≡ g → r ≡ head.Value m v next → y ≡ f (record { major = m; number = v }) next → y ≡ then g f
+  go-head r m v next y = go headTold g f r (head.Value m v next) y
+
+  pub no-head : (r : HeadRead) (n e : ℕ) → headTold r ≡ g → r ≡ head.Refused e → n ≡ numberOf (headTold r) → refused n ≡ then g f
+  no-head r n e h k q = stop headTold g f r (head.Refused e) n e h k refl q
+
+module _ {B : Type 0} (g : Got Place) (f : Place → ℕ → Got B) where
+  pub go-string : (r : StringRead) (a v next : ℕ) (y : Got B) → stringTold r ≡ g → r ≡ string.Value a v next → y ≡ f (record { start = a; len = v }) next → y ≡ then g f
+  go-string r a v next y = go stringTold g f r (string.Value a v next) y
+
+  pub no-string : (r : StringRead) (n e : ℕ) → stringTold r ≡ g → r ≡ string.Refused e → n ≡ numberOf (stringTold r) → refused n ≡ then g f
+  no-string r n e h k q = stop stringTold g f r (string.Refused e) n e h k refl q
+
+-- what a contract says, once the answer's case is known
+pub as-told : {A E : Type 0} (told : E → Got A) {g : Got A} {r x : E} → told r ≡ g → r ≡ x → g ≡ told x
+as-told told e k = sym e ∙ ap told k
+
+-- a call answered a number, x by its contract, and a test said whether it is k
+pub answered : (r x k : ℕ) → r ≡ x → r ≡ k → eqb x k ≡ true
+answered r x k e h = eq-eqb x k (sym e ∙ h)
+
+pub differed : (r x k : ℕ) → r ≡ x → (r ≡ k → ⊥) → eqb x k ≡ false
+differed r x k e h = ne-eqb x k (λ (q : x ≡ k). h (e ∙ q))
+
+pub ruleset chain = (branch, go-step, no-step, go-number, no-number, go-head, no-head, go-string, no-string)

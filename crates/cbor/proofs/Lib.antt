@@ -1,0 +1,11 @@
+pub mod Answers
+pub mod Counting
+pub mod Sizes
+pub mod Within
+pub mod Runs
+pub mod Storing
+pub mod Writers
+pub mod Standing
+pub mod Written
+pub mod Only
+pub mod Examples

@@ -1,0 +1,47 @@
+-- The one written form of each item: RFC 8949, section 3; document 01, "CBOR payloads": definite lengths, shortest heads.
+use Prim.Native.Nat.{ℕ, _+_, _*_}
+use mathlib.Core.List.{List, _∷_, _++_}
+use lib.ListN.{length}
+use lib.Dec.{ltb, eqb}
+use Rattle.wire.specs.Answer.{choose}
+use Rattle.wire.specs.Number.{bigEndian}
+
+-- the five low bits of a head's first byte: a number below 24 itself, and else 24 to 27, the fewest bytes that hold it
+unfoldable pub infoOf : ℕ → ℕ
+infoOf n =
+    choose (ltb n 24) n
+    (choose (ltb n 256) 24
+    (choose (ltb n 65536) 25
+    (choose (ltb n 4294967296) 26 27)))
+
+-- how many bytes of the number follow the first byte
+unfoldable pub widthOf : ℕ → ℕ
+widthOf info =
+    choose (ltb info 24) 0
+    (choose (eqb info 24) 1
+    (choose (eqb info 25) 2
+    (choose (eqb info 26) 4 8)))
+
+-- the head of an item: three bits of major type, the five bits, the bytes of the number
+unfoldable pub headOf : ℕ → ℕ → List ℕ
+headOf major n = (major * 32 + infoOf n) ∷ bigEndian (widthOf (infoOf n)) n
+
+-- how long it is, for every major type
+unfoldable pub headSize : ℕ → ℕ
+headSize n = 1 + widthOf (infoOf n)
+
+-- a byte string, major type 2, or a text, 3; a key is a text
+unfoldable pub stringOf : ℕ → List ℕ → List ℕ
+stringOf major bs = headOf major (length bs) ++ bs
+
+-- a double, by its 64 bits
+unfoldable pub doubleOf : ℕ → List ℕ
+doubleOf bits = 0xFB ∷ bigEndian 8 bits
+
+-- a key and a string
+unfoldable pub stringFieldOf : List ℕ → ℕ → List ℕ → List ℕ
+stringFieldOf name major bs = stringOf 3 name ++ stringOf major bs
+
+-- a key and a number
+unfoldable pub numberFieldOf : List ℕ → ℕ → List ℕ
+numberFieldOf name n = stringOf 3 name ++ headOf 0 n

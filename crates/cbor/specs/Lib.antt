@@ -1,0 +1,5 @@
+pub mod Form
+pub mod Item
+pub mod Answer
+pub mod Put
+pub mod Names

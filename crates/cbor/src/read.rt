@@ -1,0 +1,279 @@
+// What stands at a position of the input. The first offending item from the left decides: see specs/Item.antt.
+ghost use mathlib.Core.Path.{_≡_};
+ghost use Prim.Native.Nat.{_+_, _<_, _≤_};
+ghost use lib.ListN.{length, take, drop};
+ghost use Rattle.wire.specs.Number.{number};
+ghost use Rattle.cbor.specs.Item.{byteAt, oneAt, bigEndianAt, argumentAt, kindOf, headAt, numberAt, contentsAt, stringAt, nameAt, keyAt, doubleAt, stringFieldAt, numberFieldAt};
+ghost use Rattle.cbor.specs.Answer.{stepTold, numberTold, headTold, stringTold};
+use super::HeadRead;
+use super::NumberRead;
+use super::StepRead;
+use super::StringRead;
+use super::head_no;
+use super::number_no;
+use super::short;
+use super::step_no;
+
+fn wide(x: u8) -> u64
+    ensures { λ r. ⌜ (r ≡ x) × (r < 256) ⌝ }
+{
+    x as u64
+}
+
+// Integers of either sign are one kind.
+fn kind_of(major: u8) -> u8
+    ensures { λ r. ⌜ r ≡ kindOf major ⌝ }
+{
+    if major == 1 {
+        return 0;
+    }
+    major
+}
+
+// The number in the k bytes from at on, the highest first, where they are there.
+fn big_endian(s: &[u8], at: usize, k: usize) -> u64
+    requires { ⌜ (at + k ≤ length (now s)) × (k ≤ 8) ⌝ }
+    ensures { λ r. ⌜ r ≡ number 256 (take k (drop at (now (s .entry)))) ⌝ }
+{
+    let mut n: u64 = 0;
+    let mut i = 0;
+    while i < k {
+        n = n * 256 + wide(s[at + i]);
+        i += 1;
+    }
+    n
+}
+
+// The same for any position.
+fn big_endian_at(s: &[u8], at: usize, k: usize) -> NumberRead
+    requires { ⌜ k ≤ 8 ⌝ }
+    ensures { λ r. ⌜ numberTold r ≡ bigEndianAt (now (s .entry)) at k ⌝ }
+{
+    if s.len() < at {
+        return NumberRead::Refused {
+            no: wire::CUT_OR_LEFT_OVER,
+        };
+    }
+    if s.len() - at < k {
+        return NumberRead::Refused {
+            no: wire::CUT_OR_LEFT_OVER,
+        };
+    }
+    NumberRead::Value {
+        n: big_endian(s, at, k),
+        next: at + k,
+    }
+}
+
+// The number of a head whose first byte, with info in its low bits, stands before position at.
+fn argument(s: &[u8], at: usize, info: u8) -> NumberRead
+    ensures { λ r. ⌜ numberTold r ≡ argumentAt (now (s .entry)) at info ⌝ }
+{
+    if info < 24 {
+        return NumberRead::Value {
+            n: info as u64,
+            next: at,
+        };
+    }
+    big_endian_at(s, at, short::width(info))
+}
+
+// Any one byte. The first byte of an item tells which it is, where a field may hold one of several.
+pub fn byte(s: &[u8], at: usize) -> NumberRead
+    ensures { λ r. ⌜ numberTold r ≡ byteAt (now (s .entry)) at ⌝ }
+{
+    if at < s.len() {
+        return NumberRead::Value {
+            n: wide(s[at]),
+            next: at + 1,
+        };
+    }
+    NumberRead::Refused {
+        no: wire::CUT_OR_LEFT_OVER,
+    }
+}
+
+// The head of a map or a simple value.
+pub fn one_byte(s: &[u8], at: usize, wanted: u8) -> StepRead
+    ensures { λ r. ⌜ stepTold r ≡ oneAt (now (s .entry)) at wanted ⌝ }
+{
+    if s.len() <= at {
+        return StepRead::Refused {
+            no: wire::CUT_OR_LEFT_OVER,
+        };
+    }
+    if s[at] != wanted {
+        return StepRead::Refused {
+            no: wire::NOT_CANONICAL,
+        };
+    }
+    StepRead::Past { next: at + 1 }
+}
+
+// The head of an item of a kind, in the shortest form.
+pub fn head(s: &[u8], at: usize, kind: u8) -> HeadRead
+    ensures { λ r. ⌜ headTold r ≡ headAt (now (s .entry)) at kind ⌝ }
+{
+    if s.len() <= at {
+        return HeadRead::Refused {
+            no: wire::CUT_OR_LEFT_OVER,
+        };
+    }
+    let major = s[at] / 32;
+    let low = s[at] % 32;
+    if kind_of(major) != kind {
+        return HeadRead::Refused {
+            no: wire::NOT_CANONICAL,
+        };
+    }
+    if 27 < low {
+        return HeadRead::Refused {
+            no: wire::NOT_CANONICAL,
+        };
+    }
+    let a = argument(s, at + 1, low);
+    let NumberRead::Value { n, next } = a else {
+        return HeadRead::Refused { no: number_no(a) };
+    };
+    if short::info(n) != low {
+        return HeadRead::Refused {
+            no: wire::NOT_CANONICAL,
+        };
+    }
+    HeadRead::Value { major, n, next }
+}
+
+// The number of a head, from least to most: else the refusal is fault, for a negative number too.
+pub fn number(s: &[u8], at: usize, kind: u8, least: u64, most: u64, fault: u8) -> NumberRead
+    ensures { λ r. ⌜ numberTold r ≡ numberAt (now (s .entry)) at kind least most fault ⌝ }
+{
+    let h = head(s, at, kind);
+    let HeadRead::Value { major, n, next } = h else {
+        return NumberRead::Refused { no: head_no(h) };
+    };
+    if major != kind {
+        return NumberRead::Refused { no: fault };
+    }
+    if n < least {
+        return NumberRead::Refused { no: fault };
+    }
+    if most < n {
+        return NumberRead::Refused { no: fault };
+    }
+    NumberRead::Value { n, next }
+}
+
+// The contents of a string, whose head stands before position at.
+pub fn contents(s: &[u8], at: usize, len: u64) -> StringRead
+    ensures { λ r. ⌜ stringTold r ≡ contentsAt (now (s .entry)) at len ⌝ }
+{
+    let n = len as usize;
+    if s.len() < at {
+        return StringRead::Refused {
+            no: wire::CUT_OR_LEFT_OVER,
+        };
+    }
+    if s.len() - at < n {
+        return StringRead::Refused {
+            no: wire::CUT_OR_LEFT_OVER,
+        };
+    }
+    StringRead::Value {
+        start: at,
+        len: n,
+        next: at + n,
+    }
+}
+
+// A byte string or a text of a length from least to most: for another length the refusal is fault.
+pub fn string(s: &[u8], at: usize, kind: u8, least: u64, most: u64, fault: u8) -> StringRead
+    ensures { λ r. ⌜ stringTold r ≡ stringAt (now (s .entry)) at kind least most fault ⌝ }
+{
+    let h = number(s, at, kind, least, most, fault);
+    let NumberRead::Value { n, next } = h else {
+        return StringRead::Refused { no: number_no(h) };
+    };
+    contents(s, next, n)
+}
+
+// The contents of a key, whose head stands before position at.
+fn name(s: &[u8], at: usize, wanted: &[u8]) -> StepRead
+    ensures { λ r. ⌜ stepTold r ≡ nameAt (now (s .entry)) at (now (wanted .entry)) ⌝ }
+{
+    let len = wanted.len();
+    if s.len() < at {
+        return StepRead::Refused {
+            no: wire::CUT_OR_LEFT_OVER,
+        };
+    }
+    if s.len() - at < len {
+        return StepRead::Refused {
+            no: wire::CUT_OR_LEFT_OVER,
+        };
+    }
+    let end = at + len;
+    if lend::equal(wanted, &s[at..end]) {
+        return StepRead::Past { next: end };
+    }
+    StepRead::Refused {
+        no: wire::NOT_CANONICAL,
+    }
+}
+
+// A named key. A name of more than 23 bytes is none.
+pub fn key(s: &[u8], at: usize, wanted: &[u8]) -> StepRead
+    ensures { λ r. ⌜ stepTold r ≡ keyAt (now (s .entry)) at (now (wanted .entry)) ⌝ }
+{
+    let len = wanted.len();
+    if 24 <= len {
+        return StepRead::Refused {
+            no: wire::NOT_CANONICAL,
+        };
+    }
+    let h = one_byte(s, at, 96 + len as u8);
+    let StepRead::Past { next } = h else {
+        return StepRead::Refused { no: step_no(h) };
+    };
+    name(s, next, wanted)
+}
+
+// A double, by its 64 bits.
+pub fn double(s: &[u8], at: usize) -> NumberRead
+    ensures { λ r. ⌜ numberTold r ≡ doubleAt (now (s .entry)) at ⌝ }
+{
+    let h = one_byte(s, at, 0xFB);
+    let StepRead::Past { next } = h else {
+        return NumberRead::Refused { no: step_no(h) };
+    };
+    big_endian_at(s, next, 8)
+}
+
+// A key, and a string of a length from least to most: for another length the refusal is fault.
+pub fn string_field(
+    s: &[u8],
+    at: usize,
+    name: &[u8],
+    kind: u8,
+    least: u64,
+    most: u64,
+    fault: u8,
+) -> StringRead
+    ensures { λ r. ⌜ stringTold r ≡ stringFieldAt (now (s .entry)) at (now (name .entry)) kind least most fault ⌝ }
+{
+    let k = key(s, at, name);
+    let StepRead::Past { next } = k else {
+        return StringRead::Refused { no: step_no(k) };
+    };
+    string(s, next, kind, least, most, fault)
+}
+
+// A key, and a number from least to most.
+pub fn number_field(s: &[u8], at: usize, name: &[u8], least: u64, most: u64) -> NumberRead
+    ensures { λ r. ⌜ numberTold r ≡ numberFieldAt (now (s .entry)) at (now (name .entry)) least most ⌝ }
+{
+    let k = key(s, at, name);
+    let StepRead::Past { next } = k else {
+        return NumberRead::Refused { no: step_no(k) };
+    };
+    number(s, next, super::INTEGER, least, most, wire::OUT_OF_RANGE)
+}

@@ -1,0 +1,126 @@
+// Items written at a position of lent output. Each answers the position past the item; where the item does not fit, nothing
+// is written and the position stays. A payload's writer judges first that all of it fits.
+ghost use mathlib.Core.Path.{_≡_};
+ghost use Prim.Native.Nat.{_+_, _-_, _%_, _≤_};
+ghost use lib.ListN.{length};
+ghost use Rattle.wire.specs.Number.{bigEndian};
+ghost use Rattle.wire.specs.Over.{over};
+ghost use Rattle.cbor.specs.Form.{headOf, headSize, stringOf, doubleOf, stringFieldOf, numberFieldOf};
+ghost use Rattle.cbor.specs.Put.{Put};
+use super::short;
+
+// How long the head of a number is.
+pub fn size(n: u64) -> usize
+    ensures { λ r. ⌜ r ≡ headSize n ⌝ }
+{
+    1 + short::following(n)
+}
+
+// How long a string is with its head.
+fn string_size(bs: &[u8]) -> usize
+    ensures { λ r. ⌜ r ≡ headSize (length (now (bs .entry))) + length (now (bs .entry)) ⌝ }
+{
+    size(bs.len() as u64) + bs.len()
+}
+
+// How many bytes are left from index at on.
+fn room(len: usize, at: usize) -> usize
+    ensures { λ r. ⌜ r ≡ len - at ⌝ }
+{
+    if len < at {
+        return 0;
+    }
+    len - at
+}
+
+// The lowest k bytes of n, the highest of them first, where there is room.
+fn big_endian(out: &mut [u8], at: usize, k: usize, n: u64)
+    requires { ⌜ (at + k ≤ length (now out)) × (k ≤ 8) ⌝ }
+    ensures { λ _. ⌜ now (out .exit) ≡ over at (bigEndian k n) (now (out .entry)) ⌝ }
+{
+    let mut i = 0;
+    while i < k {
+        out[at + i] = ((n >> (8 * (k - 1 - i))) % 256) as u8;
+        i += 1;
+    }
+}
+
+// Bytes that stand as they are: the head of a map, a simple value, a domain string.
+pub fn fixed(out: &mut [u8], at: usize, item: &[u8]) -> usize
+    ensures { λ r. ⌜ Put at (now (item .entry)) (now (out .entry)) (now (out .exit)) r ⌝ }
+{
+    if room(out.len(), at) < item.len() {
+        return at;
+    }
+    lend::copy(out, at, item);
+    at + item.len()
+}
+
+// A head. A major type is three bits.
+pub fn head(out: &mut [u8], at: usize, major: u8, n: u64) -> usize
+    ensures { λ r. ⌜ Put at (headOf (major % 8) n) (now (out .entry)) (now (out .exit)) r ⌝ }
+{
+    let k = short::following(n);
+    if room(out.len(), at) < 1 + k {
+        return at;
+    }
+    lend::put(out, at, major % 8 * 32 + short::info(n));
+    big_endian(out, at + 1, k, n);
+    at + 1 + k
+}
+
+// A byte string or a text; a key is a text.
+pub fn string(out: &mut [u8], at: usize, major: u8, bs: &[u8]) -> usize
+    ensures { λ r. ⌜ Put at (stringOf (major % 8) (now (bs .entry))) (now (out .entry)) (now (out .exit)) r ⌝ }
+{
+    if room(out.len(), at) < string_size(bs) {
+        return at;
+    }
+    let p = head(out, at, major, bs.len() as u64);
+    lend::copy(out, p, bs);
+    p + bs.len()
+}
+
+// A double, by its 64 bits.
+pub fn double(out: &mut [u8], at: usize, bits: u64) -> usize
+    ensures { λ r. ⌜ Put at (doubleOf bits) (now (out .entry)) (now (out .exit)) r ⌝ }
+{
+    if room(out.len(), at) < 9 {
+        return at;
+    }
+    lend::put(out, at, 0xFB);
+    big_endian(out, at + 1, 8, bits);
+    at + 9
+}
+
+// A key and a string.
+pub fn string_field(out: &mut [u8], at: usize, name: &[u8], major: u8, bs: &[u8]) -> usize
+    ensures { λ r. ⌜ Put at (stringFieldOf (now (name .entry)) (major % 8) (now (bs .entry))) (now (out .entry)) (now (out .exit)) r ⌝ }
+{
+    let left = room(out.len(), at);
+    let a = string_size(name);
+    if left < a {
+        return at;
+    }
+    if left - a < string_size(bs) {
+        return at;
+    }
+    let p = string(out, at, super::TEXT, name);
+    string(out, p, major, bs)
+}
+
+// A key and a number.
+pub fn number_field(out: &mut [u8], at: usize, name: &[u8], n: u64) -> usize
+    ensures { λ r. ⌜ Put at (numberFieldOf (now (name .entry)) n) (now (out .entry)) (now (out .exit)) r ⌝ }
+{
+    let left = room(out.len(), at);
+    let a = string_size(name);
+    if left < a {
+        return at;
+    }
+    if left - a < size(n) {
+        return at;
+    }
+    let p = string(out, at, super::TEXT, name);
+    head(out, p, super::INTEGER, n)
+}
