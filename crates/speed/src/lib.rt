@@ -16,14 +16,14 @@ pub extern "C" fn speed_crc32(s: &[u8]) -> u32
 pub extern "C" fn speed_sha256(s: &[u8], out: &mut [u8])
     ensures { λ _. ⌜ now (out .exit) ≡ over 0 (S.sha256 (now (s .entry))) (now (out .entry)) ⌝ }
 {
-    let d = sha256::sha256(s);
-    lend::copy(out, 0, &d);
+    let digest = sha256::sha256(s);
+    lend::copy(out, 0, &digest);
 }
 
 #[no_mangle]
 pub extern "C" fn speed_blake2b(s: &[u8], out: &mut [u8])
     ensures { λ _. ⌜ now (out .exit) ≡ over 0 (B.blake2b (now (s .entry))) (now (out .entry)) ⌝ }
 {
-    let d = blake2b::blake2b(s);
-    lend::copy(out, 0, &d);
+    let hash = blake2b::blake2b(s);
+    lend::copy(out, 0, &hash);
 }
