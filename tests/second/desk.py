@@ -10,8 +10,8 @@ What CALLS.md leaves open is decided here, and nowhere else:
 - BYTES is one or more pairs of lower-case hex digits, or `-` for no bytes. An
   empty argument, an upper-case digit or an odd count is wrong.
 - A number is 1 to 40 decimal digits, leading zeros allowed, with a value of at
-  most 2^64 - 1. A signed number is one `-` or none, and then such digits; its
-  value lies from -2^63 to 2^63 - 1 (`-0` is 0).
+  most 2^64 - 1. A signed number is one `-` or none, and then such a number
+  (`-0` is 0): one outside 01's range is for the library to refuse.
 - ROOM is a number up to 65,536. SEALED is a number, 0 or 1. The N of
   manifest-write is a number up to 65, and exactly N entries follow it.
 - CREATED is one argument: `i` and a signed number, or `f` and 16 lower-case
@@ -67,10 +67,9 @@ def as_number(argument, most=2**64 - 1):
 
 
 def as_signed(argument):
-    """A number that may begin with `-`, from -2^63 to 2^63 - 1."""
-    digits = argument.removeprefix(b"-")
-    demand(DIGITS.fullmatch(digits) and -2**63 <= int(argument) <= 2**63 - 1)
-    return int(argument)
+    """A number that may begin with `-`."""
+    number = as_number(argument.removeprefix(b"-"))
+    return -number if argument.startswith(b"-") else number
 
 
 def as_room(argument):

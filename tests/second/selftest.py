@@ -478,7 +478,6 @@ def lines_are_parted_as_calls_md_says():
 
 @check
 def verbs_that_have_not_landed_are_unknown():
-    same(desk.Desk(LANDED).answer(b"mend a"), "?")
     same(desk.Desk(["crc"]).answer(b"sha256 -"), "?")
     written = {*desk.CALLS, *desk.Desk().register_calls, "status", "manifest-write"}
     same(sorted(ALL), sorted(written))

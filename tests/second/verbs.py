@@ -7,14 +7,12 @@ When verbs land, move them from LATER to LANDED, then run
 LANDED = [
     "varint-read", "varint-write", "base64-read", "base64-write", "zbase32-read",
     "zbase32-write", "crc", "sha256", "blake2b", "doc-id", "frame-read", "page-write",
-    "auth-read", "auth-write", "auth-signed",
-]
-
-LATER = [
     "key-write", "auth-frame-write",
     "load", "save", "open", "offer", "join", "finish", "mend", "status",
-    "shard-read", "shard-write", "shard-signed",
+    "auth-read", "auth-write", "auth-signed", "shard-read", "shard-write", "shard-signed",
     "manifest-read", "manifest-write", "envelope-read", "envelope-write",
 ]
+
+LATER = []
 
 ALL = LANDED + LATER

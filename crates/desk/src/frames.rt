@@ -39,6 +39,16 @@ fn page_write(c: &[u8], size: u64, number: u64, room: &mut [u8], out: &mut [u8])
     reply::wrote(out, answer, room)
 }
 
+fn key_write(id: &[u8], contents: &[u8], room: &mut [u8], out: &mut [u8]) -> usize {
+    let answer = slip::key(id, contents, room);
+    reply::wrote(out, answer, room)
+}
+
+fn auth_frame_write(id: &[u8], contents: &[u8], room: &mut [u8], out: &mut [u8]) -> usize {
+    let answer = slip::auth(id, contents, room);
+    reply::wrote(out, answer, room)
+}
+
 // The reply to a line of this group; 0 for any other line.
 pub(crate) fn call(
     line: &[u8],
@@ -47,8 +57,13 @@ pub(crate) fn call(
     room: &mut [u8],
     out: &mut [u8],
 ) -> usize {
-    let verb = words::verb(line, starts, b"doc-id b,frame-read b,page-write bnnr");
+    let verb = words::verb(
+        line,
+        starts,
+        b"doc-id b,frame-read b,page-write bnnr,key-write bbr,auth-frame-write bbr",
+    );
     let s = words::bytes(pool, starts, 1);
+    let contents = words::bytes(pool, starts, 2);
     match verb {
         1 => doc_id(s, out),
         2 => frame_read(s, out),
@@ -59,6 +74,8 @@ pub(crate) fn call(
             room,
             out,
         ),
+        4 => key_write(s, contents, room, out),
+        5 => auth_frame_write(s, contents, room, out),
         _ => 0,
     }
 }

@@ -33,17 +33,31 @@ pub(crate) fn refused(out: &mut [u8], no: u8) -> usize {
     decimal(out, 0, no as u64)
 }
 
+// A refusal that may have a place: 01 gives one with 15, 16 and 21.
+pub(crate) fn refused_at(out: &mut [u8], no: u8, place: u64) -> usize {
+    let at = refused(out, no);
+    match no {
+        wire::PAGE_DISPUTED | wire::PAGE_MISSING | wire::BAD_CONTENTS => number(out, at, place),
+        _ => at,
+    }
+}
+
 pub(crate) fn number(out: &mut [u8], at: usize, n: u64) -> usize {
     let next = put(out, at, b" ");
     decimal(out, next, n)
 }
 
-// A number as bytes, big-endian: width hex digits.
-pub(crate) fn digits(out: &mut [u8], at: usize, n: u64, width: usize) -> usize {
+// A number in width hex digits.
+pub(crate) fn hex_digits(out: &mut [u8], at: usize, n: u64, width: usize) -> usize {
     let mut text = [0u8; 16];
     let k = io::hex(n, width, &mut text);
+    put(out, at, &text[..k])
+}
+
+// A number as bytes, big-endian: width hex digits.
+pub(crate) fn digits(out: &mut [u8], at: usize, n: u64, width: usize) -> usize {
     let next = put(out, at, b" ");
-    put(out, next, &text[..k])
+    hex_digits(out, next, n, width)
 }
 
 fn digit(d: u8) -> u8 {
@@ -69,6 +83,18 @@ fn hex(out: &mut [u8], at: usize, s: &[u8]) -> usize {
         i += 1;
     }
     next
+}
+
+// The number n, or -1 - n where it is negative.
+pub(crate) fn signed(out: &mut [u8], at: usize, negative: bool, n: u64) -> usize {
+    if negative {
+        let next = put(out, at, b"-");
+        if n == u64::MAX {
+            return put(out, next, b"18446744073709551616");
+        }
+        return decimal(out, next, n + 1);
+    }
+    decimal(out, at, n)
 }
 
 pub(crate) fn bytes(out: &mut [u8], at: usize, s: &[u8]) -> usize {
@@ -101,7 +127,7 @@ pub(crate) fn end(out: &mut [u8], at: usize, kept: &[u8]) -> usize {
     put(out, at, b" spilled")
 }
 
-fn written(out: &mut [u8], len: usize, room: &[u8]) -> usize {
+pub(crate) fn written(out: &mut [u8], len: usize, room: &[u8]) -> usize {
     let at = done(out);
     if len > room.len() {
         return put(out, at, b" - spilled");
@@ -110,8 +136,8 @@ fn written(out: &mut [u8], len: usize, room: &[u8]) -> usize {
     end(out, next, &room[len..])
 }
 
-fn not_written(out: &mut [u8], no: u8, room: &[u8]) -> usize {
-    let at = refused(out, no);
+pub(crate) fn not_written(out: &mut [u8], no: u8, place: u64, room: &[u8]) -> usize {
+    let at = refused_at(out, no, place);
     end(out, at, room)
 }
 
@@ -119,7 +145,7 @@ fn not_written(out: &mut [u8], no: u8, room: &[u8]) -> usize {
 pub(crate) fn wrote(out: &mut [u8], answer: Wrote, room: &[u8]) -> usize {
     match answer {
         Wrote::Done { len } => written(out, len, room),
-        Wrote::Refused { no } => not_written(out, no, room),
+        Wrote::Refused { no } => not_written(out, no, 0, room),
     }
 }
 

@@ -1,4 +1,5 @@
 // What one word says: a number in decimal, or bytes in hex.
+ghost use Prim.Native.Nat.{_<_};
 
 const DIGITS_MOST: usize = 40;
 
@@ -49,6 +50,98 @@ pub(crate) fn is_at_most(word: &[u8], most: u64) -> bool {
         Parsed::Is { n } => n <= most,
         Parsed::Not => false,
     }
+}
+
+// A number that may begin with `-`: n, or -1 - n where it is negative.
+pub(crate) struct Said {
+    pub negative: bool,
+    pub n: u64,
+}
+
+fn has_minus(word: &[u8]) -> bool {
+    if word.len() < 1 {
+        return false;
+    }
+    word[0] == b'-'
+}
+
+// All but the first byte.
+pub(crate) fn behind_first(word: &[u8]) -> &[u8] {
+    if word.len() < 1 {
+        return &word[..0];
+    }
+    &word[1..]
+}
+
+pub(crate) fn is_signed(word: &[u8]) -> bool {
+    if has_minus(word) {
+        return is_at_most(behind_first(word), u64::MAX);
+    }
+    is_at_most(word, u64::MAX)
+}
+
+fn magnitude(word: &[u8]) -> u64 {
+    let said = decimal(word);
+    match said {
+        Parsed::Is { n } => n,
+        Parsed::Not => 0,
+    }
+}
+
+// What the word says, where it is such a number. The negative of 0 is 0.
+pub(crate) fn signed(word: &[u8]) -> Said {
+    if has_minus(word) {
+        let n = magnitude(behind_first(word));
+        if n > 0 {
+            return Said {
+                negative: true,
+                n: n - 1,
+            };
+        }
+        return Said { negative: false, n };
+    }
+    Said {
+        negative: false,
+        n: magnitude(word),
+    }
+}
+
+pub(crate) fn is_register(word: &[u8]) -> bool {
+    if word.len() != 1 {
+        return false;
+    }
+    match word[0] {
+        b'a'..=b'd' => true,
+        _ => false,
+    }
+}
+
+// `i` and a signed number, or `f` and the 16 digits of a double.
+pub(crate) fn is_created(word: &[u8]) -> bool {
+    if word.len() < 1 {
+        return false;
+    }
+    let rest = behind_first(word);
+    match word[0] {
+        b'i' => is_signed(rest),
+        b'f' => rest.len() == 16 && are_digits(rest),
+        _ => false,
+    }
+}
+
+// The 64 bits that 16 hex digits say.
+pub(crate) fn double(digits: &[u8]) -> u64 {
+    let mut b = [0u8; 8];
+    decode(digits, &mut b);
+    let high = wide(b[0]) * 16777216 + wide(b[1]) * 65536 + wide(b[2]) * 256 + wide(b[3]);
+    let low = wide(b[4]) * 16777216 + wide(b[5]) * 65536 + wide(b[6]) * 256 + wide(b[7]);
+    high * 4294967296 + low
+}
+
+fn wide(b: u8) -> u64
+    ensures { λ r. ⌜ r < 256 ⌝ }
+{
+    b as u64
 }
 
 // The value of a lower-case hex digit; 16 for any other byte.

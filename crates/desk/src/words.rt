@@ -8,6 +8,7 @@ use crate::parts::part;
 use crate::parts::until;
 use crate::values;
 use crate::values::Parsed;
+use entry::Part;
 
 // The letters of a form, which say what a verb asks of each argument, as b"br" for BYTES ROOM.
 const BYTES: u8 = b'b';
@@ -16,7 +17,25 @@ const NUMBER: u8 = b'n';
 
 const ROOM: u8 = b'r';
 
+const BYTES_OR_NULL: u8 = b'z';
+
+const ZERO_OR_ONE: u8 = b's';
+
+const CREATED: u8 = b'c';
+
+const MANIFEST_COUNT: u8 = b'm';
+
+const TIME_OR_NULL: u8 = b't';
+
+const REGISTER: u8 = b'g';
+
+// As many bytes as a register takes.
+const LOADED: u8 = b'l';
+
 pub(crate) const ROOM_MOST: u64 = 65_536;
+
+// No line that is understood has as many words.
+pub(crate) const MOST: usize = 512;
 
 fn start(starts: &[usize], k: usize) -> usize {
     if k < starts.len() { starts[k] } else { 0 }
@@ -43,6 +62,14 @@ pub(crate) fn word<'a>(line: &'a [u8], starts: &[usize], k: usize) -> &'a [u8] {
 // The bytes of word k, where it is BYTES.
 pub(crate) fn bytes<'a>(pool: &'a [u8], starts: &[usize], k: usize) -> &'a [u8] {
     part(pool, start(starts, k) / 2, word_length(starts, k) / 2)
+}
+
+// Where the bytes of word k stand in the pool.
+pub(crate) fn place(starts: &[usize], k: usize) -> Part {
+    Part {
+        start: start(starts, k) / 2,
+        len: word_length(starts, k) / 2,
+    }
 }
 
 // Word n ends before the space that stands before next. The table's length is the answer for a word that is empty and
@@ -123,11 +150,18 @@ fn fits(word: &[u8], kind: u8) -> bool {
         BYTES => values::is_bytes(word),
         NUMBER => values::is_at_most(word, u64::MAX),
         ROOM => values::is_at_most(word, ROOM_MOST),
+        BYTES_OR_NULL => lend::equal(word, b"null") || values::is_bytes(word),
+        ZERO_OR_ONE => values::is_at_most(word, 1),
+        CREATED => values::is_created(word),
+        MANIFEST_COUNT => values::is_at_most(word, 65),
+        TIME_OR_NULL => lend::equal(word, b"null") || values::is_signed(word),
+        REGISTER => values::is_register(word),
+        LOADED => values::is_bytes(word) && word.len() <= 131_072,
         _ => false,
     }
 }
 
-fn all_fit(line: &[u8], starts: &[usize], form: &[u8]) -> bool {
+pub(crate) fn all_fit(line: &[u8], starts: &[usize], form: &[u8]) -> bool {
     let mut k = 0;
     while k < form.len() {
         if !fits(word(line, starts, k + 1), form[k]) {

@@ -107,10 +107,12 @@ def number_lines(rng):
         yield from both(good._replace(created=("i", created)))
     for double in DOUBLES:
         yield from both(good._replace(created=("f", bytes.fromhex(double))))
-    for past in (2**63, 2**63 + 1, 2**64 - 1, -2**63 - 1, -2**64):
-        changed = good._replace(files=(entry._replace(mtime=past),))
-        yield line("manifest-read", manifest_payload(changed))
-        yield line("manifest-read", manifest_payload(good._replace(created=("i", past))))
+    for past in (2**63, 2**63 + 1, 2**64 - 1, -2**63 - 1, -2**64 + 1):
+        yield from both(good._replace(files=(entry._replace(mtime=past),)))
+        yield from both(good._replace(created=("i", past)))
+    for past in (-2**64, 2**64):
+        yield manifest_line(good._replace(files=(entry._replace(mtime=past),)), 40000)
+    yield line("manifest-read", manifest_payload(good._replace(created=("i", -2**64))))
     for negative in (-1, -24, -25, -2**32, -2**64):
         changed = good._replace(files=(entry._replace(size=negative),))
         yield line("manifest-read", manifest_payload(changed))

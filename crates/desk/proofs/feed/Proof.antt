@@ -7,15 +7,18 @@ use Rattle.desk.proofs.feed.Statement.{statement}
 use Rattle.desk.proofs.feed.Tie as tie
 
 abbrev Inv-loop : tie.InvT-loop
-Inv-loop input held pool₀ room₀ out₀ waiting₀ at₀ end₀ pool room out waiting at end =
+Inv-loop input held pool₀ shelf₀ lens₀ before₀ room₀ out₀ waiting₀ at₀ end₀ pool shelf lens before room out waiting at end =
     (at ≤ end) ×
     (end ≤ length input) ×
     (length pool ≡ length pool₀) ×
+    (length shelf ≡ length shelf₀) ×
+    (length lens ≡ length lens₀) ×
+    (length before ≡ length before₀) ×
     (length room ≡ length room₀) ×
     (length out ≡ length out₀)
 
 abbrev μ-loop : tie.MeasureT-loop
-μ-loop input held pool₀ room₀ out₀ waiting₀ at₀ end₀ pool room out waiting at end = length input - end
+μ-loop input held pool₀ shelf₀ lens₀ before₀ room₀ out₀ waiting₀ at₀ end₀ pool shelf lens before room out waiting at end = length input - end
 
 returns : tie.Need-returns Inv-loop μ-loop
 returns c = search needs
@@ -56,6 +59,15 @@ same-length-2 c = search needs
 same-length-3 : tie.Need-same-length-3 Inv-loop μ-loop
 same-length-3 c = search needs
 
+same-length-4 : tie.Need-same-length-4 Inv-loop μ-loop
+same-length-4 c = search needs
+
+same-length-5 : tie.Need-same-length-5 Inv-loop μ-loop
+same-length-5 c = search needs
+
+same-length-6 : tie.Need-same-length-6 Inv-loop μ-loop
+same-length-6 c = search needs
+
 returns-2 : tie.Need-returns-2 Inv-loop μ-loop
 returns-2 c = search needs
 
@@ -78,4 +90,7 @@ feed-spec =
     same-length
     same-length-2
     same-length-3
+    same-length-4
+    same-length-5
+    same-length-6
     returns-2)

@@ -1,0 +1,6 @@
+pub mod Lengths
+pub mod Writing
+pub mod Reading
+pub mod Slots
+pub mod Round
+pub mod Bytes

@@ -1,0 +1,30 @@
+-- `block::dispute` meets its contract: the block of state 2 with no data. Assumes nothing.
+use borrow.Author.Needs.{needs}
+use Rattle.state.specs.State.{dataOf}
+use Rattle.block.specs.Block.{stateOf, pageBlock, hasBlock, withPage}
+use Rattle.block.proofs.dispute.Statement.{statement}
+use Rattle.block.proofs.dispute.Tie as tie
+
+sub-write : tie.Need-sub-write
+sub-write c = search needs
+
+part-write-start : tie.Need-part-write-start
+part-write-start c = search needs
+
+part-write-end : tie.Need-part-write-end
+part-write-end c = search needs
+
+write-requires : tie.Need-write-requires
+write-requires c κs = search needs
+
+same-length : tie.Need-same-length
+same-length c = search needs
+
+returns : tie.Need-returns
+unfolding withPage hasBlock pageBlock stateOf dataOf
+returns c = c .before .before .write .ensures
+
+pub dispute-spec : {M : Type 1} → statement M
+dispute-spec =
+    tie.close
+    (tie.spec sub-write part-write-start part-write-end write-requires same-length returns)

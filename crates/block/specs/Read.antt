@@ -1,0 +1,34 @@
+-- What a page block says, and when it is well formed: document 01, "The collection".
+use Prim.Native.Nat.{ℕ, _+_, _*_}
+use mathlib.Core.Bool.{Bool, _&&_}
+use mathlib.Core.List.{List, []}
+use lib.Dec.{eqb, leb}
+use lib.ListN.{length, take, drop, getD}
+use Rattle.wire.specs.Answer.{choose}
+use Rattle.lend.specs.Same.{same}
+use Rattle.state.specs.State.{Slot, absent, held, disputed, dataOf}
+use Rattle.state.specs.Finish.{isHeld}
+use Rattle.block.specs.Block.{pageBlock}
+
+-- the block from index at on; no bytes where fewer than 512 stand there
+unfoldable pub blockAt : ℕ → List ℕ → List ℕ
+blockAt at c = choose (leb (at + 512) (length c)) (take 512 (drop at c)) []
+
+-- "length (two bytes, big-endian)"
+unfoldable pub lengthIn : List ℕ → ℕ
+lengthIn b = getD b 12 0 * 256 + getD b 13 0
+
+unfoldable pub slotFor : ℕ → List ℕ → Slot
+slotFor s d = choose (eqb s 0) absent (choose (eqb s 1) (held d) disputed)
+
+-- of any bytes: what the state, and the length and the 480 bytes of data, say
+unfoldable pub readSlot : List ℕ → Slot
+readSlot b = slotFor (getD b 2 0) (take (lengthIn b) (take 480 (drop 14 b)))
+
+-- "Well formed means exactly this, for every byte": b is the block of what b says
+unfoldable pub okPage : List ℕ → ℕ → List ℕ → Bool
+okPage id i b = eqb (length id) 8 && same b (pageBlock id i (readSlot b))
+
+-- whether a slot is held, with the data d: no data is data too, and not absence
+unfoldable pub holding : Slot → List ℕ → Bool
+holding p d = isHeld p && same (dataOf p) d

@@ -1,0 +1,203 @@
+// The blocks of a collection: document 01, "The collection". Each function takes any arguments.
+ghost use mathlib.Core.Path.{_≡_};
+ghost use mathlib.Core.Bool.{_&&_};
+ghost use mathlib.Core.List.{[], _∷_};
+ghost use Prim.Native.Nat.{_+_, _≤_, _<_};
+ghost use lib.Dec.{eqb, leb};
+ghost use lib.ListN.{length};
+ghost use Rattle.wire.specs.Answer.{choose};
+ghost use Rattle.wire.specs.Over.{over};
+ghost use Rattle.wire.specs.Number.{bigEndian};
+ghost use Rattle.state.specs.State.{absent, held, disputed, dataOf};
+ghost use Rattle.block.specs.Block.{stateOf, pageBody, sealed, withPage, withSum};
+ghost use Rattle.block.specs.Read.{blockAt, readSlot, okPage, holding};
+
+pub const SIZE: usize = 512;
+
+// The states of a page.
+pub const ABSENT: u8 = 0;
+
+pub const HELD: u8 = 1;
+
+pub const DISPUTED: u8 = 2;
+
+const ID: usize = 8;
+
+// The most data that a page has.
+const MOST: usize = 480;
+
+fn big_endian(n: u32) -> [u8; 4]
+    ensures { λ r. ⌜ r ≡ bigEndian 4 n ⌝ }
+{
+    [
+        (n >> 24) as u8,
+        ((n >> 16) % 256) as u8,
+        ((n >> 8) % 256) as u8,
+        (n % 256) as u8,
+    ]
+}
+
+// The checksum of the 508 bytes from index at on, behind them.
+pub fn seal(out: &mut [u8], at: usize)
+    ensures { λ _. ⌜ now (out .exit) ≡ withSum at (now (out .entry)) ⌝ }
+{
+    if out.len() < SIZE {
+        return;
+    }
+    if out.len() - SIZE < at {
+        return;
+    }
+    let end = at + 508;
+    let sum = big_endian(crc::crc32(&out[at..end]));
+    lend::copy(out, end, &sum);
+}
+
+// The four bytes before the id.
+fn front(out: &mut [u8], at: usize, index: u8, state: u8)
+    requires { ⌜ at + 4 ≤ length (now out) ⌝ }
+    ensures { λ _. ⌜ now (out .exit) ≡ over at (0x50 ∷ index ∷ state ∷ 0 ∷ []) (now (out .entry)) ⌝ }
+{
+    lend::put(out, at, 0x50);
+    lend::put(out, at + 1, index);
+    lend::put(out, at + 2, state);
+    lend::put(out, at + 3, 0);
+}
+
+// The two bytes of a length.
+fn put_length(out: &mut [u8], at: usize, n: usize)
+    requires { ⌜ (at + 2 ≤ length (now out)) × (n ≤ 480) ⌝ }
+    ensures { λ _. ⌜ now (out .exit) ≡ over at (bigEndian 2 n) (now (out .entry)) ⌝ }
+{
+    lend::put(out, at, (n / 256) as u8);
+    lend::put(out, at + 1, (n % 256) as u8);
+}
+
+// All before the checksum.
+fn body(out: &mut [u8], at: usize, id: &[u8], index: u8, state: u8, bytes: &[u8])
+    requires { ⌜ (at + 508 ≤ length (now out)) × (length (now id) ≡ 8) × (length (now bytes) ≤ 480) ⌝ }
+    ensures { λ _. ⌜ now (out .exit) ≡ over at (pageBody (now (id .entry)) index state (now (bytes .entry))) (now (out .entry)) ⌝ }
+{
+    let n = bytes.len();
+    front(out, at, index, state);
+    lend::copy(out, at + 4, id);
+    put_length(out, at + 12, n);
+    lend::copy(out, at + 14, bytes);
+    lend::clear(out, at + 14 + n, 494 - n);
+}
+
+// The whole block, where there is one with this id and this data.
+fn write(out: &mut [u8], at: usize, id: &[u8], index: u8, state: u8, bytes: &[u8])
+    ensures { λ _. ⌜ now (out .exit) ≡ choose (eqb (length (now (id .entry))) 8 && leb (length (now (bytes .entry))) 480) (over at (sealed (pageBody (now (id .entry)) index state (now (bytes .entry)))) (now (out .entry))) (now (out .entry)) ⌝ }
+{
+    if id.len() != ID {
+        return;
+    }
+    if MOST < bytes.len() {
+        return;
+    }
+    if out.len() < SIZE {
+        return;
+    }
+    if out.len() - SIZE < at {
+        return;
+    }
+    body(out, at, id, index, state, bytes);
+    seal(out, at);
+}
+
+// The block of a page that is held.
+pub fn hold(out: &mut [u8], at: usize, id: &[u8], index: u8, bytes: &[u8])
+    ensures { λ _. ⌜ now (out .exit) ≡ withPage at (now (id .entry)) index (held (now (bytes .entry))) (now (out .entry)) ⌝ }
+{
+    write(out, at, id, index, HELD, bytes);
+}
+
+// The block of a page in two versions.
+pub fn dispute(out: &mut [u8], at: usize, id: &[u8], index: u8)
+    ensures { λ _. ⌜ now (out .exit) ≡ withPage at (now (id .entry)) index disputed (now (out .entry)) ⌝ }
+{
+    write(out, at, id, index, DISPUTED, &id[0..0]);
+}
+
+// The block of an absent page.
+pub fn vacate(out: &mut [u8], at: usize, id: &[u8], index: u8)
+    ensures { λ _. ⌜ now (out .exit) ≡ withPage at (now (id .entry)) index absent (now (out .entry)) ⌝ }
+{
+    write(out, at, id, index, ABSENT, &id[0..0]);
+}
+
+// The block from index at on; no bytes where it is not whole.
+fn block(c: &[u8], at: usize) -> &[u8]
+    ensures { λ r. ⌜ now r ≡ blockAt at (now (c .entry)) ⌝ }
+{
+    if c.len() < SIZE {
+        return &c[0..0];
+    }
+    if c.len() - SIZE < at {
+        return &c[0..0];
+    }
+    let end = at + SIZE;
+    &c[at..end]
+}
+
+// The state that the block says: any number above 1 counts as 2.
+pub fn state(c: &[u8], at: usize) -> u8
+    ensures { λ r. ⌜ r ≡ stateOf (readSlot (blockAt at (now (c .entry)))) ⌝ }
+{
+    let b = block(c, at);
+    if b.len() < SIZE {
+        return ABSENT;
+    }
+    let s = b[2];
+    if s < DISPUTED {
+        return s;
+    }
+    DISPUTED
+}
+
+fn wide(b: u8) -> usize
+    ensures { λ r. ⌜ (r ≡ b) × (r < 256) ⌝ }
+{
+    b as usize
+}
+
+// The data that the block says: none unless it is held.
+pub fn contents(c: &[u8], at: usize) -> &[u8]
+    ensures { λ r. ⌜ now r ≡ dataOf (readSlot (blockAt at (now (c .entry)))) ⌝ }
+{
+    let b = block(c, at);
+    if b.len() < SIZE {
+        return &b[0..0];
+    }
+    if b[2] != HELD {
+        return &b[0..0];
+    }
+    let n = wide(b[12]) * 256 + wide(b[13]);
+    if MOST < n {
+        return &b[14..494];
+    }
+    let end = 14 + n;
+    &b[14..end]
+}
+
+// Whether the block is held, with these bytes as its data.
+pub fn holds(c: &[u8], at: usize, bytes: &[u8]) -> bool
+    ensures { λ r. ⌜ r ≡ holding (readSlot (blockAt at (now (c .entry)))) (now (bytes .entry)) ⌝ }
+{
+    if state(c, at) != HELD {
+        return false;
+    }
+    lend::equal(contents(c, at), bytes)
+}
+
+// Whether the block is well formed, as the one of this index in a collection of this id: it is the block of what it says.
+pub fn well_formed(c: &[u8], at: usize, id: &[u8], index: u8) -> bool
+    ensures { λ r. ⌜ r ≡ okPage (now (id .entry)) index (blockAt at (now (c .entry))) ⌝ }
+{
+    if id.len() != ID {
+        return false;
+    }
+    let mut again = [0u8; 512];
+    write(&mut again, 0, id, index, state(c, at), contents(c, at));
+    lend::equal(block(c, at), &again)
+}

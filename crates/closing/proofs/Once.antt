@@ -1,0 +1,34 @@
+-- Two answers and two outputs that keep the same promise are equal. Assumes nothing.
+use mathlib.Core.Path.{_≡_, sym, _∙_}
+use mathlib.Core.List.{List}
+use Prim.Native.Nat.{ℕ}
+use Rattle.state.specs.Finish.{Finish}
+use Rattle.closing.specs.Finish.{Closed}
+use Rattle.closing.specs.Finish as finish
+use Rattle.closing.specs.Mend.{mended, repair}
+use Rattle.closing.specs.Mend as mend
+use Rattle.closing.specs.declared.Finished.{Finished}
+use Rattle.closing.specs.declared.Finished.the-variants as finished
+use Rattle.closing.specs.declared.Mended.{Mended}
+use Rattle.closing.specs.declared.Mended.the-variants as mends
+
+-- the enum says no more than 01's answer does
+pub finished-injective : (r q : Finished) → finish.told r ≡ finish.told q → r ≡ q
+finished-injective (finished.Done m) (finished.Done n) e = cc
+finished-injective (finished.Done m) (finished.Refused n k) e = cc
+finished-injective (finished.Refused m j) (finished.Done n) e = cc
+finished-injective (finished.Refused m j) (finished.Refused n k) e = cc
+
+-- finish has one answer, and leaves one output
+pub closed-once : {v : Finish} {out x y : List ℕ} {r q : Finished} → Closed v out x r → Closed v out y q → (r ≡ q) × (x ≡ y)
+closed-once {r = r} {q = q} p o = (finished-injective r q (p .answer ∙ sym (o .answer)), p .output ∙ sym (o .output))
+
+pub mended-injective : (r q : Mended) → mend.told r ≡ mend.told q → r ≡ q
+mended-injective (mends.Done m) (mends.Done n) e = cc
+mended-injective (mends.Done m) (mends.Refused n) e = cc
+mended-injective (mends.Refused m) (mends.Done n) e = cc
+mended-injective (mends.Refused m) (mends.Refused n) e = cc
+
+-- mend has one answer, and leaves one collection
+pub mended-once : (c : List ℕ) {x y : List ℕ} {r q : Mended} → mend.told r ≡ repair c → mend.told q ≡ repair c → x ≡ mended c → y ≡ mended c → (r ≡ q) × (x ≡ y)
+mended-once c {r = r} {q = q} a b e f = (mended-injective r q (a ∙ sym b), e ∙ sym f)

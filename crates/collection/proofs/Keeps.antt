@@ -1,0 +1,54 @@
+-- A call leaves what is well formed well formed, and of its document: also where the collection did not come from open. Assumes nothing.
+use mathlib.Core.Path.{_≡_, refl, sym, ap, _∙_}
+use mathlib.Core.Bool.{Bool, true, false}
+use mathlib.Core.List.{List}
+use Prim.Native.Nat.{ℕ}
+use borrow.Author.Tests.{eq-eqb}
+use lib.ListN.{length}
+use Rattle.wire.specs.Answer.{choose, Got, got, refused}
+use Rattle.wire.specs.Number.{Bytes}
+use Rattle.lend.specs.Same.{same}
+use Rattle.state.specs.State.{Book, empty}
+use Rattle.state.specs.Take.{Page, takePage, joinBook}
+use Rattle.state.proofs.Valid.{Valid, valid-empty, valid-take, valid-join}
+use Rattle.book.specs.Encode.{encode}
+use Rattle.book.specs.Read.{idOf, readBook, okBook}
+use Rattle.book.proofs.Decode.{ok-id, decoded-valid}
+use Rattle.book.proofs.Round.{valid-fits, encode-ok, encode-id}
+use Rattle.collection.specs.Collection.{goodPage, opening, taking, offering, joining, leaves, refuses, Decision, bytesAfter}
+use Rattle.collection.specs.Parts.{Of}
+use Rattle.collection.proofs.Good.{good-page}
+
+encoded : (id : List ℕ) (b : Book) → length id ≡ 8 → Valid b → Of id (encode id b)
+encoded id b eight v = (encode-ok id eight b v, sym (encode-id id eight b (valid-fits b v)))
+
+-- open makes a well-formed collection of the document
+pub open-makes : (id c : List ℕ) → length id ≡ 8 → length c ≡ 49664 → Of id (bytesAfter c (opening id c))
+unfolding opening
+open-makes id c eight size = rw (eq-eqb (length id) 8 eight, eq-eqb (length c) 49664 size) (encoded id empty eight valid-empty)
+
+module _ (id c : List ℕ) (o : Of id c) where
+  eight : length id ≡ 8
+  eight = ap length (o .1) ∙ ok-id c (o .0)
+
+  -- an offer of any bytes keeps it so
+  pub offer-keeps : (raw : List ℕ) → Bytes raw → Of id (bytesAfter c (offering c raw))
+  unfolding offering
+  offer-keeps raw y = rw (o .0, ← o .1) (go (goodPage id raw) refl)
+    where
+      go : (g : Got Page) → goodPage id raw ≡ g → Of id (bytesAfter c (taking c g))
+      go (got p next) e =
+          rw (← o .1) (encoded id (takePage p (readBook c)) eight (valid-take p (readBook c) (good-page id raw p next y e .good) (decoded-valid c (o .0))))
+      go (refused e) q = o
+
+  -- and so does a join of anything
+  pub join-keeps : (other : List ℕ) → Of id (bytesAfter c (joining c other))
+  unfolding joining
+  join-keeps other = rw (o .0) (go (okBook other) (same (idOf c) (idOf other)) refl)
+    where
+      go : (v w : Bool) → okBook other ≡ v
+          → Of id (bytesAfter c (choose {A = Decision Unit} v (choose w (leaves (encode (idOf c) (joinBook (readBook c) (readBook other))) tt) (refuses 12)) (refuses 13)))
+      go true true e =
+          rw (← o .1) (encoded id (joinBook (readBook c) (readBook other)) eight (valid-join (readBook c) (readBook other) (decoded-valid c (o .0)) (decoded-valid other e)))
+      go true false e = o
+      go false w e = o

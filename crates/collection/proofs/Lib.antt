@@ -1,0 +1,12 @@
+pub mod Blocks
+pub mod Laid
+pub mod Loops
+pub mod Good
+pub mod Taking
+pub mod Merging
+pub mod Calls
+pub mod Keeps
+pub mod Answers
+pub mod Built
+pub mod Replay
+pub mod Demand

@@ -1,0 +1,158 @@
+// One page, taken into a well-formed collection.
+ghost use mathlib.Core.Path.{_≡_};
+ghost use Prim.Native.Nat.{_≤_};
+ghost use lib.ListN.{length};
+ghost use Rattle.wire.specs.Answer.{numberOf};
+ghost use Rattle.frame.specs.Answer as Frame;
+ghost use Rattle.state.specs.State.{absent, held, disagree};
+ghost use Rattle.state.specs.Take.{joinSlot, takePage};
+ghost use Rattle.block.specs.Block.{withPage};
+ghost use Rattle.book.specs.Encode.{encode};
+ghost use Rattle.book.specs.Read.{readBook};
+ghost use Rattle.collection.specs.Collection.{goodPage};
+ghost use Rattle.collection.specs.Parts.{page as aPage, pageTold, pageNo, Of, Fits, BlockOf, slotAt, Slotted, Became};
+use frame::FrameRead;
+
+pub(super) enum PageRead {
+    // The data stand in the frame, len bytes from at on.
+    Page {
+        index: u8,
+        total: u8,
+        at: usize,
+        len: usize,
+    },
+    // 01's number of the refusal.
+    Refused {
+        no: u8,
+    },
+}
+
+// The number of a refusal, which leaves at once.
+fn frame_no(r: FrameRead) -> u8
+    ensures { λ n. ⌜ n ≡ numberOf (Frame.told r) ⌝ }
+{
+    match r {
+        FrameRead::Frame {
+            kind: _,
+            index: _,
+            total: _,
+            at: _,
+            len: _,
+        } => 0,
+        FrameRead::Refused { no } => no,
+    }
+}
+
+pub(super) fn page_no(r: PageRead) -> u8
+    ensures { λ n. ⌜ n ≡ pageNo r ⌝ }
+{
+    match r {
+        PageRead::Page {
+            index: _,
+            total: _,
+            at: _,
+            len: _,
+        } => 0,
+        PageRead::Refused { no } => no,
+    }
+}
+
+// The page of a raw frame, where it is a good page of the document.
+pub(super) fn good_page(id: &[u8], raw: &[u8]) -> PageRead
+    ensures { λ r. ⌜ pageTold (now (raw .entry)) r ≡ goodPage (now (id .entry)) (now (raw .entry)) ⌝ }
+{
+    let r = frame::read(raw);
+    let FrameRead::Frame {
+        kind,
+        index,
+        total,
+        at,
+        len,
+    } = r
+    else {
+        return PageRead::Refused { no: frame_no(r) };
+    };
+    if kind != frame::MAIN {
+        return PageRead::Refused {
+            no: wire::OTHER_DOCUMENT,
+        };
+    }
+    if !lend::equal(id, &raw[4..12]) {
+        return PageRead::Refused {
+            no: wire::OTHER_DOCUMENT,
+        };
+    }
+    PageRead::Page {
+        index: index as u8,
+        total: total as u8,
+        at,
+        len,
+    }
+}
+
+// The data of a page into its block, from index at on. The same data again, or further data for a page in two versions,
+// write nothing. No data are data too.
+pub(super) fn slot(c: &mut [u8], at: usize, id: &[u8], index: u8, bytes: &[u8]) -> u8
+    requires { ⌜ BlockOf (now id) at index (now c) ⌝ }
+    requires { ⌜ length (now bytes) ≤ 480 ⌝ }
+    ensures { λ r. ⌜ Slotted (now (id .entry)) at index (joinSlot (slotAt at (now (c .entry))) (held (now (bytes .entry)))) (now (c .entry)) (now (c .exit)) r ⌝ }
+{
+    let state = block::state(&c[..], at);
+    if state == block::ABSENT {
+        block::hold(c, at, id, index, bytes);
+        return super::HELD;
+    }
+    if state == block::DISPUTED {
+        return super::TWO_VERSIONS;
+    }
+    if block::holds(&c[..], at, bytes) {
+        return super::HELD;
+    }
+    block::dispute(c, at, id, index);
+    super::TWO_VERSIONS
+}
+
+// The block of a page that becomes absent; one that is so already is not written.
+fn vacate(c: &mut [u8], at: usize, id: &[u8], index: u8)
+    requires { ⌜ BlockOf (now id) at index (now c) ⌝ }
+    ensures { λ _. ⌜ now (c .exit) ≡ withPage at (now (id .entry)) index absent (now (c .entry)) ⌝ }
+{
+    if block::state(&c[..], at) != block::ABSENT {
+        block::vacate(c, at, id, index);
+    }
+}
+
+// Totals disagree: the head says so, and every page becomes absent.
+pub(super) fn annul(c: &mut [u8], id: &[u8])
+    requires { ⌜ Of (now id) (now c) ⌝ }
+    ensures { λ _. ⌜ now (c .exit) ≡ encode (now (id .entry)) disagree ⌝ }
+{
+    let mut k: u8 = 0;
+    while k < book::PAGES {
+        vacate(c, book::place(k), id, k);
+        k += 1;
+    }
+    book::write_head(c, id, book::DISAGREE, 0);
+}
+
+// The first page fixes the total; another total annuls the collection.
+pub(super) fn page(c: &mut [u8], id: &[u8], index: u8, total: u8, bytes: &[u8]) -> u8
+    requires { ⌜ Of (now id) (now c) ⌝ }
+    requires { ⌜ Fits index total (now bytes) ⌝ }
+    ensures { λ r. ⌜ Became (now (id .entry)) index (takePage (aPage index total (now (bytes .entry))) (readBook (now (c .entry)))) (now (c .exit)) r ⌝ }
+{
+    let state = c[3];
+    if state == book::DISAGREE {
+        return super::TOTALS_DISAGREE;
+    }
+    let at = book::place(index);
+    if state == book::EMPTY {
+        book::write_head(c, id, book::COLLECTING, total);
+        return slot(c, at, id, index, bytes);
+    }
+    if c[12] != total {
+        annul(c, id);
+        return super::TOTALS_DISAGREE;
+    }
+    slot(c, at, id, index, bytes)
+}

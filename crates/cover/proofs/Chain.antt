@@ -1,0 +1,84 @@
+-- For `search`: one field of a chain. `go-..`: it was read, and the chain goes on; `no-..`: it was refused, and so is the chain. Assumes nothing.
+use Prim.Native.Nat.{ℕ, _+_, _-_, _<_, _≤_}
+use mathlib.Core.Path.{_≡_, refl, sym, ap, _∙_}
+use mathlib.Core.List.{List}
+use native.Mathlib.Omega.{arith}
+use borrow.Author.Tests.{leb-true, le-leb, lt-leb}
+use lib.Dec.{leb}
+use lib.ListN.{length}
+use Rattle.wire.specs.Answer.{Got, got, refused, then, numberOf}
+use Rattle.wire.specs.Number.{Bytes}
+use Rattle.wire.proofs.Branch.{branch}
+use Rattle.wire.proofs.Cases.{passed, then-passed}
+use Rattle.varint.specs.Answer as Varint
+use Rattle.varint.specs.Varint.{varintAt}
+use Rattle.varint.specs.declared.VarintRead.{VarintRead}
+use Rattle.varint.specs.declared.VarintRead.the-variants.{Value}
+use Rattle.varint.proofs.Answers.{go-varint, no-varint}
+use Rattle.varint.proofs.Rounds.{read-stands}
+use Rattle.cover.specs.Cover.{Chunk, chunkAt}
+use Rattle.cover.specs.Parts.{stepOf, chunkTold}
+use Rattle.cover.specs.declared.part.Step.{Step}
+use Rattle.cover.specs.declared.part.Step.the-variants as S
+use Rattle.cover.specs.declared.part.ChunkRead.{ChunkRead}
+use Rattle.cover.specs.declared.part.ChunkRead.the-variants as K
+
+-- one law for every answer enum E: `of` reads it as 01's answer, g is what the contract says, r what was answered
+module _ {A B E : Type 0} (of : E → Got A) (g : Got A) (f : A → ℕ → Got B) where
+  pub go : (r x : E) (y : Got B) → of r ≡ g → r ≡ x → y ≡ then (of x) f → y ≡ then g f
+  go r x y e k h = rw (← e, k) h
+
+  pub stop : (r x : E) (n e : ℕ) → of r ≡ g → r ≡ x → of x ≡ refused e → n ≡ numberOf (of r) → refused n ≡ then g f
+  stop r x n m e k w q = rw (q, ← e, k, w)
+
+module _ {B : Type 0} (g : Got Unit) (f : Unit → ℕ → Got B) where
+  pub go-step : (r : Step) (next : ℕ) (y : Got B) → stepOf r ≡ g → r ≡ S.At next → y ≡ f tt next → y ≡ then g f
+  go-step r next y = go stepOf g f r (S.At next) y
+
+  pub no-step : (r : Step) (n e : ℕ) → stepOf r ≡ g → r ≡ S.Refused e → n ≡ numberOf (stepOf r) → refused n ≡ then g f
+  no-step r n e h k q = stop stepOf g f r (S.Refused e) n e h k refl q
+
+module _ {B : Type 0} (g : Got Chunk) (f : Chunk → ℕ → Got B) where
+  pub go-chunk : (r : ChunkRead) (start len : ℕ) (y : Got B) → chunkTold r ≡ g → r ≡ K.Chunk start len
+      → y ≡ f (record { start = start; len = len }) (start + len) → y ≡ then g f
+  go-chunk r start len y = go chunkTold g f r (K.Chunk start len) y
+
+  pub no-chunk : (r : ChunkRead) (n e : ℕ) → chunkTold r ≡ g → r ≡ K.Refused e → n ≡ numberOf (chunkTold r) → refused n ≡ then g f
+  no-chunk r n e h k q = stop chunkTold g f r (K.Refused e) n e h k refl q
+
+pub ruleset chain = (branch, go-varint, no-varint, go-step, no-step, go-chunk, no-chunk)
+
+-- ---- a field that was read ends within the input
+
+pub chunk-got : (s : List ℕ) (at : ℕ) (v : Chunk) (next : ℕ) → chunkAt s at ≡ got v next
+    → (varintAt s at ≡ got (v .len) (v .start)) × (next ≡ v .start + v .len) × (next ≤ length s)
+unfolding chunkAt
+chunk-got s at v next h =
+    let t = then-passed (varintAt s at) _ h in
+    let u = passed (leb (t .1 + t .0) (length s)) (got (record { start = t .1; len = t .0 }) (t .1 + t .0)) 3 (t .3) in
+    let l = leb-true (t .1 + t .0) (length s) (u .0) in
+    let p : _≡_ {A = Chunk} (record { start = t .1; len = t .0 }) v = cc (u .1) in
+    let q : t .1 + t .0 ≡ next = cc (u .1) in
+    let a : t .1 ≡ v .start = ap (λ (x : Chunk). x .start) p in
+    let b : t .0 ≡ v .len = ap (λ (x : Chunk). x .len) p in
+    (t .2 ∙ cc, omega arith, omega arith)
+
+-- for `search`, what a caller knows of the position
+pub chunk-within : (s : List ℕ) (at : ℕ) (r : ChunkRead) (start len : ℕ) → chunkTold r ≡ chunkAt s at → r ≡ K.Chunk start len → start + len ≤ length s
+chunk-within s at r start len e k = chunk-got s at (record { start = start; len = len }) (start + len) (sym e ∙ ap chunkTold k) .2
+
+-- a length was read: its bytes start at next, and what is left of the input decides
+module _ (s : List ℕ) (at : ℕ) (r : VarintRead) (n next : ℕ) (y : Bytes s) (e : Varint.told r ≡ varintAt s at) (k : r ≡ Value n next) where
+  length-read : varintAt s at ≡ got n next
+  length-read = sym e ∙ ap Varint.told k
+
+  pub length-within : next ≤ length s
+  length-within = read-stands s at n next y length-read .within
+
+  pub chunk-cut : length s - next < n → refused 3 ≡ chunkAt s at
+  unfolding chunkAt
+  chunk-cut h = rw (length-read, lt-leb (next + n) (length s) (omega (arith, length-within)))
+
+  pub chunk-stands : n ≤ length s - next → got (record { start = next; len = n }) (next + n) ≡ chunkAt s at
+  unfolding chunkAt
+  chunk-stands h = rw (length-read, le-leb (next + n) (length s) (omega (arith, length-within)))

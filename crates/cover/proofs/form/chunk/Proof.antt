@@ -1,0 +1,32 @@
+-- `cover::form::chunk` meets its contract: two writes in a row are one. Assumes nothing.
+use native.Mathlib.Omega.{arith}
+use Rattle.cover.proofs.Laying.{chunk-length, chunk-laid}
+use borrow.Author.Needs.{needs}
+use Rattle.cover.proofs.form.chunk.Statement.{statement}
+use Rattle.cover.proofs.form.chunk.Tie as tie
+
+write-requires : tie.Need-write-requires
+write-requires c κs = search needs
+
+size-requires : tie.Need-size-requires
+size-requires c κs = search needs
+
+add-start : tie.Need-add-start
+add-start c = omega (arith, chunk-length (c .before .before .before .before .before .before .before .args .bs .now))
+
+copy-requires : tie.Need-copy-requires
+copy-requires c κs = search needs
+
+add-result : tie.Need-add-result
+add-result c = omega (arith, chunk-length (c .before .before .before .before .before .before .before .before .before .before .before .args .bs .now))
+
+same-length : tie.Need-same-length
+same-length c = search needs
+
+returns : tie.Need-returns
+returns c = let s = c .before .before .before .before .before .before .before .before .before .before .before in chunk-laid _ _ _ _ _ _ _ (s .pre) (c .before .before .before .before .before .before .before .write .ensures) (c .before .before .before .before .size .ensures) (c .before .before .copy .ensures)
+
+pub chunk-spec : {M : Type 1} → statement M
+chunk-spec =
+    tie.close
+    (tie.spec write-requires size-requires add-start copy-requires add-result same-length returns)

@@ -1,0 +1,25 @@
+-- `cover::form::lay_fitting` meets its contract: each part starts where the one before it ended. Assumes nothing.
+use native.Mathlib.Omega.{arith}
+use Rattle.cover.proofs.Laying.{cover-length, cover-laid}
+use borrow.Author.Needs.{needs}
+use Rattle.cover.proofs.form.lay_fitting.Statement.{statement}
+use Rattle.cover.proofs.form.lay_fitting.Tie as tie
+
+opening-requires : tie.Need-opening-requires
+opening-requires c κs = let a = c .before .before .before .before .args in omega (arith, cover-length (a .manifest .now) (a .payload .now))
+
+chunk-requires : tie.Need-chunk-requires
+chunk-requires c κs = let a = c .before .before .before .before .before .before .before .before .args in omega (arith, cover-length (a .manifest .now) (a .payload .now))
+
+chunk-requires-2 : tie.Need-chunk-requires-2
+chunk-requires-2 c κs = let a = c .before .before .before .before .before .before .before .before .before .before .before .before .args in omega (arith, cover-length (a .manifest .now) (a .payload .now))
+
+same-length : tie.Need-same-length
+same-length c = search needs
+
+returns : tie.Need-returns
+returns c = let s = c .before .before .before .before .before .before .before .before .before .before .before .before .before .before .before in cover-laid _ _ _ (s .pre) _ _ _ _ _ (c .before .before .before .before .before .before .before .before .before .before .opening .ensures) (c .before .before .before .before .before .before .chunk .ensures) (c .before .before .chunk2 .ensures)
+
+pub lay-fitting-spec : {M : Type 1} → statement M
+lay-fitting-spec =
+    tie.close (tie.spec opening-requires chunk-requires chunk-requires-2 same-length returns)

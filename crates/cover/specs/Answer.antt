@@ -1,0 +1,11 @@
+-- What `read` answers, as document 01's number and values.
+use Prim.Native.Nat.{_+_}
+use Rattle.wire.specs.Answer.{Got, got, refused}
+use Rattle.cover.specs.Cover as C
+use Rattle.cover.specs.declared.CoverRead.{CoverRead}
+use Rattle.cover.specs.declared.CoverRead.the-variants.{Cover, Refused}
+
+-- the two parts and the position past the payload, or the number of a refusal
+abbrev pub told : CoverRead → Got C.Cover
+told (Cover m ml p pl) = got (record { manifest = m; manifest-len = ml; payload = p; payload-len = pl }) (p + pl)
+told (Refused e) = refused e

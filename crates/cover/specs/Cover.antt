@@ -1,0 +1,63 @@
+-- The outer layout of an envelope, read and laid out: document 01, "CBOR payloads", the paragraph on the envelope; source document 002, section 2.
+use Prim.Native.Nat.{ℕ, _+_}
+use mathlib.Core.List.{List, [], _∷_, _++_}
+use lib.Dec.{ltb, leb, eqb}
+use lib.ListN.{length, take, drop}
+use Rattle.wire.specs.Answer.{choose, Got, got, refused, then}
+use Rattle.lend.specs.Same.{same}
+use Rattle.varint.specs.Varint.{varint, varintAt}
+
+-- what is read of an envelope: where its manifest and its payload stand in the input, and how many bytes each has
+pub record Cover : Type 0 where
+  pub manifest : ℕ
+  pub manifest-len : ℕ
+  pub payload : ℕ
+  pub payload-len : ℕ
+
+-- the bytes there
+abbrev pub manifestOf : List ℕ → Cover → List ℕ
+manifestOf s c = take (c .manifest-len) (drop (c .manifest) s)
+
+abbrev pub payloadOf : List ℕ → Cover → List ℕ
+payloadOf s c = take (c .payload-len) (drop (c .payload) s)
+
+-- ---- the fields, left to right: each is judged once it is whole
+
+-- version 1, else 5
+unfoldable pub versionAt : List ℕ → ℕ → Got Unit
+versionAt s at = then (varintAt s at) (λ version next. choose (eqb version 1) (got tt next) (refused 5))
+
+-- `41 59`, else 4
+abbrev pub magic : List ℕ
+magic = 0x41 ∷ 0x59 ∷ []
+
+unfoldable pub magicOf : List ℕ → Got Unit
+magicOf s = choose (ltb (length s) 2) (refused 3) (choose (same (take 2 s) magic) (got tt 2) (refused 4))
+
+-- a length and that many bytes: where they start and how many they are
+pub record Chunk : Type 0 where
+  pub start : ℕ
+  pub len : ℕ
+
+unfoldable pub chunkAt : List ℕ → ℕ → Got Chunk
+chunkAt s at =
+    then (varintAt s at) (λ len next. choose (leb (next + len) (length s)) (got (record { start = next; len = len }) (next + len)) (refused 3))
+
+-- the first fault decides: magic, version, manifest length, manifest, payload length, payload, no more
+unfoldable pub coverAt : List ℕ → Got Cover
+coverAt s =
+    then (magicOf s) (λ _ a.
+    then (versionAt s a) (λ _ b.
+    then (chunkAt s b) (λ m c.
+    then (chunkAt s c) (λ p d.
+    choose (eqb d (length s))
+    (got (record { manifest = m .start; manifest-len = m .len; payload = p .start; payload-len = p .len }) d)
+    (refused 3)))))
+
+-- ---- the same, laid out
+
+unfoldable pub chunkOf : List ℕ → List ℕ
+chunkOf bs = varint (length bs) ++ bs
+
+unfoldable pub coverOf : List ℕ → List ℕ → List ℕ
+coverOf manifest payload = magic ++ varint 1 ++ chunkOf manifest ++ chunkOf payload

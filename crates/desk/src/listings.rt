@@ -1,0 +1,156 @@
+// The verbs of manifests and envelopes.
+use crate::parts::part;
+use crate::reply;
+use crate::said;
+use crate::words;
+use cbor::StepRead;
+use entry::File;
+use entry::Mtime;
+use entry::Part;
+use envelope::EnvelopeRead;
+use envelope::EnvelopeWrote;
+use manifest::Created;
+use manifest::Manifest;
+use manifest::Seed;
+
+fn seed(s: &[u8], v: Seed, out: &mut [u8], at: usize) -> usize {
+    match v {
+        Seed::Null => reply::put(out, at, b" null"),
+        Seed::Bytes { start, len } => reply::bytes(out, at, part(s, start, len)),
+    }
+}
+
+fn sealed(v: bool, out: &mut [u8], at: usize) -> usize {
+    if v {
+        return reply::number(out, at, 1);
+    }
+    reply::number(out, at, 0)
+}
+
+fn created(v: Created, out: &mut [u8], at: usize) -> usize {
+    match v {
+        Created::Integer { negative, n } => {
+            let at = reply::put(out, at, b" i");
+            reply::signed(out, at, negative, n)
+        }
+        Created::Double { bits } => {
+            let at = reply::put(out, at, b" f");
+            reply::hex_digits(out, at, bits, 16)
+        }
+    }
+}
+
+fn mtime(v: Mtime, out: &mut [u8], at: usize) -> usize {
+    match v {
+        Mtime::Null => reply::put(out, at, b" null"),
+        Mtime::Integer { negative, n } => {
+            let at = reply::put(out, at, b" ");
+            reply::signed(out, at, negative, n)
+        }
+    }
+}
+
+fn bytes(s: &[u8], v: Part, out: &mut [u8], at: usize) -> usize {
+    reply::bytes(out, at, part(s, v.start, v.len))
+}
+
+fn file(s: &[u8], v: File, out: &mut [u8], at: usize) -> usize {
+    let hash = v.hash;
+    let path = v.path;
+    let changed = v.mtime;
+    let at = bytes(s, hash, out, at);
+    let at = bytes(s, path, out, at);
+    let at = reply::number(out, at, v.size);
+    mtime(changed, out, at)
+}
+
+fn files(s: &[u8], v: [File; 64], count: usize, out: &mut [u8], at: usize) -> usize {
+    let mut next = at;
+    let mut i = 0;
+    while i < 64 {
+        if count <= i {
+            return next;
+        }
+        next = file(s, v[i], out, next);
+        i += 1;
+    }
+    next
+}
+
+fn manifest_values(s: &[u8], v: Manifest, out: &mut [u8]) -> usize {
+    let from = v.seed;
+    let made = v.created;
+    let all = v.files;
+    let at = reply::done(out);
+    let at = seed(s, from, out, at);
+    let at = sealed(v.sealed, out, at);
+    let at = created(made, out, at);
+    let at = reply::number(out, at, v.count as u64);
+    files(s, all, v.count, out, at)
+}
+
+fn manifest_read(s: &[u8], out: &mut [u8]) -> usize {
+    let r = manifest::read(s);
+    let answer = r.answer;
+    let StepRead::Past { next: _ } = answer else {
+        return reply::refused(out, cbor::step_no(answer));
+    };
+    let value = r.value;
+    manifest_values(s, value, out)
+}
+
+fn manifest_write(v: Manifest, pool: &[u8], room: &mut [u8], out: &mut [u8]) -> usize {
+    let answer = manifest::write(pool, v, room);
+    reply::wrote(out, answer, room)
+}
+
+fn envelope_read(s: &[u8], out: &mut [u8]) -> usize {
+    let answer = envelope::read(s);
+    match answer {
+        EnvelopeRead::Envelope {
+            manifest,
+            manifest_len,
+            payload,
+            payload_len,
+        } => {
+            let at = reply::done(out);
+            let at = reply::bytes(out, at, part(s, manifest, manifest_len));
+            reply::bytes(out, at, part(s, payload, payload_len))
+        }
+        EnvelopeRead::Refused { no, place } => reply::refused_at(out, no, place as u64),
+    }
+}
+
+fn envelope_write(manifest: &[u8], payload: &[u8], room: &mut [u8], out: &mut [u8]) -> usize {
+    let answer = envelope::write(manifest, payload, room);
+    match answer {
+        EnvelopeWrote::Done { len } => reply::written(out, len, room),
+        EnvelopeWrote::Refused { no, place } => reply::not_written(out, no, place as u64, room),
+    }
+}
+
+// The reply to a line of this group; 0 for any other line.
+pub(crate) fn call(
+    line: &[u8],
+    starts: &[usize],
+    pool: &[u8],
+    room: &mut [u8],
+    out: &mut [u8],
+) -> usize {
+    if said::asks(line, starts) {
+        return manifest_write(said::manifest(line, starts), pool, room, out);
+    }
+    let verb = words::verb(
+        line,
+        starts,
+        b"manifest-read b,envelope-read b,envelope-write bbr",
+    );
+    let one = words::bytes(pool, starts, 1);
+    let two = words::bytes(pool, starts, 2);
+    match verb {
+        1 => manifest_read(one, out),
+        2 => envelope_read(one, out),
+        3 => envelope_write(one, two, room, out),
+        _ => 0,
+    }
+}

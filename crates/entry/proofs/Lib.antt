@@ -1,0 +1,6 @@
+pub mod Answers
+pub mod Verdicts
+pub mod Reading
+pub mod Sizes
+pub mod Writers
+pub mod Rounds

@@ -1,0 +1,20 @@
+-- `entry::write::digest` meets its contract: the place, then its length. Assumes nothing.
+use Rattle.entry.specs.Writing.{digestIn}
+use Rattle.entry.proofs.Verdicts.{said-no, said-yes, and-no, and-on}
+use borrow.Author.Needs.{needs}
+use Rattle.entry.proofs.write.digest.Statement.{statement}
+use Rattle.entry.proofs.write.digest.Tie as tie
+
+holds-requires : tie.Need-holds-requires
+holds-requires c κs = search needs
+
+returns : tie.Need-returns
+unfolding digestIn
+returns c = search (and-no, said-no)
+
+returns-2 : tie.Need-returns-2
+unfolding digestIn
+returns-2 c = search (and-on, said-yes)
+
+pub digest-spec : {M : Type 1} → statement M
+digest-spec = tie.close (tie.spec holds-requires returns returns-2)

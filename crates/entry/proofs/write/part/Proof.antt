@@ -1,0 +1,58 @@
+-- `entry::write::part` meets its contract: all of the place, what is left of it, or nothing. Assumes nothing.
+use Rattle.entry.proofs.Writers.{part-none, part-rest, part-whole}
+use borrow.Author.Needs.{needs}
+use Rattle.entry.proofs.write.part.Statement.{statement}
+use Rattle.entry.proofs.write.part.Tie as tie
+
+sub-result : tie.Need-sub-result
+sub-result c = search needs
+
+part-result-start : tie.Need-part-result-start
+part-result-start c = search needs
+
+part-result-end : tie.Need-part-result-end
+part-result-end c = search needs
+
+returns : tie.Need-returns
+returns c = search part-none
+
+part-result-start-2 : tie.Need-part-result-start-2
+part-result-start-2 c = search needs
+
+part-result-end-2 : tie.Need-part-result-end-2
+part-result-end-2 c = search needs
+
+returns-2 : tie.Need-returns-2
+returns-2 c = search part-rest
+
+add-end : tie.Need-add-end
+add-end c = search needs
+
+sub-result-2 : tie.Need-sub-result-2
+sub-result-2 c = search needs
+
+part-result-start-3 : tie.Need-part-result-start-3
+part-result-start-3 c = search needs
+
+part-result-end-3 : tie.Need-part-result-end-3
+part-result-end-3 c = search needs
+
+returns-3 : tie.Need-returns-3
+returns-3 c = search part-whole
+
+pub part-spec : {M : Type 1} → statement M
+part-spec =
+    tie.close
+    (tie.spec
+    sub-result
+    part-result-start
+    part-result-end
+    returns
+    part-result-start-2
+    part-result-end-2
+    returns-2
+    add-end
+    sub-result-2
+    part-result-start-3
+    part-result-end-3
+    returns-3)

@@ -1,0 +1,79 @@
+-- One file of a manifest, as it is written: document 01, "CBOR payloads".
+use Prim.Native.Nat.{ℕ, _+_}
+use mathlib.Core.Bool.{Bool, true, _&&_}
+use mathlib.Core.List.{List, [], _∷_, _++_}
+use lib.Dec.{ltb, leb, eqb}
+use lib.ListN.{length}
+use Rattle.wire.specs.Answer.{choose}
+use Rattle.wire.specs.Writing.{Verdict, bytes, fault}
+use Rattle.path.specs.Order.{below}
+use Rattle.path.specs.Path.{pathAllowed}
+use Rattle.cbor.specs.Form.{headOf, stringOf, stringFieldOf, numberFieldOf}
+use Rattle.cbor.specs.Names.{hashKey, pathKey, sizeKey, mtimeKey}
+use Rattle.entry.specs.File.{partIn}
+use Rattle.entry.specs.declared.Part.{Part}
+use Rattle.entry.specs.declared.Mtime.{Mtime}
+use Rattle.entry.specs.declared.Mtime.the-variants.{Null, Integer}
+use Rattle.entry.specs.declared.File.{File}
+
+-- what a file's map says
+pub record Entry : Type 0 where
+  pub hash : List ℕ
+  pub path : List ℕ
+  pub size : ℕ
+  pub mtime : Mtime
+
+-- what a file says whose places are in a pool
+unfoldable pub entryIn : List ℕ → File → Entry
+entryIn pool f = record { hash = partIn pool (f .hash); path = partIn pool (f .path); size = f .size; mtime = f .mtime }
+
+-- n, or -1 - n
+unfoldable pub integerOf : Bool → ℕ → List ℕ
+integerOf negative n = headOf (choose negative 1 0) n
+
+unfoldable pub mtimeOf : Mtime → List ℕ
+mtimeOf Null = 0xF6 ∷ []
+mtimeOf (Integer negative n) = integerOf negative n
+
+-- head A4: `hash`, `path`, `size`, `mtime`
+unfoldable pub entryOf : Entry → List ℕ
+entryOf e =
+    (0xA4 ∷ [])
+    ++ (stringFieldOf hashKey 2 (e .hash)
+    ++ (stringFieldOf pathKey 3 (e .path) ++ (numberFieldOf sizeKey (e .size) ++ (stringOf 3 mtimeKey ++ mtimeOf (e .mtime)))))
+
+unfoldable pub fileOf : List ℕ → File → List ℕ
+fileOf pool f = entryOf (entryIn pool f)
+
+-- ---- which values may be written
+
+-- the place does not reach past the pool
+unfoldable pub held : List ℕ → Part → Bool
+held pool p = leb (p .start + p .len) (length pool)
+
+-- a hash or a seed: 32 bytes
+unfoldable pub digestIn : List ℕ → Part → Bool
+digestIn pool p = held pool p && eqb (p .len) 32
+
+-- a path that is allowed and above prev
+unfoldable pub pathIn : List ℕ → List ℕ → Part → Bool
+pathIn pool prev p = held pool p && (pathAllowed (partIn pool p) && below prev (partIn pool p))
+
+-- from -2^63 to 2^63 - 1, or null
+unfoldable pub mtimeAllowed : Mtime → Bool
+mtimeAllowed Null = true
+mtimeAllowed (Integer negative n) = ltb n 9223372036854775808
+
+-- a value out of range is 19, a path 20, in the order of the keys
+unfoldable pub fileVerdict : List ℕ → List ℕ → File → Verdict
+fileVerdict pool prev f =
+    choose (digestIn pool (f .hash))
+    (choose (pathIn pool prev (f .path))
+    (choose (leb (f .size) 4294967295) (choose (mtimeAllowed (f .mtime)) (bytes (fileOf pool f)) (fault 19)) (fault 19))
+    (fault 20))
+    (fault 19)
+
+-- what stands in a buffer for a verdict: nothing for a refusal
+unfoldable pub formOf : Verdict → List ℕ
+formOf (bytes bs) = bs
+formOf (fault e) = []

@@ -1,0 +1,140 @@
+// What stands at a position of the input. The first offending item from the left decides: see specs/File.antt.
+ghost use mathlib.Core.Path.{_≡_};
+ghost use Rattle.entry.specs.File.{integerAt, mtimeAt, pathAt, fileAt};
+ghost use Rattle.entry.specs.Answer.{fileTold};
+ghost use Rattle.entry.specs.Parts.{mtimeTold};
+ghost use Rattle.cbor.specs.Answer.{headTold, stringTold};
+use super::File;
+use super::FileRead;
+use super::Mtime;
+use super::MtimeRead;
+use super::Part;
+use super::mtime_no;
+use cbor::BYTES;
+use cbor::HeadRead;
+use cbor::INTEGER;
+use cbor::NEGATIVE;
+use cbor::NumberRead;
+use cbor::StepRead;
+use cbor::StringRead;
+use cbor::TEXT;
+use cbor::head_no;
+use cbor::number_no;
+use cbor::step_no;
+use cbor::string_no;
+use wire::BAD_PATH;
+use wire::OUT_OF_RANGE;
+
+// 2^63: an integer is n or -1 - n with n below it.
+const END: u64 = 0x8000000000000000;
+
+// An integer of either sign: the major type NEGATIVE tells which.
+pub fn integer(s: &[u8], at: usize) -> HeadRead
+    ensures { λ r. ⌜ headTold r ≡ integerAt (now (s .entry)) at ⌝ }
+{
+    let h = cbor::read::head(s, at, INTEGER);
+    let HeadRead::Value { major, n, next } = h else {
+        return HeadRead::Refused { no: head_no(h) };
+    };
+    if END <= n {
+        return HeadRead::Refused { no: OUT_OF_RANGE };
+    }
+    HeadRead::Value { major, n, next }
+}
+
+fn mtime_field(s: &[u8], at: usize) -> MtimeRead
+    ensures { λ r. ⌜ mtimeTold r ≡ mtimeAt (now (s .entry)) at ⌝ }
+{
+    let k = cbor::read::key(s, at, b"mtime");
+    let StepRead::Past { next: a } = k else {
+        return MtimeRead::Refused { no: step_no(k) };
+    };
+    let b = cbor::read::byte(s, a);
+    let NumberRead::Value { n: first, next: p } = b else {
+        return MtimeRead::Refused { no: number_no(b) };
+    };
+    if first == 0xF6 {
+        return MtimeRead::Value {
+            mtime: Mtime::Null,
+            next: p,
+        };
+    }
+    let h = integer(s, a);
+    let HeadRead::Value { major, n, next } = h else {
+        return MtimeRead::Refused { no: head_no(h) };
+    };
+    MtimeRead::Value {
+        mtime: Mtime::Integer {
+            negative: major == NEGATIVE,
+            n,
+        },
+        next,
+    }
+}
+
+// A path that is above prev, the path before it.
+fn path_field(s: &[u8], at: usize, prev: &[u8]) -> StringRead
+    ensures { λ r. ⌜ stringTold r ≡ pathAt (now (s .entry)) at (now (prev .entry)) ⌝ }
+{
+    let p = cbor::read::string_field(s, at, b"path", TEXT, 1, 200, BAD_PATH);
+    let StringRead::Value { start, len, next } = p else {
+        return StringRead::Refused { no: string_no(p) };
+    };
+    let end = start + len;
+    if !path::allowed(&s[start..end]) {
+        return StringRead::Refused { no: BAD_PATH };
+    }
+    if !path::ascends(prev, &s[start..end]) {
+        return StringRead::Refused { no: BAD_PATH };
+    }
+    StringRead::Value { start, len, next }
+}
+
+// A file whose path is above prev, the path before it.
+pub fn file(s: &[u8], at: usize, prev: &[u8]) -> FileRead
+    ensures { λ r. ⌜ fileTold r ≡ fileAt (now (s .entry)) at (now (prev .entry)) ⌝ }
+{
+    let m = cbor::read::one_byte(s, at, 0xA4);
+    let StepRead::Past { next: a } = m else {
+        return FileRead::Refused { no: step_no(m) };
+    };
+    let h = cbor::read::string_field(s, a, b"hash", BYTES, 32, 32, OUT_OF_RANGE);
+    let StringRead::Value {
+        start: hash,
+        len: hash_len,
+        next: b,
+    } = h
+    else {
+        return FileRead::Refused { no: string_no(h) };
+    };
+    let p = path_field(s, b, prev);
+    let StringRead::Value {
+        start: path,
+        len: path_len,
+        next: c,
+    } = p
+    else {
+        return FileRead::Refused { no: string_no(p) };
+    };
+    let z = cbor::read::number_field(s, c, b"size", 0, 0xFFFFFFFF);
+    let NumberRead::Value { n: size, next: d } = z else {
+        return FileRead::Refused { no: number_no(z) };
+    };
+    let t = mtime_field(s, d);
+    let MtimeRead::Value { mtime, next } = t else {
+        return FileRead::Refused { no: mtime_no(t) };
+    };
+    let file = File {
+        hash: Part {
+            start: hash,
+            len: hash_len,
+        },
+        path: Part {
+            start: path,
+            len: path_len,
+        },
+        size,
+        mtime,
+    };
+    FileRead::Value { file, next }
+}

@@ -1,0 +1,4 @@
+pub mod Loops
+pub mod Judging
+pub mod Answers
+pub mod Rounds

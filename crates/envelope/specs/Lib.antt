@@ -1,0 +1,4 @@
+pub mod Placed
+pub mod Envelope
+pub mod Answer
+pub mod Parts

@@ -1,0 +1,81 @@
+// The manifest and the payload against each other: read and written envelopes are judged by the same function.
+ghost use mathlib.Core.Path.{_≡_};
+ghost use Prim.Native.Nat.{_≤_};
+ghost use lib.Dec.{eqb};
+ghost use lib.ListN.{length, take};
+ghost use Rattle.envelope.specs.Envelope.{total, digests, judged};
+ghost use Rattle.envelope.specs.Parts.{judgeTold};
+use cbor::StepRead;
+use entry::File;
+use wire::BAD_CONTENTS;
+
+pub enum Judge {
+    Fine,
+    // 01's number of the refusal, and the place that it returns.
+    Faulty { no: u8, place: usize },
+}
+
+// Whether the sizes of the first count files sum to n. Each is taken off what is left of n, so that no sum can wrap.
+fn adds_up(files: [File; 64], count: usize, n: u64) -> bool
+    requires { ⌜ (count ≤ 64) × (count ≤ length files) ⌝ }
+    ensures { λ r. ⌜ r ≡ eqb (total (take count files)) n ⌝ }
+{
+    let mut left = n;
+    let mut k = 0;
+    while k < count {
+        let f = files[k];
+        if left < f.size {
+            return false;
+        }
+        left -= f.size;
+        k += 1;
+    }
+    left == 0
+}
+
+// The digests of the first count files, which take up the payload one after the other.
+fn digests_hold(manifest: &[u8], payload: &[u8], files: [File; 64], count: usize) -> Judge
+    requires { ⌜ (count ≤ 64) × (count ≤ length files) × (total (take count files) ≡ length (now payload)) ⌝ }
+    ensures { λ r. ⌜ judgeTold r ≡ digests (now (manifest .entry)) (take count files) 0 (now (payload .entry)) ⌝ }
+{
+    let mut at = 0;
+    let mut i = 0;
+    while i < count {
+        let f = files[i];
+        let hash = f.hash;
+        let end = at + (f.size as usize);
+        let digest = sha256::sha256(&payload[at..end]);
+        if !lend::equal(&digest, entry::write::part(manifest, hash)) {
+            return Judge::Faulty {
+                no: BAD_CONTENTS,
+                place: i,
+            };
+        }
+        at = end;
+        i += 1;
+    }
+    Judge::Fine
+}
+
+pub(super) fn parts(manifest: &[u8], payload: &[u8]) -> Judge
+    ensures { λ r. ⌜ judgeTold r ≡ judged (now (manifest .entry)) (now (payload .entry)) ⌝ }
+{
+    let r = manifest::read(manifest);
+    let a = r.answer;
+    let StepRead::Past { next: _ } = a else {
+        return Judge::Faulty {
+            no: cbor::step_no(a),
+            place: 0,
+        };
+    };
+    let value = r.value;
+    let files = value.files;
+    let count = value.count;
+    if !adds_up(files, count, payload.len() as u64) {
+        return Judge::Faulty {
+            no: BAD_CONTENTS,
+            place: count,
+        };
+    }
+    digests_hold(manifest, payload, files, count)
+}

@@ -1,0 +1,115 @@
+-- What the loop of `files::run` goes by: files that are read one after the other into an array. Assumes nothing.
+use Prim.Native.Nat.{ℕ, suc, _+_, _-_, _^_, _<_, _≤_}
+use mathlib.Core.Path.{_≡_, refl, sym, ap, _∙_}
+use mathlib.Core.List.{List, [], _∷_, _++_, append-assoc, append-nil}
+use native.Mathlib.Nat.{sub-zero}
+use native.Mathlib.Omega.{arith}
+use lib.ListN.{length, take, drop, set, replicate, length-append}
+use lib.Seq.{set-at}
+use mir.Syntax.{w64}
+use mir.Val.{Fits}
+use Rattle.wire.specs.Answer.{Got, got, refused, then, numberOf}
+use Rattle.cbor.specs.declared.NumberRead.the-variants as number
+use Rattle.entry.specs.File.{partIn, fileAt}
+use Rattle.entry.specs.Answer.{fileTold}
+use Rattle.entry.specs.declared.File.{File}
+use Rattle.entry.specs.declared.FileRead.{FileRead}
+use Rattle.entry.specs.declared.FileRead.the-variants.{Value, Refused}
+use Rattle.entry.proofs.Rounds.{file-within}
+use Rattle.manifest.specs.Manifest.{filesAt}
+use Rattle.manifest.specs.Answer.{blankFile, padded}
+use Rattle.manifest.specs.Parts.{filesAnswer}
+use Rattle.manifest.specs.declared.FilesRead.{FilesRead}
+
+-- one file more in the array
+pub padded-set : (fs : List File) (f : File) (i : ℕ) → length fs ≡ i → i < 64 → set (padded fs) i f ≡ padded (fs ++ (f ∷ []))
+unfolding padded
+padded-set fs f i e h =
+    let k : ℕ = 64 - length (fs ++ (f ∷ [])) in
+    let n : 64 - length fs ≡ suc (64 - length (fs ++ (f ∷ []))) = omega (arith, length-append fs (f ∷ [])) in
+    ap (λ (j : ℕ). set (fs ++ replicate j blankFile) i f) n
+    ∙ set-at fs blankFile (replicate k blankFile) f i e
+    ∙ sym (append-assoc fs (f ∷ []) (replicate k blankFile))
+
+-- the files behind those that are done
+abbrev pub behind : List File → Got (List File) → Got (List File)
+behind done g = then g (λ fs next. got (done ++ fs) next)
+
+behind-none : (g : Got (List File)) → g ≡ behind [] g
+behind-none (got fs next) = refl
+behind-none (refused e) = refl
+
+behind-one : (done : List File) (f : File) (g : Got (List File)) → behind done (then g (λ fs next. got (f ∷ fs) next)) ≡ behind (done ++ (f ∷ [])) g
+behind-one done f (got fs next) = ap (λ (l : List File). got l next) (sym (append-assoc done (f ∷ []) fs))
+behind-one done f (refused e) = refl
+
+-- after i files: those that are done stand in the array, and the rest of the work is the whole of it
+pub record Reading (s : List ℕ) (at count : ℕ) (files : List File) (i p start end : ℕ) : Type 0 where
+  pub most : i ≤ count
+  pub order : start ≤ end
+  pub within : end ≤ length s
+  pub done : List File
+  pub many : length done ≡ i
+  pub array : files ≡ padded done
+  pub whole : filesAt s count at [] ≡ behind done (filesAt s (count - i) p (take (end - start) (drop start s)))
+
+pub read-none : (s : List ℕ) (at count : ℕ) (files : List File) → files ≡ padded [] → Reading s at count files 0 at 0 0
+read-none s at count files e =
+    record {
+      most = omega arith;
+      order = omega arith;
+      within = omega arith;
+      done = [];
+      many = refl;
+      array = e;
+      whole = behind-none (filesAt s count at []) ∙ ap (λ (k : ℕ). behind [] (filesAt s k at [])) (sym (sub-zero count));
+    }
+
+module _ (s : List ℕ) (at count : ℕ) (files : List File) (i p start end : ℕ) (h : Reading s at count files i p start end) where
+  pub read-end : count ≤ i → _≡_ {A = FilesRead} (record { answer = number.Value count p; files = files }) (filesAnswer (filesAt s count at []))
+  unfolding filesAt
+  read-end l =
+      let z : count - i ≡ 0 = omega arith in
+      let n : length (h .done) ≡ count = omega (arith, h .many, h .most) in
+      let w : filesAt s count at [] ≡ got (h .done) p =
+      h .whole
+      ∙ ap (λ (k : ℕ). behind (h .done) (filesAt s k p (take (end - start) (drop start s)))) z
+      ∙ ap (λ (l : List File). got l p) (append-nil (h .done)) in
+      rw (w, n, h .array)
+
+  module _ (l : i < count) (r : FileRead) (e : fileTold r ≡ fileAt s p (take (end - start) (drop start s))) where
+    one-more : filesAt s count at []
+        ≡ behind (h .done) (then (fileTold r) (λ f q. then (filesAt s (count - (i + 1)) q (partIn s (f .path))) (λ fs next. got (f ∷ fs) next)))
+    unfolding filesAt
+    one-more = let n : count - i ≡ suc (count - (i + 1)) = omega arith in rw (h .whole, n, e)
+
+    pub read-no : (n e : ℕ) (y : FilesRead) → r ≡ Refused e → n ≡ numberOf (fileTold r) → y ≡ filesAnswer (refused n) → y ≡ filesAnswer (filesAt s count at [])
+    read-no n x y k q u =
+        let z : n ≡ x = q ∙ ap (λ (v : FileRead). numberOf (fileTold v)) k in
+        let w : filesAt s count at [] ≡ refused x =
+        one-more ∙ ap (λ (v : FileRead). behind (h .done) (then (fileTold v) (λ f q. then (filesAt s (count - (i + 1)) q (partIn s (f .path))) (λ fs next. got (f ∷ fs) next)))) k in
+        u ∙ rw (w, z)
+
+    module _ (f : File) (next : ℕ) (k : r ≡ Value f next) where
+      path-within : f .path .start + f .path .len ≤ length s
+      path-within = file-within s p (take (end - start) (drop start s)) (sym e ∙ ap fileTold k) .2
+
+      pub path-fits : length s < 2 ^ 64 → Fits w64 (f .path .start + f .path .len)
+      path-fits b = record { fits = omega (arith, path-within) }
+
+      pub read-more : count ≤ 64 → Reading s at count (set files i f) (i + 1) next (f .path .start) (f .path .start + f .path .len)
+      read-more b =
+          let n : f .path .start + f .path .len - f .path .start ≡ f .path .len = omega arith in
+          record {
+            most = omega arith;
+            order = omega arith;
+            within = path-within;
+            done = h .done ++ (f ∷ []);
+            many = omega (arith, length-append (h .done) (f ∷ []), h .many);
+            array = ap (λ (l : List File). set l i f) (h .array) ∙ padded-set (h .done) f i (h .many) (omega arith);
+            whole =
+                one-more
+                ∙ ap (λ (x : FileRead). behind (h .done) (then (fileTold x) (λ f q. then (filesAt s (count - (i + 1)) q (partIn s (f .path))) (λ fs next. got (f ∷ fs) next)))) k
+                ∙ behind-one (h .done) f (filesAt s (count - (i + 1)) next (partIn s (f .path)))
+                ∙ ap (λ (j : ℕ). behind (h .done ++ (f ∷ [])) (filesAt s (count - (i + 1)) next (take j (drop (f .path .start) s)))) (sym n);
+          }

@@ -1,0 +1,279 @@
+-- Each field: what is written reads back, and what is read was written. Assumes nothing.
+use Prim.Native.Nat.{ℕ, zero, suc, _+_, _*_, _^_, _<_, _≤_}
+use mathlib.Core.Path.{_≡_, refl, sym, ap, ap₂, _∙_, subst}
+use mathlib.Core.Bool.{Bool, true, false}
+use mathlib.Core.List.{List, [], _∷_, _++_, map}
+use native.Mathlib.Omega.{arith}
+use borrow.Author.Tests.{ltb-true, lt-ltb, leb-true, le-leb, ne-eqb, eqb-true, eqb-false}
+use lib.Dec.{leb, eqb}
+use lib.ListN.{length}
+use Rattle.wire.specs.Answer.{choose, Got, got, then}
+use Rattle.wire.specs.Number.{Bytes, bigEndian}
+use Rattle.wire.proofs.Cases.{passed, then-passed}
+use Rattle.cbor.specs.Form.{infoOf, widthOf, headOf, stringOf, doubleOf}
+use Rattle.cbor.specs.Item.{byteAt, numberAt, keyAt, stringAt, doubleAt}
+use Rattle.cbor.specs.Names.{seedKey, filesKey, sealedKey, createdKey}
+use Rattle.cbor.proofs.Sizes.{info-most, either}
+use Rattle.cbor.proofs.Standing.{Stands, stands-none, stands-first, stands-second, stands-join, stands-as}
+use Rattle.cbor.proofs.Within.{number-within, string-within}
+use Rattle.cbor.proofs.Written.{kind-bytes, kind-array, byte-back, double-back, key-back, number-back, string-back}
+use Rattle.cbor.proofs.Only.{byte-only, double-only, key-only, number-only, string-only}
+use Rattle.entry.specs.File.{partIn, integerAt, fileAt}
+use Rattle.entry.specs.Writing.{Entry, entryIn, entryOf, integerOf, fileOf}
+use Rattle.entry.specs.declared.File.{File}
+use Rattle.entry.proofs.Writers.{within-digest}
+use Rattle.entry.proofs.Rounds.{sign-major, integer-back, integer-first, integer-only, Sound, good-sound, file-back, file-only}
+use Rattle.manifest.specs.Manifest.{seedAt, filesAt, listAt, agrees, sealedAt, finite, finiteAt, createdAt}
+use Rattle.manifest.specs.Writing.{Secret, none, some, seedIn, secretOf, entriesOf, createdOf, seedAllowed, createdAllowed}
+use Rattle.manifest.specs.declared.Seed.{Seed}
+use Rattle.manifest.specs.declared.Seed.the-variants as seed
+use Rattle.manifest.specs.declared.Created.{Created}
+use Rattle.manifest.specs.declared.Created.the-variants as created
+use Rattle.manifest.proofs.Judging.{AllGood}
+
+-- ---- the seed
+
+-- 32 bytes, where there are any
+abbrev pub SecretLong : Secret → Type 0
+SecretLong none = Unit
+SecretLong (some bs) = length bs ≡ 32
+
+-- the first byte of a byte string is not that of null
+string-first : {s : List ℕ} {at next : ℕ} (bs : List ℕ) → Stands s at (stringOf 2 bs) next → (x : ℕ) × (byteAt s at ≡ got x (at + 1)) × (x < 0xF6)
+unfolding stringOf headOf
+string-first bs v = (
+  2 * 32 + infoOf (length bs),
+  byte-back (2 * 32 + infoOf (length bs)) (stands-first ((2 * 32 + infoOf (length bs)) ∷ []) (bigEndian (widthOf (infoOf (length bs))) (length bs) ++ bs) v),
+  omega (arith, info-most (length bs)),
+)
+
+pub seed-back : {s : List ℕ} {at next : ℕ} (v : Secret) → SecretLong v → Stands s at (stringOf 3 seedKey ++ secretOf v) next → (w : Seed) × (seedAt s at ≡ got w next) × (seedIn s w ≡ v)
+unfolding seedAt secretOf seedIn
+seed-back none l h =
+    let k = stands-first (stringOf 3 seedKey) (0xF6 ∷ []) h in
+    let v = stands-second (stringOf 3 seedKey) (0xF6 ∷ []) h in
+    (seed.Null, rw (key-back seedKey (omega arith) k, byte-back 0xF6 v), refl)
+seed-back {s} {at} {next} (some bs) l h =
+    let k = stands-first (stringOf 3 seedKey) (stringOf 2 bs) h in
+    let v = stands-second (stringOf 3 seedKey) (stringOf 2 bs) h in
+    let r = string-back 2 32 32 19 kind-bytes bs (omega arith) (omega arith) (omega arith) v in
+    let b = string-first bs v in (
+      seed.Bytes (r .0 .start) (r .0 .len),
+      rw (key-back seedKey (omega arith) k, b .1, ne-eqb (b .0) 0xF6 (omega (arith, b .2)), r .1),
+      ap some (r .2 .part),
+    )
+
+pub seed-only : {s : List ℕ} {at next : ℕ} {v : Seed} → Bytes s → seedAt s at ≡ got v next → Stands s at (stringOf 3 seedKey ++ secretOf (seedIn s v)) next × (seedAllowed s v ≡ true)
+unfolding seedAt secretOf seedIn seedAllowed
+seed-only {s} {at} {next} {v} y e =
+    let k = then-passed (keyAt s at seedKey) _ e in
+    let b = then-passed (byteAt s (k .1)) _ (k .3) in
+    let r = value (k .1) (b .0) (b .1) (b .2) (b .3) in
+    (stands-join (key-only seedKey (k .2) .0) (r .0), r .1)
+  where
+    value : (a x p : ℕ) → byteAt s a ≡ got x p
+        → choose (eqb x 0xF6) (got seed.Null p) (then (stringAt s a 2 32 32 19) (λ v next. got (seed.Bytes (v .start) (v .len)) next)) ≡ got v next
+        → Stands s a (secretOf (seedIn s v)) next × (seedAllowed s v ≡ true)
+    value a x p b = either (λ (g : Got Seed). g ≡ got v next → Stands s a (secretOf (seedIn s v)) next × (seedAllowed s v ≡ true)) (eqb x 0xF6) null whole
+      where
+        null : eqb x 0xF6 ≡ true → got seed.Null p ≡ got v next → Stands s a (secretOf (seedIn s v)) next × (seedAllowed s v ≡ true)
+        null q g =
+            let f : seed.Null ≡ v = cc in
+            let n : p ≡ next = cc in
+            subst (λ (v : Seed). Stands s a (secretOf (seedIn s v)) next × (seedAllowed s v ≡ true)) f
+            (stands-as (ap (λ (z : ℕ). z ∷ []) (eqb-true x 0xF6 q)) n (byte-only b), refl)
+
+        whole : eqb x 0xF6 ≡ false → then (stringAt s a 2 32 32 19) (λ v next. got (seed.Bytes (v .start) (v .len)) next) ≡ got v next
+            → Stands s a (secretOf (seedIn s v)) next × (seedAllowed s v ≡ true)
+        whole q g =
+            let i = then-passed (stringAt s a 2 32 32 19) (λ v next. got (seed.Bytes (v .start) (v .len)) next) g in
+            let f : seed.Bytes (i .0 .start) (i .0 .len) ≡ v = cc (i .3) in
+            let n : i .1 ≡ next = cc (i .3) in
+            let w = string-within s a 2 32 32 19 (i .2) in
+            subst (λ (v : Seed). Stands s a (secretOf (seedIn s v)) next × (seedAllowed s v ≡ true)) f (
+              stands-as refl n (string-only 2 32 32 19 y (i .2) .0),
+              within-digest s (record { start = i .0 .start; len = i .0 .len }) (omega (arith, w .0, w .1)) (omega (arith, w .2, w .3)),
+            )
+
+-- ---- the files
+
+-- each is sound after the one before it
+abbrev pub AllSound : List ℕ → List Entry → Type 0
+AllSound prev [] = Unit
+AllSound prev (e ∷ es) = Sound prev e × AllSound (e .path) es
+
+pub all-sound : (pool prev : List ℕ) (fs : List File) → AllGood pool prev fs → AllSound prev (map (entryIn pool) fs)
+unfolding entryIn
+all-sound pool prev [] g = tt
+all-sound pool prev (f ∷ fs) g = (good-sound pool prev f (g .0), all-sound pool (partIn pool (f .path)) fs (g .1))
+
+pub files-back : {s : List ℕ} {at next : ℕ} (prev : List ℕ) (es : List Entry) → AllSound prev es → Stands s at (entriesOf es) next
+    → (fs : List File) × (filesAt s (length es) at prev ≡ got fs next) × (map (entryIn s) fs ≡ es)
+unfolding filesAt entriesOf entryIn
+files-back {s} {at} {next} prev [] g h = ([], ap (got []) (omega (arith, h .ends)), refl)
+files-back {s} {at} {next} prev (e ∷ es) g h =
+    let a = file-back prev e (g .0) (stands-first (entryOf e) (entriesOf es) h) in
+    let r = files-back (e .path) es (g .1) (stands-second (entryOf e) (entriesOf es) h) in
+    let p : partIn s (a .0 .path) ≡ e .path = ap (λ (x : Entry). x .path) (a .2) in
+    (a .0 ∷ r .0, rw (a .1, p, r .1), ap₂ (λ (x : Entry) (xs : List Entry). x ∷ xs) (a .2) (r .2))
+
+pub files-only : {s : List ℕ} {next : ℕ} (at : ℕ) (prev : List ℕ) (k : ℕ) {fs : List File} → Bytes s → at ≤ length s → filesAt s k at prev ≡ got fs next
+    → Stands s at (entriesOf (map (entryIn s) fs)) next × AllGood s prev fs × (length fs ≡ k)
+unfolding filesAt entriesOf fileOf
+files-only {s} {next} at prev zero {fs} y l e =
+    let f : [] ≡ fs = cc in
+    let n : at ≡ next = cc in
+    subst (λ (fs : List File). Stands s at (entriesOf (map (entryIn s) fs)) next × AllGood s prev fs × (length fs ≡ 0)) f (stands-as refl n (stands-none at l), tt, refl)
+files-only {s} {next} at prev (suc k) {fs} y l e =
+    let a = then-passed (fileAt s at prev) _ e in
+    let b = then-passed (filesAt s k (a .1) (partIn s (a .0 .path))) _ (a .3) in
+    let f : a .0 ∷ b .0 ≡ fs = cc (b .3) in
+    let n : b .1 ≡ next = cc (b .3) in
+    let p = file-only prev y (a .2) in
+    let r = files-only (a .1) (partIn s (a .0 .path)) k y (p .0 .within) (b .2) in
+    subst (λ (fs : List File). Stands s at (entriesOf (map (entryIn s) fs)) next × AllGood s prev fs × (length fs ≡ suc k)) f
+    (stands-join (p .0) (stands-as refl n (r .0)), (p .1, r .1), ap suc (r .2))
+
+-- the key, the head and the files
+pub list-back : {s : List ℕ} {at a b next : ℕ} (es : List Entry) → AllSound [] es → 1 ≤ length es → length es ≤ 64 → Stands s at (stringOf 3 filesKey) a → Stands s a (headOf 4 (length es)) b
+    → Stands s b (entriesOf es) next → (fs : List File) × (listAt s at ≡ got fs next) × (map (entryIn s) fs ≡ es)
+unfolding listAt
+list-back es g l m h₁ h₂ h₃ =
+    let r = files-back [] es g h₃ in
+    (r .0, rw (key-back filesKey (omega arith) h₁, number-back 4 1 64 19 kind-array (length es) (omega arith) l m h₂) (r .1), r .2)
+
+pub record Listed (s : List ℕ) (at : ℕ) (fs : List File) (next : ℕ) : Type 0 where
+  pub after-key : ℕ
+  pub after-head : ℕ
+  pub key-stands : Stands s at (stringOf 3 filesKey) after-key
+  pub head-stands : Stands s after-key (headOf 4 (length fs)) after-head
+  pub files-stand : Stands s after-head (entriesOf (map (entryIn s) fs)) next
+  pub good : AllGood s [] fs
+  pub some : 1 ≤ length fs
+  pub few : length fs ≤ 64
+
+pub list-only : {s : List ℕ} {at next : ℕ} {fs : List File} → Bytes s → listAt s at ≡ got fs next → Listed s at fs next
+unfolding listAt
+list-only {s} {at} {next} {fs} y e =
+    let k = then-passed (keyAt s at filesKey) _ e in
+    let n = then-passed (numberAt s (k .1) 4 1 64 19) _ (k .3) in
+    let w = number-within s (k .1) 4 1 64 19 (n .2) in
+    let h = number-only 4 1 64 19 y (n .2) in
+    let r = files-only (n .1) [] (n .0) y (h .0 .within) (n .3) in
+    record {
+      after-key = k .1;
+      after-head = n .1;
+      key-stands = key-only filesKey (k .2) .0;
+      head-stands = stands-as (ap (headOf 4) (sym (r .2))) refl (h .0);
+      files-stand = r .0;
+      good = r .1;
+      some = omega (arith, w .0, r .2);
+      few = omega (arith, w .1, r .2);
+    }
+
+-- ---- sealed
+
+sealed-byte : (b : Bool) → eqb (choose b 0xF5 0xF4) 0xF5 ≡ b
+sealed-byte true = refl
+sealed-byte false = refl
+
+sealed-range : (b : Bool) → (0xF4 ≤ choose b 0xF5 0xF4) × (choose b 0xF5 0xF4 ≤ 0xF5)
+sealed-range true = (omega arith, omega arith)
+sealed-range false = (omega arith, omega arith)
+
+pub sealed-back : {s : List ℕ} {at a next : ℕ} (v : Seed) (b : Bool) → agrees v b ≡ true → Stands s at (stringOf 3 sealedKey) a → Stands s a (choose b 0xF5 0xF4 ∷ []) next
+    → sealedAt s at v ≡ got b next
+unfolding sealedAt
+sealed-back {s} {at} {a} {next} v b g h₁ h₂ =
+    let x : ℕ = choose b 0xF5 0xF4 in
+    let r = sealed-range b in
+    rw (key-back sealedKey (omega arith) h₁, byte-back (choose b 0xF5 0xF4) h₂)
+    (rw (le-leb 0xF4 (choose b 0xF5 0xF4) (r .0), le-leb (choose b 0xF5 0xF4) 0xF5 (r .1), sealed-byte b, g))
+
+pub record Flagged (s : List ℕ) (at : ℕ) (v : Seed) (b : Bool) (next : ℕ) : Type 0 where
+  pub after-key : ℕ
+  pub key-stands : Stands s at (stringOf 3 sealedKey) after-key
+  pub byte-stands : Stands s after-key (choose b 0xF5 0xF4 ∷ []) next
+  pub agreed : agrees v b ≡ true
+
+-- F4 and F5 are the two bytes in the range
+flag-of : (x : ℕ) → 0xF4 ≤ x → x ≤ 0xF5 → x ≡ choose (eqb x 0xF5) 0xF5 0xF4
+flag-of x l m = either (λ (k : ℕ). x ≡ k) (eqb x 0xF5) (λ t. eqb-true x 0xF5 t) (λ t. let n = eqb-false x 0xF5 t in omega arith)
+
+pub sealed-only : {s : List ℕ} {at next : ℕ} {v : Seed} {b : Bool} → sealedAt s at v ≡ got b next → Flagged s at v b next
+unfolding sealedAt
+sealed-only {s} {at} {next} {v} {b} e =
+    let k = then-passed (keyAt s at sealedKey) _ e in
+    let c = then-passed (byteAt s (k .1)) _ (k .3) in
+    let p = passed (leb 0xF4 (c .0)) _ 18 (c .3) in
+    let q = passed (leb (c .0) 0xF5) _ 18 (p .1) in
+    let r = passed (agrees v (eqb (c .0) 0xF5)) (got (eqb (c .0) 0xF5) (c .1)) 19 (q .1) in
+    let f : eqb (c .0) 0xF5 ≡ b = cc (r .1) in
+    let n : c .1 ≡ next = cc (r .1) in
+    let x = flag-of (c .0) (leb-true 0xF4 (c .0) (p .0)) (leb-true (c .0) 0xF5 (q .0)) in
+    record {
+      after-key = k .1;
+      key-stands = key-only sealedKey (k .2) .0;
+      byte-stands = stands-as (ap (λ (z : ℕ). z ∷ []) (x ∙ ap (λ (t : Bool). choose t 0xF5 0xF4) f)) n (byte-only (c .2));
+      agreed = ap (agrees v) (sym f) ∙ r .0;
+    }
+
+-- ---- created
+
+-- what the type says of every value: a double has 64 bits
+abbrev pub CreatedFits : Created → Type 0
+CreatedFits (created.Integer negative n) = Unit
+CreatedFits (created.Double bits) = bits < 2 ^ 64
+
+double-first : {s : List ℕ} {at next : ℕ} (bits : ℕ) → Stands s at (doubleOf bits) next → byteAt s at ≡ got 0xFB (at + 1)
+unfolding doubleOf
+double-first bits v = byte-back 0xFB (stands-first (0xFB ∷ []) (bigEndian 8 bits) v)
+
+finite-back : {s : List ℕ} {at next : ℕ} (bits : ℕ) → bits < 2 ^ 64 → finite bits ≡ true → Stands s at (doubleOf bits) next → finiteAt s at ≡ got (created.Double bits) next
+unfolding finiteAt
+finite-back bits t a v = rw (double-back bits t v, a)
+
+pub created-back : {s : List ℕ} {at next : ℕ} (v : Created) → CreatedFits v → createdAllowed v ≡ true → Stands s at (stringOf 3 createdKey ++ createdOf v) next → createdAt s at ≡ got v next
+unfolding createdAt createdOf createdAllowed
+created-back (created.Integer negative n) t a h =
+    let k = stands-first (stringOf 3 createdKey) (integerOf negative n) h in
+    let v = stands-second (stringOf 3 createdKey) (integerOf negative n) h in
+    let l = ltb-true n 9223372036854775808 a in
+    let b = integer-first negative n l v in
+    rw (key-back createdKey (omega arith) k, b .1, ne-eqb (b .0) 0xFB (omega (arith, b .2)), integer-back negative n l v, sign-major negative)
+created-back {s} {at} {next} (created.Double bits) t a h =
+    let k = stands-first (stringOf 3 createdKey) (doubleOf bits) h in
+    let v = stands-second (stringOf 3 createdKey) (doubleOf bits) h in
+    rw (key-back createdKey (omega arith) k, double-first bits v) (finite-back bits t a v)
+
+pub created-only : {s : List ℕ} {at next : ℕ} {v : Created} → Bytes s → createdAt s at ≡ got v next
+    → Stands s at (stringOf 3 createdKey ++ createdOf v) next × (createdAllowed v ≡ true) × CreatedFits v
+unfolding createdAt finiteAt createdOf createdAllowed
+created-only {s} {at} {next} {v} y e =
+    let k = then-passed (keyAt s at createdKey) _ e in
+    let b = then-passed (byteAt s (k .1)) _ (k .3) in
+    let r = value (k .1) (b .0) (b .3) in
+    (stands-join (key-only createdKey (k .2) .0) (r .0), r .1, r .2)
+  where
+    value : (a x : ℕ) → choose (eqb x 0xFB) (finiteAt s a) (then (integerAt s a) (λ h next. got (created.Integer (eqb (h .major) 1) (h .number)) next)) ≡ got v next
+        → Stands s a (createdOf v) next × (createdAllowed v ≡ true) × CreatedFits v
+    value a x = either (λ (g : Got Created). g ≡ got v next → Stands s a (createdOf v) next × (createdAllowed v ≡ true) × CreatedFits v) (eqb x 0xFB) double whole
+      where
+        double : eqb x 0xFB ≡ true → finiteAt s a ≡ got v next → Stands s a (createdOf v) next × (createdAllowed v ≡ true) × CreatedFits v
+        double q g =
+            let i = then-passed (doubleAt s a) _ g in
+            let u = passed (finite (i .0)) (got (created.Double (i .0)) (i .1)) 19 (i .3) in
+            let f : created.Double (i .0) ≡ v = cc (u .1) in
+            let n : i .1 ≡ next = cc (u .1) in
+            let r = double-only y (i .2) in
+            subst (λ (v : Created). Stands s a (createdOf v) next × (createdAllowed v ≡ true) × CreatedFits v) f (stands-as refl n (r .0), u .0, r .1)
+
+        whole : eqb x 0xFB ≡ false → then (integerAt s a) (λ h next. got (created.Integer (eqb (h .major) 1) (h .number)) next) ≡ got v next
+            → Stands s a (createdOf v) next × (createdAllowed v ≡ true) × CreatedFits v
+        whole q g =
+            let i = then-passed (integerAt s a) (λ h next. got (created.Integer (eqb (h .major) 1) (h .number)) next) g in
+            let f : created.Integer (eqb (i .0 .major) 1) (i .0 .number) ≡ v = cc (i .3) in
+            let n : i .1 ≡ next = cc (i .3) in
+            let r = integer-only y (i .2) in
+            subst (λ (v : Created). Stands s a (createdOf v) next × (createdAllowed v ≡ true) × CreatedFits v) f
+            (stands-as refl n (r .0), lt-ltb (i .0 .number) 9223372036854775808 (r .1), tt)

@@ -1,0 +1,92 @@
+-- `manifest::fields::created_field` meets its contract: the key, then a double or an integer. Assumes nothing.
+use Rattle.manifest.specs.Manifest.{createdAt}
+use Rattle.cbor.proofs.Answers.{chain}
+use borrow.Author.Needs.{needs}
+use Rattle.manifest.proofs.fields.created_field.Statement.{statement}
+use Rattle.manifest.proofs.fields.created_field.Tie as tie
+
+slice-aggregate-key : tie.Need-slice-aggregate-key
+slice-aggregate-key c = search needs
+
+key-requires : tie.Need-key-requires
+key-requires c κs = search needs
+
+enum-known-k : tie.Need-enum-known-k
+enum-known-k c = search needs
+
+enum-told : tie.Need-enum-told
+enum-told c = search needs
+
+step-no-requires : tie.Need-step-no-requires
+step-no-requires c κs = search needs
+
+returns : tie.Need-returns
+unfolding createdAt
+returns c = search chain depth 40
+
+byte-requires : tie.Need-byte-requires
+byte-requires c κs = search needs
+
+enum-known-f : tie.Need-enum-known-f
+enum-known-f c = search needs
+
+enum-told-2 : tie.Need-enum-told-2
+enum-told-2 c = search needs
+
+number-no-requires : tie.Need-number-no-requires
+number-no-requires c κs = search needs
+
+returns-2 : tie.Need-returns-2
+unfolding createdAt
+returns-2 c = search chain depth 40
+
+finite-double-requires : tie.Need-finite-double-requires
+finite-double-requires c κs = search needs
+
+returns-3 : tie.Need-returns-3
+unfolding createdAt
+returns-3 c = search chain depth 40
+
+integer-requires : tie.Need-integer-requires
+integer-requires c κs = search needs
+
+enum-known-h : tie.Need-enum-known-h
+enum-known-h c = search needs
+
+enum-told-3 : tie.Need-enum-told-3
+enum-told-3 c = search needs
+
+head-no-requires : tie.Need-head-no-requires
+head-no-requires c κs = search needs
+
+returns-4 : tie.Need-returns-4
+unfolding createdAt
+returns-4 c = search chain depth 40
+
+returns-5 : tie.Need-returns-5
+unfolding createdAt
+returns-5 c = search chain depth 40
+
+pub created-field-spec : {M : Type 1} → statement M
+created-field-spec =
+    tie.close
+    (tie.spec
+    slice-aggregate-key
+    key-requires
+    enum-known-k
+    enum-told
+    step-no-requires
+    returns
+    byte-requires
+    enum-known-f
+    enum-told-2
+    number-no-requires
+    returns-2
+    finite-double-requires
+    returns-3
+    integer-requires
+    enum-known-h
+    enum-told-3
+    head-no-requires
+    returns-4
+    returns-5)

@@ -1,0 +1,4 @@
+pub mod Manifest
+pub mod Writing
+pub mod Answer
+pub mod Parts

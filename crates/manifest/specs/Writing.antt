@@ -1,0 +1,113 @@
+-- The manifest, as it is written: document 01, "CBOR payloads" and "House sizes".
+use Prim.Native.Nat.{ℕ}
+use mathlib.Core.Bool.{Bool, true, _&&_}
+use mathlib.Core.List.{List, [], _∷_, _++_, map}
+use lib.Dec.{ltb, leb}
+use lib.ListN.{length, take}
+use Rattle.wire.specs.Answer.{choose}
+use Rattle.wire.specs.Writing.{Verdict, bytes, fault}
+use Rattle.cbor.specs.Form.{headOf, stringOf, doubleOf, numberFieldOf}
+use Rattle.cbor.specs.Names.{seedKey, filesKey, sealedKey, createdKey, versionKey}
+use Rattle.entry.specs.File.{partIn}
+use Rattle.entry.specs.Writing.{Entry, entryIn, entryOf, integerOf, digestIn, fileVerdict}
+use Rattle.entry.specs.declared.File.{File}
+use Rattle.manifest.specs.Manifest.{Listing, agrees, finite}
+use Rattle.manifest.specs.declared.Seed.{Seed}
+use Rattle.manifest.specs.declared.Seed.the-variants as seed
+use Rattle.manifest.specs.declared.Created.{Created}
+use Rattle.manifest.specs.declared.Created.the-variants as created
+use Rattle.manifest.specs.declared.Manifest.{Manifest}
+
+-- ---- what a manifest says
+
+-- the bytes of a seed, or none
+pub data Secret : Type 0 where
+  none : Secret
+  some : List ℕ → Secret
+
+-- the bytes at all its places, and the rest
+pub record Said : Type 0 where
+  pub seed : Secret
+  pub files : List Entry
+  pub sealed : Bool
+  pub created : Created
+
+-- a seed whose place is in a pool
+unfoldable pub seedIn : List ℕ → Seed → Secret
+seedIn pool seed.Null = none
+seedIn pool (seed.Bytes start len) = some (partIn pool (record { start = start; len = len }))
+
+-- a manifest whose places are in a pool
+unfoldable pub saidIn : List ℕ → Listing → Said
+saidIn pool v = record { seed = seedIn pool (v .seed); files = map (entryIn pool) (v .files); sealed = v .sealed; created = v .created }
+
+-- ---- its written form
+
+-- null is F6
+unfoldable pub secretOf : Secret → List ℕ
+secretOf none = 0xF6 ∷ []
+secretOf (some bs) = stringOf 2 bs
+
+unfoldable pub entriesOf : List Entry → List ℕ
+entriesOf [] = []
+entriesOf (e ∷ es) = entryOf e ++ entriesOf es
+
+unfoldable pub createdOf : Created → List ℕ
+createdOf (created.Integer negative n) = integerOf negative n
+createdOf (created.Double bits) = doubleOf bits
+
+-- head A5: `seed`, `files`, `sealed`, `created`, `version`
+unfoldable pub saidOf : Said → List ℕ
+saidOf v =
+    (0xA5 ∷ [])
+    ++ ((stringOf 3 seedKey ++ secretOf (v .seed))
+    ++ (stringOf 3 filesKey
+    ++ (headOf 4 (length (v .files))
+    ++ (entriesOf (v .files)
+    ++ (stringOf 3 sealedKey
+    ++ ((choose (v .sealed) 0xF5 0xF4 ∷ []) ++ ((stringOf 3 createdKey ++ createdOf (v .created)) ++ numberFieldOf versionKey 1)))))))
+
+-- the same, with its places in a pool
+unfoldable pub manifestOf : List ℕ → Listing → List ℕ
+manifestOf pool v = saidOf (saidIn pool v)
+
+-- ---- which values may be written
+
+-- null, or 32 bytes in the pool
+unfoldable pub seedAllowed : List ℕ → Seed → Bool
+seedAllowed pool seed.Null = true
+seedAllowed pool (seed.Bytes start len) = digestIn pool (record { start = start; len = len })
+
+-- the first fault decides
+abbrev pub followed : Verdict → (List ℕ → Verdict) → Verdict
+followed (bytes bs) f = f bs
+followed (fault e) f = fault e
+
+-- each file, the first above prev and each above the one before it
+unfoldable pub filesVerdict : List ℕ → List ℕ → List File → Verdict
+filesVerdict pool prev [] = bytes []
+filesVerdict pool prev (f ∷ fs) =
+    followed (fileVerdict pool prev f) (λ b. followed (filesVerdict pool (partIn pool (f .path)) fs) (λ bs. bytes (b ++ bs)))
+
+-- from -2^63 to 2^63 - 1, or finite
+unfoldable pub createdAllowed : Created → Bool
+createdAllowed (created.Integer negative n) = ltb n 9223372036854775808
+createdAllowed (created.Double bits) = finite bits
+
+-- the first `count` files of the array are those that are meant
+unfoldable pub listed : Manifest → Listing
+listed m = record { seed = m .seed; files = take (m .count) (m .files); sealed = m .sealed; created = m .created }
+
+-- the values are judged in the order of the keys, then a manifest above 16,384 bytes is 9
+unfoldable pub manifestVerdict : List ℕ → Manifest → Verdict
+manifestVerdict pool m =
+    choose (seedAllowed pool (m .seed))
+    (choose (leb 1 (m .count) && leb (m .count) 64)
+    (followed (filesVerdict pool [] (listed m .files)) (λ _.
+    choose (agrees (m .seed) (m .sealed))
+    (choose (createdAllowed (m .created))
+    (choose (leb (length (manifestOf pool (listed m))) 16384) (bytes (manifestOf pool (listed m))) (fault 9))
+    (fault 19))
+    (fault 19)))
+    (fault 19))
+    (fault 19)

@@ -1,0 +1,73 @@
+// The list of files at a position of the input.
+ghost use mathlib.Core.Path.{_≡_};
+ghost use mathlib.Core.List.{[]};
+ghost use Prim.Native.Nat.{_≤_};
+ghost use Rattle.wire.specs.Answer.{refused};
+ghost use Rattle.manifest.specs.Manifest.{filesAt, listAt};
+ghost use Rattle.manifest.specs.Parts.{filesAnswer};
+use super::FilesRead;
+use super::blank_files;
+use cbor::ARRAY;
+use cbor::NumberRead;
+use cbor::StepRead;
+use cbor::number_no;
+use cbor::step_no;
+use entry::File;
+use entry::FileRead;
+use entry::file_no;
+use wire::OUT_OF_RANGE;
+
+fn no_files(no: u8) -> FilesRead
+    ensures { λ r. ⌜ r ≡ filesAnswer (refused no) ⌝ }
+{
+    let files = blank_files();
+    FilesRead {
+        answer: NumberRead::Refused { no },
+        files,
+    }
+}
+
+// count files from position at on.
+fn run(s: &[u8], at: usize, count: usize) -> FilesRead
+    requires { ⌜ count ≤ 64 ⌝ }
+    ensures { λ r. ⌜ r ≡ filesAnswer (filesAt (now (s .entry)) count at []) ⌝ }
+{
+    let mut files = blank_files();
+    let mut i = 0;
+    let mut p = at;
+    let mut start = 0;
+    let mut end = 0;
+    while i < count {
+        let r = entry::read::file(s, p, &s[start..end]);
+        let FileRead::Value { file, next } = r else {
+            return no_files(file_no(r));
+        };
+        files[i] = file;
+        let path = file.path;
+        start = path.start;
+        end = path.start + path.len;
+        p = next;
+        i += 1;
+    }
+    FilesRead {
+        answer: NumberRead::Value {
+            n: count as u64,
+            next: p,
+        },
+        files,
+    }
+}
+
+pub(super) fn list(s: &[u8], at: usize) -> FilesRead
+    ensures { λ r. ⌜ r ≡ filesAnswer (listAt (now (s .entry)) at) ⌝ }
+{
+    let k = cbor::read::key(s, at, b"files");
+    let StepRead::Past { next: a } = k else {
+        return no_files(step_no(k));
+    };
+    let h = cbor::read::number(s, a, ARRAY, 1, 64, OUT_OF_RANGE);
+    let NumberRead::Value { n, next } = h else {
+        return no_files(number_no(h));
+    };
+    run(s, next, n as usize)
+}

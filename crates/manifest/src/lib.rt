@@ -1,0 +1,174 @@
+// The manifest, read and written: document 01, "CBOR payloads".
+mod fields;
+mod files;
+mod judge;
+mod lay;
+
+ghost use mathlib.Core.Path.{_≡_};
+ghost use mathlib.Core.List.{[]};
+ghost use Rattle.wire.specs.Answer.{refused};
+ghost use Rattle.wire.specs.Writing.{Written};
+ghost use Rattle.manifest.specs.Manifest.{manifestAt};
+ghost use Rattle.manifest.specs.Writing.{manifestVerdict};
+ghost use Rattle.manifest.specs.Answer.{padded, answerFor};
+use cbor::NumberRead;
+use cbor::StepRead;
+use cbor::number_no;
+use cbor::step_no;
+use entry::File;
+use entry::Mtime;
+use entry::Part;
+use wire::Wrote;
+
+pub enum Seed {
+    Null,
+    // A place in the pool of the manifest's bytes: of one that was read the pool is the input.
+    Bytes { start: usize, len: usize },
+}
+
+pub enum Created {
+    // The number n, or -1 - n where it is negative.
+    Integer { negative: bool, n: u64 },
+    // A double, by its 64 bits.
+    Double { bits: u64 },
+}
+
+// The first `count` files are meant.
+pub struct Manifest {
+    pub seed: Seed,
+    pub files: [File; 64],
+    pub count: usize,
+    pub sealed: bool,
+    pub created: Created,
+}
+
+// The position past the manifest, which is the input's length, or 01's number of the refusal. The value of a refused manifest,
+// and each file past the count, is blank.
+pub struct ManifestRead {
+    pub answer: StepRead,
+    pub value: Manifest,
+}
+
+// What each field's reader answers: a value and the position past it, or the number of the refusal.
+enum SeedRead {
+    Value { seed: Seed, next: usize },
+    Refused { no: u8 },
+}
+
+enum SealedRead {
+    Value { sealed: bool, next: usize },
+    Refused { no: u8 },
+}
+
+enum CreatedRead {
+    Value { created: Created, next: usize },
+    Refused { no: u8 },
+}
+
+// What stands after the files.
+struct Ending {
+    sealed: bool,
+    created: Created,
+}
+
+enum EndRead {
+    Value { end: Ending, next: usize },
+    Refused { no: u8 },
+}
+
+// How many files there are and the position past them, or the refusal; and the files.
+struct FilesRead {
+    answer: NumberRead,
+    files: [File; 64],
+}
+
+// A manifest has at most so many bytes.
+const LARGEST: usize = 16384;
+
+fn blank_files() -> [File; 64]
+    ensures { λ r. ⌜ r ≡ padded [] ⌝ }
+{
+    let none = Part { start: 0, len: 0 };
+    let file = File {
+        hash: none,
+        path: none,
+        size: 0,
+        mtime: Mtime::Null,
+    };
+    [file; 64]
+}
+
+fn refusal(no: u8) -> ManifestRead
+    ensures { λ r. ⌜ r ≡ answerFor (refused no) ⌝ }
+{
+    let files = blank_files();
+    let value = Manifest {
+        seed: Seed::Null,
+        files,
+        count: 0,
+        sealed: true,
+        created: Created::Integer {
+            negative: false,
+            n: 0,
+        },
+    };
+    ManifestRead {
+        answer: StepRead::Refused { no },
+        value,
+    }
+}
+
+// The whole payload.
+pub fn read(s: &[u8]) -> ManifestRead
+    ensures { λ r. ⌜ r ≡ answerFor (manifestAt (now (s .entry))) ⌝ }
+{
+    if LARGEST < s.len() {
+        return refusal(wire::TOO_LARGE);
+    }
+    let m = cbor::read::one_byte(s, 0, 0xA5);
+    let StepRead::Past { next: a } = m else {
+        return refusal(step_no(m));
+    };
+    let k = fields::seed_field(s, a);
+    let SeedRead::Value { seed, next: b } = k else {
+        return refusal(fields::seed_no(k));
+    };
+    let l = files::list(s, b);
+    let listed = l.answer;
+    let NumberRead::Value { n, next: c } = listed else {
+        return refusal(number_no(listed));
+    };
+    let e = fields::ending(s, c, seed);
+    let EndRead::Value { end, next } = e else {
+        return refusal(fields::end_no(e));
+    };
+    let files = l.files;
+    let created = end.created;
+    let value = Manifest {
+        seed,
+        files,
+        count: n as usize,
+        sealed: end.sealed,
+        created,
+    };
+    ManifestRead {
+        answer: StepRead::Past { next },
+        value,
+    }
+}
+
+// Writes the first `count` files of m with the rest of it. Its places are in the pool, so what `read` answered is written by
+// the same bytes with the input as the pool.
+pub fn write(pool: &[u8], m: Manifest, out: &mut [u8]) -> Wrote
+    ensures { λ r. ⌜ Written 0 (manifestVerdict (now (pool .entry)) m) (now (out .entry)) (now (out .exit)) r ⌝ }
+{
+    let j = judge::whole(pool, m);
+    let Wrote::Done { len } = j else {
+        return j;
+    };
+    if out.len() < len {
+        return Wrote::Refused { no: wire::NO_ROOM };
+    }
+    lay::whole(pool, m, out);
+    Wrote::Done { len }
+}

@@ -1,0 +1,87 @@
+-- One line: a scan, or the document id. Assumes nothing.
+use Prim.Native.Nat.{ℕ, _+_, _-_, _*_, _/_, _%_, _^_, _≤_, _<_}
+use mathlib.Core.Path.{_≡_, refl, sym, ap, _∙_}
+use mathlib.Core.Logic.{_⊎_, inl, inr, ⊎-elim}
+use mathlib.Core.Bool.{Bool, true, false, _&&_}
+use mathlib.Core.List.{List, []}
+use native.Mathlib.Nat.{sub-zero}
+use native.Mathlib.Omega.{arith}
+use borrow.Author.Tests.{le-leb, lt-leb}
+use lib.Dec.{eqb, leb}
+use lib.ListN.{length, take, drop}
+use Rattle.wire.specs.Number.{digits, number}
+use Rattle.wire.specs.Over.{over}
+use Rattle.wire.specs.Writing.{Verdict, bytes, fault, Written}
+use Rattle.wire.specs.declared.Wrote.{Wrote}
+use Rattle.wire.specs.declared.Wrote.the-variants.{Done, Refused}
+use Rattle.wire.proofs.Digits.{length-digits}
+use Rattle.wire.proofs.Overs.{over-all, read-over}
+use Rattle.wire.proofs.Writes.{passed, escaped, bytes-injective, Stood, done-stood, refused-why}
+use Rattle.text.specs.Text.{base64, values, below, readValues, readText, leftover}
+use Rattle.text.proofs.Characters.{length-values}
+use Rattle.collection.specs.Collection.{Answer, bytesAfter, opening, offering, Kept}
+use Rattle.scan.specs.Id.{allHex, eightOf, idVerdict}
+use Rattle.scan.specs.Session.{offered, scanned}
+use Rattle.scan.proofs.Hex.{length-eight}
+
+-- a base64 text has more characters than bytes
+pub text-short : (line bs : List ℕ) → readText base64 line ≡ bytes bs → length bs ≤ length line
+unfolding readText readValues base64
+text-short line bs h =
+    let vs : List ℕ = values base64 line in
+    let p = passed (below 64 vs) _ 1 h in
+    let q = escaped (eqb (length vs % 4) 1) _ 2 (p .1) in
+    let r = passed (eqb (number 64 vs % 2 ^ leftover base64 (length vs)) 0) _ 2 (q .1) in
+    let e = bytes-injective (r .1) in
+    let l = length-digits 256 (6 * length vs / 8) (number 64 vs / 2 ^ leftover base64 (length vs)) in
+    omega (arith, ap length e, l, length-values base64 line)
+
+-- a refusal, with room for all, is the verdict's own
+module _ (v : Verdict) (x y : List ℕ) (room : (bs : List ℕ) → v ≡ bytes bs → length bs ≤ length x) where
+  pub own-fault : (r : Wrote) (e : ℕ) → Written 0 v x y r → r ≡ Refused e → v ≡ fault e
+  own-fault r e w h =
+      ⊎-elim (λ f. f) (λ s. absurd (omega (arith, s .2, room (s .0) (s .1)))) (refused-why 0 v x y e (rw h at w))
+
+pub done-fits : (v : Verdict) (x y : List ℕ) (r : Wrote) (n : ℕ) → Written 0 v x y r → r ≡ Done n → n ≤ length x
+done-fits v x y r n w h = omega (arith, done-stood 0 v x y n (rw h at w) .fits)
+
+-- ---- a scan
+
+module _ (line c : List ℕ) where
+  pub scan-long : 1024 < length line → c ≡ scanned c line
+  unfolding scanned
+  scan-long h = sym (rw (lt-leb (length line) 1024 h))
+
+  module _ (l : length line ≤ 1024) (x y : List ℕ) (k : length x ≡ 1024) (r : Wrote) (w : Written 0 (readText base64 line) x y r) where
+    judged : scanned c line ≡ offered c (readText base64 line)
+    unfolding scanned
+    judged = rw (le-leb (length line) 1024 l)
+
+    pub scan-bad : (e : ℕ) → r ≡ Refused e → c ≡ scanned c line
+    scan-bad e h =
+        let f = own-fault (readText base64 line) x y (λ bs q. omega (arith, text-short line bs q)) r e w h in
+        sym (judged ∙ ap (offered c) f)
+
+    pub scan-good : (n : ℕ) → r ≡ Done n → (raw : List ℕ) → raw ≡ take (n - 0) y → (a : Answer ℕ) (z : List ℕ) → Kept (offering c raw) c z a → z ≡ scanned c line
+    scan-good n h raw p a z q =
+        let s = done-stood 0 (readText base64 line) x y n (rw h at w) in
+        let t : take (n - 0) y ≡ s .what =
+        ap (λ (m : ℕ). take m y) (sub-zero n ∙ s .count) ∙ ap (take (length (s .what))) (s .stands) ∙ read-over 0 (s .what) x (omega (arith, s .fits, s .count)) in
+        let o : raw ≡ s .what = p ∙ t in
+        q .bytes ∙ sym (judged ∙ ap (offered c) (s .meant) ∙ ap (λ (m : List ℕ). bytesAfter c (offering c m)) (sym o))
+
+-- ---- the id
+
+pub id-eight : (line bs : List ℕ) → idVerdict line ≡ bytes bs → length bs ≡ 8
+unfolding idVerdict
+id-eight line bs h = sym (ap length (bytes-injective (passed (eqb (length line) 16 && allHex line) (bytes (eightOf line)) 19 h .1))) ∙ length-eight line
+
+module _ (first x y : List ℕ) (k : length x ≡ 8) (r : Wrote) (w : Written 0 (idVerdict first) x y r) where
+  pub id-refused : (e : ℕ) → r ≡ Refused e → idVerdict first ≡ fault e
+  id-refused e h = own-fault (idVerdict first) x y (λ bs q. omega (arith, id-eight first bs q)) r e w h
+
+  pub id-read : (n : ℕ) → r ≡ Done n → idVerdict first ≡ bytes y
+  id-read n h =
+      let s = done-stood 0 (idVerdict first) x y n (rw h at w) in
+      let e : y ≡ s .what = s .stands ∙ over-all (s .what) x (id-eight first (s .what) (s .meant) ∙ sym k) in
+      s .meant ∙ ap bytes (sym e)

@@ -1,0 +1,54 @@
+-- What `read` answers is fixed by its contract, and how a chain of items goes on from a shard's parts. Assumes nothing.
+use Prim.Native.Nat.{ℕ}
+use mathlib.Core.Path.{_≡_, refl, sym, ap, _∙_}
+use mathlib.Core.List.{List}
+use Rattle.wire.specs.Answer.{Got, refused, then, numberOf}
+use Rattle.wire.proofs.Stands.{got-value, got-next}
+use Rattle.cbor.proofs.Answers.{go, stop}
+use Rattle.auth.proofs.Answers.{claims}
+use Rattle.shard.specs.Shard.{Shard, shardAt}
+use Rattle.shard.specs.Answer.{shardTold, contentTold, quorumTold}
+use Rattle.shard.specs.declared.Content.{Content}
+use Rattle.shard.specs.declared.Quorum.{Quorum}
+use Rattle.shard.specs.declared.ShardRead.{ShardRead}
+use Rattle.shard.specs.declared.ShardRead.the-variants as shard
+use Rattle.shard.specs.declared.part.ContentRead.{ContentRead}
+use Rattle.shard.specs.declared.part.ContentRead.the-variants as content
+use Rattle.shard.specs.declared.part.QuorumRead.{QuorumRead}
+use Rattle.shard.specs.declared.part.QuorumRead.the-variants as quorum
+
+-- the enum says no more than 01's answer does
+pub shard-injective : (r q : ShardRead) → shardTold r ≡ shardTold q → r ≡ q
+shard-injective (shard.Value a b c d e i) (shard.Value u v w x y j) h =
+    let s = got-value h in
+    let n : i ≡ j = got-next h in
+    let p : a ≡ u = ap (λ (k : Shard). k .claim .public) s in
+    let q : b ≡ v = ap (λ (k : Shard). k .claim .sig) s in
+    let r : c ≡ w = ap (λ (k : Shard). k .claim .hash) s in
+    let t : d ≡ x = ap (λ (k : Shard). k .content) s in
+    let z : e ≡ y = ap (λ (k : Shard). k .quorum) s in
+    cc
+shard-injective (shard.Value a b c d e i) (shard.Refused n) h = cc
+shard-injective (shard.Refused m) (shard.Value u v w x y j) h = cc
+shard-injective (shard.Refused m) (shard.Refused n) h = cc
+
+-- two answers that keep the contract of `read` are equal
+pub read-once : (s : List ℕ) (r q : ShardRead) → shardTold r ≡ shardAt s → shardTold q ≡ shardAt s → r ≡ q
+read-once s r q a b = shard-injective r q (a ∙ sym b)
+
+-- for `search`: a part of a shard in a chain of items
+module _ {B : Type 0} (g : Got Content) (f : Content → ℕ → Got B) where
+  pub go-content : (r : ContentRead) (v : Content) (next : ℕ) (y : Got B) → contentTold r ≡ g → r ≡ content.Value v next → y ≡ f v next → y ≡ then g f
+  go-content r v next y = go contentTold g f r (content.Value v next) y
+
+  pub no-content : (r : ContentRead) (n e : ℕ) → contentTold r ≡ g → r ≡ content.Refused e → n ≡ numberOf (contentTold r) → refused n ≡ then g f
+  no-content r n e h k q = stop contentTold g f r (content.Refused e) n e h k refl q
+
+module _ {B : Type 0} (g : Got Quorum) (f : Quorum → ℕ → Got B) where
+  pub go-quorum : (r : QuorumRead) (v : Quorum) (next : ℕ) (y : Got B) → quorumTold r ≡ g → r ≡ quorum.Value v next → y ≡ f v next → y ≡ then g f
+  go-quorum r v next y = go quorumTold g f r (quorum.Value v next) y
+
+  pub no-quorum : (r : QuorumRead) (n e : ℕ) → quorumTold r ≡ g → r ≡ quorum.Refused e → n ≡ numberOf (quorumTold r) → refused n ≡ then g f
+  no-quorum r n e h k q = stop quorumTold g f r (quorum.Refused e) n e h k refl q
+
+pub ruleset parts = (claims, go-content, no-content, go-quorum, no-quorum)

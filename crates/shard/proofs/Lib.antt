@@ -1,0 +1,10 @@
+pub mod Tests
+pub mod Answers
+pub mod Spans
+pub mod Allowed
+pub mod Lengths
+pub mod Runs
+pub mod Writers
+pub mod Verdicts
+pub mod Rounds
+pub mod Examples

@@ -1,0 +1,2 @@
+pub mod Shard
+pub mod Answer

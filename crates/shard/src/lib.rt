@@ -1,0 +1,206 @@
+// The shard payload, read and written, and the bytes that get signed: document 01, "CBOR payloads".
+mod form;
+mod part;
+mod rule;
+
+ghost use mathlib.Core.Path.{_≡_};
+ghost use Rattle.wire.specs.Answer.{numberOf};
+ghost use Rattle.wire.specs.Writing.{Written};
+ghost use Rattle.shard.specs.Shard.{bodyAt, shardAt, shardVerdict, signedVerdict};
+ghost use Rattle.shard.specs.Answer.{shardTold};
+use auth::ClaimRead;
+use auth::claim_no;
+use cbor::NumberRead;
+use cbor::StepRead;
+use cbor::number_no;
+use cbor::step_no;
+use part::ContentRead;
+use part::QuorumRead;
+use wire::OUT_OF_RANGE;
+use wire::TOO_LARGE;
+use wire::Wrote;
+
+// House size of a payload, which is the data of one frame.
+const MOST_PAYLOAD: usize = 480;
+
+// Where bytes of the input stand.
+pub struct Span {
+    pub start: usize,
+    pub len: usize,
+}
+
+// What is shared: its type, this share of it, and how many bytes the whole has.
+pub struct Content {
+    pub kind: Span,
+    pub share: Span,
+    pub length: u64,
+}
+
+// How many shares give the whole back, how many there are, and which of them this is.
+pub struct Quorum {
+    pub threshold: u64,
+    pub count: u64,
+    pub index: u64,
+}
+
+pub enum ShardRead {
+    // Where pub, sig and hash start, which are 32, 64 and 32 bytes. The payload ends at next, the length of the input.
+    Value {
+        public: usize,
+        sig: usize,
+        hash: usize,
+        content: Content,
+        quorum: Quorum,
+        next: usize,
+    },
+    // 01's number of the refusal.
+    Refused {
+        no: u8,
+    },
+}
+
+// The number of a refusal, for a caller's `else`.
+pub fn shard_no(r: ShardRead) -> u8
+    ensures { λ n. ⌜ n ≡ numberOf (shardTold r) ⌝ }
+{
+    match r {
+        ShardRead::Value {
+            public: _,
+            sig: _,
+            hash: _,
+            content: _,
+            quorum: _,
+            next: _,
+        } => 0,
+        ShardRead::Refused { no } => no,
+    }
+}
+
+// All behind the claim, which says where pub, sig and hash start.
+fn body(s: &[u8], at: usize, public: usize, sig: usize, hash: usize) -> ShardRead
+    ensures { λ r. ⌜ shardTold r ≡ bodyAt (now (s .entry)) at (record { public = public; sig = sig; hash = hash }) ⌝ }
+{
+    let t = part::content(s, at);
+    let ContentRead::Value { content, next: a } = t else {
+        return ShardRead::Refused {
+            no: part::content_no(t),
+        };
+    };
+    let v = cbor::read::number_field(s, a, b"version", 1, 1);
+    let NumberRead::Value { n: _, next: b } = v else {
+        return ShardRead::Refused { no: number_no(v) };
+    };
+    let q = part::quorum(s, b);
+    let QuorumRead::Value { quorum, next } = q else {
+        return ShardRead::Refused {
+            no: part::quorum_no(q),
+        };
+    };
+    if next != s.len() {
+        return ShardRead::Refused {
+            no: wire::CUT_OR_LEFT_OVER,
+        };
+    }
+    ShardRead::Value {
+        public,
+        sig,
+        hash,
+        content,
+        quorum,
+        next,
+    }
+}
+
+// The payload that s is, all of s.
+pub fn read(s: &[u8]) -> ShardRead
+    ensures { λ r. ⌜ shardTold r ≡ shardAt (now (s .entry)) ⌝ }
+{
+    let m = cbor::read::one_byte(s, 0, 0xAA);
+    let StepRead::Past { next: a } = m else {
+        return ShardRead::Refused { no: step_no(m) };
+    };
+    let c = auth::claim(s, a);
+    let ClaimRead::Value {
+        public,
+        sig,
+        hash,
+        next: b,
+    } = c
+    else {
+        return ShardRead::Refused { no: claim_no(c) };
+    };
+    body(s, b, public, sig, hash)
+}
+
+// The payload of these values at the front of out.
+pub fn write(
+    public: &[u8],
+    sig: &[u8],
+    hash: &[u8],
+    kind: &[u8],
+    share: &[u8],
+    length: u64,
+    threshold: u64,
+    count: u64,
+    index: u64,
+    out: &mut [u8],
+) -> Wrote
+    ensures { λ r. ⌜ Written 0 (shardVerdict (now (public .entry)) (now (sig .entry)) (now (hash .entry)) (now (kind .entry)) (now (share .entry)) length (record { threshold = threshold; count = count; index = index })) (now (out .entry)) (now (out .exit)) r ⌝ }
+{
+    let q = Quorum {
+        threshold,
+        count,
+        index,
+    };
+    if public.len() != 32 {
+        return Wrote::Refused { no: OUT_OF_RANGE };
+    }
+    if sig.len() != 64 {
+        return Wrote::Refused { no: OUT_OF_RANGE };
+    }
+    if !rule::rest_fits(hash, kind, share, length, q) {
+        return Wrote::Refused { no: OUT_OF_RANGE };
+    }
+    let len = form::PAYLOAD_FRONT + form::rest_size(hash, kind, share, length, q);
+    if MOST_PAYLOAD < len {
+        return Wrote::Refused { no: TOO_LARGE };
+    }
+    if out.len() < len {
+        return Wrote::Refused { no: wire::NO_ROOM };
+    }
+    form::payload(out, public, sig, hash, kind, share, length, q);
+    Wrote::Done { len }
+}
+
+// The bytes to sign for these values, at the front of out.
+pub fn signed(
+    public: &[u8],
+    hash: &[u8],
+    kind: &[u8],
+    share: &[u8],
+    length: u64,
+    threshold: u64,
+    count: u64,
+    index: u64,
+    out: &mut [u8],
+) -> Wrote
+    ensures { λ r. ⌜ Written 0 (signedVerdict (now (public .entry)) (now (hash .entry)) (now (kind .entry)) (now (share .entry)) length (record { threshold = threshold; count = count; index = index })) (now (out .entry)) (now (out .exit)) r ⌝ }
+{
+    let q = Quorum {
+        threshold,
+        count,
+        index,
+    };
+    if public.len() != 32 {
+        return Wrote::Refused { no: OUT_OF_RANGE };
+    }
+    if !rule::rest_fits(hash, kind, share, length, q) {
+        return Wrote::Refused { no: OUT_OF_RANGE };
+    }
+    let len = form::MESSAGE_FRONT + form::rest_size(hash, kind, share, length, q);
+    if out.len() < len {
+        return Wrote::Refused { no: wire::NO_ROOM };
+    }
+    form::message(out, public, hash, kind, share, length, q);
+    Wrote::Done { len }
+}

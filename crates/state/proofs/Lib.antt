@@ -1,0 +1,9 @@
+pub mod Slots
+pub mod Sets
+pub mod Valid
+pub mod Histories
+pub mod Counts
+pub mod Complete
+pub mod Finished
+pub mod Changes
+pub mod UpTo

@@ -1,0 +1,4 @@
+pub mod State
+pub mod Take
+pub mod Meaning
+pub mod Finish

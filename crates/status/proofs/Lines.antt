@@ -1,0 +1,143 @@
+-- The lines, by the writes and the tests that the code makes. Assumes nothing.
+use mathlib.Core.Path.{_≡_, refl, sym, ap, _∙_}
+use mathlib.Core.Bool.{Bool, true, false}
+use mathlib.Core.List.{List, _++_}
+use Prim.Native.Nat.{ℕ, _+_, _-_, _≤_, _<_}
+use native.Mathlib.Omega.{arith}
+use borrow.Author.Tests.{lt-ltb, le-ltb, ne-eqb}
+use lib.ListN.{length, take, getD, replicate, length-replicate, length-append}
+use Rattle.wire.specs.Over.{over}
+use Rattle.wire.specs.Writing.{Written, bytes}
+use Rattle.wire.specs.declared.Wrote.{Wrote}
+use Rattle.wire.proofs.Overs.{over-append, read-over}
+use Rattle.state.specs.State.{Slot, Book, empty, collecting, disagree}
+use Rattle.state.specs.Finish.{isAbsent, isHeld, isDisputed, lowest, count}
+use Rattle.book.specs.Head.{readHead}
+use Rattle.book.specs.Read.{readPages, bookFor, readBook, okBook}
+use Rattle.book.proofs.Decode.{ok-size, ok-head, head-allowed, total-range, book-0, book-1}
+use Rattle.tally.specs.State.{inState}
+use Rattle.tally.proofs.Pages.{in-absent, in-held, in-disputed, lowest-as, count-as, take-read}
+use Rattle.status.specs.Line.{decimal, field, pagesName, heldName, missingName, disputedName, firstName, noFirst, refusedName, emptyLine, disagreeLine, lineFeed, firstField, pagesLine, bookLine, refusedLine, statusLine}
+
+-- a promise for what is the same
+pub written-as : (xs ys out out' : List ℕ) (r : Wrote) → xs ≡ ys → Written 0 (bytes ys) out out' r → Written 0 (bytes xs) out out' r
+written-as xs ys out out' r e w = rw e w
+
+-- ---- a name and a number
+
+-- from index at on, up to index r
+abbrev pub Named : ℕ → List ℕ → ℕ → ℕ → List ℕ → List ℕ → Type 0
+Named at name n r l x = (r ≡ at + length (field name n)) × (r ≤ at + length name + 3) × (x ≡ over at (field name n) l)
+
+pub name-put : (at n r : ℕ) (name l x y : List ℕ) → at + length name + 3 ≤ length l → x ≡ over at name l
+    → (r ≡ at + length name + length (decimal n)) × (r ≤ at + length name + 3) × (y ≡ over (at + length name) (decimal n) x) → Named at name n r l y
+unfolding field
+name-put at n r name l x y room e (f, g, h) = (
+  omega (arith, length-append name (decimal n)),
+  g,
+  h ∙ ap (over (at + length name) (decimal n)) e ∙ over-append at name (decimal n) l (at + length name) refl (omega arith),
+)
+
+-- ---- the lowest missing page
+
+abbrev pub First : ℕ → ℕ → ℕ → ℕ → List ℕ → List ℕ → Type 0
+First at k t r l x = (r ≡ at + length (firstField k t)) × (r ≤ at + 10) × (x ≡ over at (firstField k t) l)
+
+module _ (at k t : ℕ) (l : List ℕ) where
+  pub first-put : (r : ℕ) (x : List ℕ) → k < t → Named at firstName k r l x → First at k t r l x
+  unfolding firstField
+  first-put r x h (e, f, g) = rw (lt-ltb k t h) (e, omega arith, g)
+
+  pub none-put : (x : List ℕ) → t ≤ k → x ≡ over at noFirst l → First at k t (at + 8) l x
+  unfolding firstField
+  none-put x h e = rw (le-ltb k t h) (refl, omega arith, e)
+
+-- ---- a line that grows in a room of 64 bytes
+
+-- n bytes, which are `done`, stand in front of x
+record Grown (done : List ℕ) (n : ℕ) (x : List ℕ) : Type 0 where
+  number : n ≡ length done
+  stands : x ≡ over 0 done (replicate 64 0)
+
+room-size : length (replicate {A = ℕ} 64 0) ≡ 64
+room-size = length-replicate {A = ℕ} 64 0
+
+grown-start : (bs x : List ℕ) (r m : ℕ) → (r ≡ 0 + length bs) × (r ≤ m) × (x ≡ over 0 bs (replicate 64 0)) → Grown bs r x
+grown-start bs x r m (e, f, g) = record { number = omega arith; stands = g }
+
+grown-on : (done bs x y : List ℕ) (n r m : ℕ) → m ≤ 64 → Grown done n x → (r ≡ n + length bs) × (r ≤ m) × (y ≡ over n bs x) → Grown (done ++ bs) r y
+grown-on done bs x y n r m fits g (e, f, h) = record {
+  number = omega (arith, g .number, length-append done bs);
+  stands = h ∙ ap (over n bs) (g .stands) ∙ over-append 0 done bs (replicate 64 0) n (omega (arith, g .number)) (omega (arith, room-size));
+}
+
+-- the line feed ends it
+grown-end : (done y x : List ℕ) (n : ℕ) → n + 1 ≤ 64 → Grown done n x → y ≡ over n lineFeed x → take (n + 1 - 0) y ≡ done ++ lineFeed
+grown-end done y x n fits g h =
+    let w = grown-on done lineFeed x y n (n + 1) (n + 1) fits g (refl, omega arith, h) in
+    let e : n + 1 - 0 ≡ length (done ++ lineFeed) = omega (arith, w .number) in
+    rw (e, w .stands) (read-over 0 (done ++ lineFeed) (replicate 64 0) (omega (arith, w .number, room-size)))
+
+-- ---- the pages below a total
+
+pub pages-laid : (t h m d k a b i j f : ℕ) (x1 x2 x3 x4 x5 x6 : List ℕ) → Named 0 pagesName t a (replicate 64 0) x1 → Named a heldName h b x1 x2
+    → Named b missingName m i x2 x3 → Named i disputedName d j x3 x4 → First j k t f x4 x5 → x6 ≡ over f lineFeed x5
+    → take (f + 1 - 0) x6 ≡ field pagesName t ++ field heldName h ++ field missingName m ++ field disputedName d ++ firstField k t ++ lineFeed
+pages-laid t h m d k a b i j f x1 x2 x3 x4 x5 x6 p q r s u e =
+    let g1 = grown-start (field pagesName t) x1 a 9 (p .0, omega (arith, p .1), p .2) in
+    let g2 = grown-on (field pagesName t) (field heldName h) x1 x2 a b 18 (omega arith) g1 (q .0, omega (arith, p .1, q .1), q .2) in
+    let l2 : List ℕ = field pagesName t ++ field heldName h in
+    let g3 = grown-on l2 (field missingName m) x2 x3 b i 30 (omega arith) g2 (r .0, omega (arith, p .1, q .1, r .1), r .2) in
+    let g4 = grown-on (l2 ++ field missingName m) (field disputedName d) x3 x4 i j 43 (omega arith) g3 (s .0, omega (arith, p .1, q .1, r .1, s .1), s .2) in
+    let l4 : List ℕ = l2 ++ field missingName m ++ field disputedName d in
+    let g5 = grown-on l4 (firstField k t) x4 x5 j f 53 (omega arith) g4 (u .0, omega (arith, p .1, q .1, r .1, s .1, u .1), u .2) in
+    grown-end (l4 ++ firstField k t) x6 x5 f (omega (arith, p .1, q .1, r .1, s .1, u .1)) g5 e
+
+-- by the counts that the code took
+pub counted : (t h m d f : ℕ) (ss : List Slot) → h ≡ count (inState 1) ss → m ≡ count (inState 0) ss → d ≡ count (inState 2) ss → f ≡ lowest (inState 0) ss
+    → field pagesName t ++ field heldName h ++ field missingName m ++ field disputedName d ++ firstField f t ++ lineFeed ≡ pagesLine t ss
+unfolding pagesLine
+counted t h m d f ss eh em ed ef =
+    let a : h ≡ count isHeld ss = eh ∙ count-as (inState 1) isHeld in-held ss in
+    let b : m ≡ count isAbsent ss = em ∙ count-as (inState 0) isAbsent in-absent ss in
+    let c : d ≡ count isDisputed ss = ed ∙ count-as (inState 2) isDisputed in-disputed ss in
+    let e : f ≡ lowest isAbsent ss = ef ∙ lowest-as (inState 0) isAbsent in-absent ss in
+    rw (a, b, c, e)
+
+-- ---- the line of a refusal
+
+pub refused-laid : (e a : ℕ) (x y : List ℕ) → Named 0 refusedName e a (replicate 64 0) x → y ≡ over a lineFeed x → take (a + 1 - 0) y ≡ refusedLine e
+unfolding refusedLine
+refused-laid e a x y p f = grown-end (field refusedName e) y x a (omega (arith, p .1)) (grown-start (field refusedName e) x a 11 (p .0, omega (arith, p .1), p .2)) f
+
+-- ---- the line of a collection
+
+module _ (c : List ℕ) (q : Bool) (e : q ≡ okBook c) where
+  pub line-refused : q ≡ false → statusLine c ≡ refusedLine 13
+  unfolding statusLine
+  line-refused f = rw (← e, f)
+
+  module _ (f : q ≡ true) where
+    fine : okBook c ≡ true
+    fine = sym e ∙ f
+
+    pub size-known : length c ≡ 49664
+    size-known = ok-size c fine
+
+    said : (b : Book) → readBook c ≡ b → statusLine c ≡ bookLine b
+    unfolding statusLine
+    said b h = rw (← e, f, h)
+
+    pub line-empty : getD c 3 0 ≡ 0 → statusLine c ≡ emptyLine
+    unfolding bookLine
+    line-empty s = said empty (book-0 c s)
+
+    pub line-disagree : (getD c 3 0 ≡ 0 → ⊥) → (getD c 3 0 ≡ 1 → ⊥) → statusLine c ≡ disagreeLine
+    unfolding bookLine readBook bookFor readHead
+    line-disagree m n = said disagree (rw (ne-eqb (getD c 3 0) 0 m, ne-eqb (getD c 3 0) 1 n))
+
+    pub line-pages : getD c 3 0 ≡ 1 → statusLine c ≡ pagesLine (getD c 12 0) (readPages 0 (getD c 12 0) c)
+    unfolding bookLine readHead
+    line-pages s =
+        let t = total-range (getD c 12 0) (rw s at (head-allowed c (ok-head c fine))) in
+        said (collecting (getD c 12 0) (readPages 0 96 c)) (book-1 c s) ∙ ap (pagesLine (getD c 12 0)) (take-read 0 96 (getD c 12 0) c (t .1))

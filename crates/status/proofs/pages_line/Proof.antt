@@ -1,0 +1,128 @@
+-- `status::pages_line` meets its contract. Assumes nothing.
+use mathlib.Core.Path.{sym, _∙_}
+use Rattle.status.proofs.Lines.{written-as, pages-laid, counted}
+use borrow.Author.Needs.{needs}
+use Rattle.status.proofs.pages_line.Statement.{statement}
+use Rattle.status.proofs.pages_line.Tie as tie
+
+count-requires : tie.Need-count-requires
+count-requires c κs = search needs
+
+count-requires-2 : tie.Need-count-requires-2
+count-requires-2 c κs = search needs
+
+count-requires-3 : tie.Need-count-requires-3
+count-requires-3 c κs = search needs
+
+lowest-requires : tie.Need-lowest-requires
+lowest-requires c κs = search needs
+
+slice-aggregate-named : tie.Need-slice-aggregate-named
+slice-aggregate-named c = search needs
+
+slice-aggregate-named-2 : tie.Need-slice-aggregate-named-2
+slice-aggregate-named-2 c = search needs
+
+named-requires : tie.Need-named-requires
+named-requires c κs = search needs
+
+slice-aggregate-named-3 : tie.Need-slice-aggregate-named-3
+slice-aggregate-named-3 c = search needs
+
+slice-aggregate-named-4 : tie.Need-slice-aggregate-named-4
+slice-aggregate-named-4 c = search needs
+
+named-requires-2 : tie.Need-named-requires-2
+named-requires-2 c κs = search needs
+
+slice-aggregate-named-5 : tie.Need-slice-aggregate-named-5
+slice-aggregate-named-5 c = search needs
+
+slice-aggregate-named-6 : tie.Need-slice-aggregate-named-6
+slice-aggregate-named-6 c = search needs
+
+named-requires-3 : tie.Need-named-requires-3
+named-requires-3 c κs = search needs
+
+slice-aggregate-named-7 : tie.Need-slice-aggregate-named-7
+slice-aggregate-named-7 c = search needs
+
+slice-aggregate-named-8 : tie.Need-slice-aggregate-named-8
+slice-aggregate-named-8 c = search needs
+
+named-requires-4 : tie.Need-named-requires-4
+named-requires-4 c κs = search needs
+
+slice-aggregate-first : tie.Need-slice-aggregate-first
+slice-aggregate-first c = search needs
+
+first-requires : tie.Need-first-requires
+first-requires c κs = search needs
+
+slice-aggregate-put : tie.Need-slice-aggregate-put
+slice-aggregate-put c = search needs
+
+put-requires : tie.Need-put-requires
+put-requires c κs = search needs
+
+add-end : tie.Need-add-end
+add-end c = search needs
+
+sub-line : tie.Need-sub-line
+sub-line c = search needs
+
+part-line-start : tie.Need-part-line-start
+part-line-start c = search needs
+
+part-line-end : tie.Need-part-line-end
+part-line-end c = search needs
+
+line-requires : tie.Need-line-requires
+line-requires c κs = search needs
+
+same-length : tie.Need-same-length
+same-length c = search needs
+
+returns : tie.Need-returns
+returns c =
+    let f = c .before .before .before .before .before .before .before .before .before .before in
+    let j = f .before .before .before in
+    let i = j .before .before .before .before in
+    let h = i .before .before .before .before in
+    let p = h .before .before .before .before in
+    let n = p .before .before .before in
+    let laid = pages-laid _ _ _ _ _ _ _ _ _ _ _ _ _ _ _ _ (p .named .ensures) (h .named2 .ensures) (i .named3 .ensures) (j .named4 .ensures) (f .first .ensures) (c .before .before .before .before .before .before .before .put .ensures) in
+    let said = counted _ _ _ _ _ _ (n .before .before .before .count .ensures) (n .before .before .count2 .ensures) (n .before .count3 .ensures) (n .lowest .ensures) in
+    written-as _ _ _ _ _ (sym (laid ∙ said)) (c .before .before .line .ensures)
+
+pub pages-line-spec : {M : Type 1} → statement M
+pages-line-spec =
+    tie.close
+    (tie.spec
+    count-requires
+    count-requires-2
+    count-requires-3
+    lowest-requires
+    slice-aggregate-named
+    slice-aggregate-named-2
+    named-requires
+    slice-aggregate-named-3
+    slice-aggregate-named-4
+    named-requires-2
+    slice-aggregate-named-5
+    slice-aggregate-named-6
+    named-requires-3
+    slice-aggregate-named-7
+    slice-aggregate-named-8
+    named-requires-4
+    slice-aggregate-first
+    first-requires
+    slice-aggregate-put
+    put-requires
+    add-end
+    sub-line
+    part-line-start
+    part-line-end
+    line-requires
+    same-length
+    returns)

@@ -1,0 +1,60 @@
+-- `status::refused_line` meets its contract. Assumes nothing.
+use mathlib.Core.Path.{sym}
+use Rattle.status.proofs.Lines.{written-as, refused-laid}
+use borrow.Author.Needs.{needs}
+use Rattle.status.proofs.refused_line.Statement.{statement}
+use Rattle.status.proofs.refused_line.Tie as tie
+
+slice-aggregate-named : tie.Need-slice-aggregate-named
+slice-aggregate-named c = search needs
+
+slice-aggregate-named-2 : tie.Need-slice-aggregate-named-2
+slice-aggregate-named-2 c = search needs
+
+named-requires : tie.Need-named-requires
+named-requires c κs = search needs
+
+slice-aggregate-put : tie.Need-slice-aggregate-put
+slice-aggregate-put c = search needs
+
+put-requires : tie.Need-put-requires
+put-requires c κs = search needs
+
+add-end : tie.Need-add-end
+add-end c = search needs
+
+sub-line : tie.Need-sub-line
+sub-line c = search needs
+
+part-line-start : tie.Need-part-line-start
+part-line-start c = search needs
+
+part-line-end : tie.Need-part-line-end
+part-line-end c = search needs
+
+line-requires : tie.Need-line-requires
+line-requires c κs = search needs
+
+same-length : tie.Need-same-length
+same-length c = search needs
+
+returns : tie.Need-returns
+returns c =
+    written-as _ _ _ _ _ (sym (refused-laid _ _ _ _ (c .before .before .before .before .before .before .before .before .before .before .named .ensures) (c .before .before .before .before .before .before .before .put .ensures))) (c .before .before .line .ensures)
+
+pub refused-line-spec : {M : Type 1} → statement M
+refused-line-spec =
+    tie.close
+    (tie.spec
+    slice-aggregate-named
+    slice-aggregate-named-2
+    named-requires
+    slice-aggregate-put
+    put-requires
+    add-end
+    sub-line
+    part-line-start
+    part-line-end
+    line-requires
+    same-length
+    returns)

@@ -1,0 +1,111 @@
+// The status line of a collection: document 01, "The collection".
+ghost use mathlib.Core.Path.{_≡_};
+ghost use Prim.Native.Nat.{_+_, _≤_};
+ghost use lib.ListN.{length};
+ghost use Rattle.wire.specs.Over.{over};
+ghost use Rattle.wire.specs.Writing.{Written, bytes};
+ghost use Rattle.book.specs.Read.{readPages};
+ghost use Rattle.status.specs.Line.{decimal, field, firstField, pagesLine, refusedLine, statusLine};
+use wire::Wrote;
+
+// Room for the longest line.
+const ROOM: usize = 64;
+
+// The digits of n from index at on. Answers the index behind them.
+fn number(out: &mut [u8], at: usize, n: u8) -> usize
+    requires { ⌜ at + 3 ≤ length (now out) ⌝ }
+    ensures { λ r. ⌜ (r ≡ at + length (decimal n)) × (r ≤ at + 3) × (now (out .exit) ≡ over at (decimal n) (now (out .entry))) ⌝ }
+{
+    if n < 10 {
+        lend::put(out, at, b'0' + n);
+        return at + 1;
+    }
+    if n < 100 {
+        lend::put(out, at, b'0' + n / 10);
+        lend::put(out, at + 1, b'0' + n % 10);
+        return at + 2;
+    }
+    lend::put(out, at, b'0' + n / 100);
+    lend::put(out, at + 1, b'0' + n / 10 % 10);
+    lend::put(out, at + 2, b'0' + n % 10);
+    at + 3
+}
+
+// A name and a number, from index at on. Answers the index behind them.
+fn named(out: &mut [u8], at: usize, name: &[u8], n: u8) -> usize
+    requires { ⌜ at + length (now name) + 3 ≤ length (now out) ⌝ }
+    ensures { λ r. ⌜ (r ≡ at + length (field (now (name .entry)) n)) × (r ≤ at + length (now (name .entry)) + 3) × (now (out .exit) ≡ over at (field (now (name .entry)) n) (now (out .entry))) ⌝ }
+{
+    lend::copy(out, at, name);
+    number(out, at + name.len(), n)
+}
+
+// The lowest missing page, from index at on. Answers the index behind it.
+fn first(out: &mut [u8], at: usize, lowest: u8, total: u8) -> usize
+    requires { ⌜ at + 10 ≤ length (now out) ⌝ }
+    ensures { λ r. ⌜ (r ≡ at + length (firstField lowest total)) × (r ≤ at + 10) × (now (out .exit) ≡ over at (firstField lowest total) (now (out .entry))) ⌝ }
+{
+    if lowest < total {
+        return named(out, at, b" first ", lowest);
+    }
+    lend::copy(out, at, b" first -");
+    at + 8
+}
+
+// A whole line at the front of out.
+fn line(text: &[u8], out: &mut [u8]) -> Wrote
+    ensures { λ r. ⌜ Written 0 (bytes (now (text .entry))) (now (out .entry)) (now (out .exit)) r ⌝ }
+{
+    if out.len() < text.len() {
+        return Wrote::Refused { no: wire::NO_ROOM };
+    }
+    lend::copy(out, 0, text);
+    Wrote::Done { len: text.len() }
+}
+
+// The line of a collection that has pages.
+fn pages_line(c: &[u8], total: u8, out: &mut [u8]) -> Wrote
+    ensures { λ r. ⌜ Written 0 (bytes (pagesLine total (readPages 0 total (now (c .entry))))) (now (out .entry)) (now (out .exit)) r ⌝ }
+{
+    let held = tally::count(c, total, block::HELD);
+    let missing = tally::count(c, total, block::ABSENT);
+    let disputed = tally::count(c, total, block::DISPUTED);
+    let lowest = tally::lowest(c, total, block::ABSENT);
+    let mut room = [0u8; ROOM];
+    let a = named(&mut room, 0, b"pages ", total);
+    let b = named(&mut room, a, b" held ", held);
+    let d = named(&mut room, b, b" missing ", missing);
+    let e = named(&mut room, d, b" disputed ", disputed);
+    let f = first(&mut room, e, lowest, total);
+    lend::put(&mut room, f, b'\n');
+    let end = f + 1;
+    line(&room[0..end], out)
+}
+
+// The line of a refusal: of a collection that is not well formed, and of a program that refuses its input.
+pub fn refused_line(no: u8, out: &mut [u8]) -> Wrote
+    ensures { λ r. ⌜ Written 0 (bytes (refusedLine no)) (now (out .entry)) (now (out .exit)) r ⌝ }
+{
+    let mut room = [0u8; ROOM];
+    let at = named(&mut room, 0, b"refused ", no);
+    lend::put(&mut room, at, b'\n');
+    let end = at + 1;
+    line(&room[0..end], out)
+}
+
+// The status line at the front of out.
+pub fn status(c: &[u8], out: &mut [u8]) -> Wrote
+    ensures { λ r. ⌜ Written 0 (bytes (statusLine (now (c .entry)))) (now (out .entry)) (now (out .exit)) r ⌝ }
+{
+    if !book::well_formed(c) {
+        return refused_line(wire::BAD_COLLECTION, out);
+    }
+    let state = c[3];
+    if state == book::EMPTY {
+        return line(b"empty\n", out);
+    }
+    if state != book::COLLECTING {
+        return line(b"totals disagree\n", out);
+    }
+    pages_line(c, c[12], out)
+}
