@@ -483,11 +483,13 @@ def verbs_that_have_not_landed_are_unknown():
     same(sorted(ALL), sorted(written))
 
 
+# The verbs that the fakes are tried on: enough to show each fault, and quick.
+FEW = ["varint-read", "varint-write", "crc"]
+
 FAKE = """import sys
 sys.path.insert(0, {tests!r})
 from second.desk import answers
-from second.verbs import LANDED
-out = answers(sys.stdin.buffer.read(), LANDED)
+out = answers(sys.stdin.buffer.read(), {few!r})
 {change}
 sys.stdout.buffer.write(out)
 {after}
@@ -512,7 +514,7 @@ def fake_desk(folder, name):
     tests = os.path.dirname(os.path.dirname(os.path.abspath(__file__)))
     path = os.path.join(folder, name.replace(" ", "-") + ".py")
     with open(path, "w", encoding="ascii") as file:
-        file.write(FAKE.format(tests=tests, change=change, after=after))
+        file.write(FAKE.format(tests=tests, few=FEW, change=change, after=after))
     return [sys.executable, "-B", path]
 
 
@@ -521,7 +523,7 @@ def comparison_can_fail():
     with tempfile.TemporaryDirectory() as folder:
         for name in FAKES:
             told = []
-            passed = compare.compare(fake_desk(folder, name), 1, 17000, LANDED, told.append)
+            passed = compare.compare(fake_desk(folder, name), 1, 6000, FEW, told.append)
             same(passed, name == "faithful", name, told[:3])
 
 
