@@ -111,8 +111,13 @@ def table(counts):
 
 def compare(command, seed, count, verbs, tell=print, keep=None):
     """Whether a desk answers at least `count` calls as this program does."""
+    return compare_blocks(command, cases.stream(seed, count, verbs), count, verbs, tell, keep)
+
+
+def compare_blocks(command, blocks, count, verbs, tell=print, keep=None):
+    """The same for blocks of lines that are given."""
     comparison = Comparison(command, verbs, tell)
-    for number, lines in enumerate(chunks(cases.stream(seed, count, verbs))):
+    for number, lines in enumerate(chunks(blocks)):
         comparison.chunk(lines, last_feed=number % 2 == 0)
         if comparison.faults > MOST_SHOWN:
             tell("too many faults; the rest is left out")

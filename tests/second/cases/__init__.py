@@ -54,3 +54,9 @@ def stream(seed, count, verbs):
             return
         made += sum(map(printing, block))
         yield block
+
+
+def sessions(seed, count):
+    """Register sessions by chance, each a block of its own."""
+    rng = random.Random(f"{seed} sessions")
+    return (collecting.chance(rng) for _ in range(count))
