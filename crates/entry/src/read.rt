@@ -99,40 +99,26 @@ pub fn file(s: &[u8], at: usize, prev: &[u8]) -> FileRead
         return FileRead::Refused { no: step_no(m) };
     };
     let h = cbor::read::string_field(s, a, b"hash", BYTES, 32, 32, OUT_OF_RANGE);
-    let StringRead::Value {
-        start: hash,
-        len: hash_len,
-        next: b,
-    } = h
-    else {
+    let StringRead::Value { start, len, next } = h else {
         return FileRead::Refused { no: string_no(h) };
     };
-    let p = path_field(s, b, prev);
-    let StringRead::Value {
-        start: path,
-        len: path_len,
-        next: c,
-    } = p
-    else {
+    let hash = Part { start, len };
+    let p = path_field(s, next, prev);
+    let StringRead::Value { start, len, next } = p else {
         return FileRead::Refused { no: string_no(p) };
     };
-    let z = cbor::read::number_field(s, c, b"size", 0, 0xFFFFFFFF);
-    let NumberRead::Value { n: size, next: d } = z else {
+    let path = Part { start, len };
+    let z = cbor::read::number_field(s, next, b"size", 0, 0xFFFFFFFF);
+    let NumberRead::Value { n: size, next } = z else {
         return FileRead::Refused { no: number_no(z) };
     };
-    let t = mtime_field(s, d);
+    let t = mtime_field(s, next);
     let MtimeRead::Value { mtime, next } = t else {
         return FileRead::Refused { no: mtime_no(t) };
     };
     let file = File {
-        hash: Part {
-            start: hash,
-            len: hash_len,
-        },
-        path: Part {
-            start: path,
-            len: path_len,
-        },
+        hash,
+        path,
         size,
         mtime,
     };
