@@ -18,10 +18,11 @@ use Rattle.state.specs.Take.{Page}
 use Rattle.state.specs.Meaning.{BookIs}
 use Rattle.state.specs.Finish.{Finish, whole, lacking, finishBook}
 use Rattle.state.proofs.Slots.{same-ne, same-false}
-use Rattle.state.proofs.Complete.{TwoTotals, Complete, FirstDisputed, FirstMissing, FinishIs}
+use Rattle.state.specs.Complete.{TwoTotals, Complete, FirstDisputed, FirstMissing, FinishIs}
 use Rattle.state.proofs.Finished.{finish-exact, finish-whole, finish-14, finish-15, finish-16, finish-short}
 use Rattle.book.specs.Read.{idOf, readBook, okBook}
 use Rattle.book.proofs.Decode.{decoded-valid}
+use Rattle.closing.specs.Sets.{Answers}
 use Rattle.closing.specs.Finish.{collected, vouched, finished, wrote, failed, outcome, told, after, Closed}
 use Rattle.closing.specs.declared.Finished.{Finished}
 use Rattle.closing.specs.declared.Finished.the-variants.{Done, Refused}
@@ -180,16 +181,6 @@ module _ (v : Finish) (out out' : List ℕ) (r : Finished) (p : Closed v out out
           ∙ read-over 0 d out (omega arith) in
           q ∙ ap whole z
       from (lacking i j) q e o = let z : _≡_ {A = ℕ} 0 1 = cc in absurd (omega arith)
-
--- all that finish says of a set of pages: each answer exactly when its condition holds, and nothing changed by a refusal
-pub record Answers (S : Page → Type 0) (c out out' : List ℕ) (r : Finished) : Type 0 where
-  pub gives : (d : List ℕ) → length d ≤ length out → ((r ≡ Done (length d)) × (out' ≡ over 0 d out)) ↔ (Complete S d × (documentId d ≡ idOf c))
-  pub no-room : (r ≡ Refused 11 0) ↔ ((d : List ℕ) × Complete S d × (length out < length d))
-  pub other-document : (r ≡ Refused 17 0) ↔ ((d : List ℕ) × Complete S d × (length d ≤ length out) × (documentId d ≡ idOf c → ⊥))
-  pub totals : (r ≡ Refused 14 0) ↔ TwoTotals S
-  pub disputed : (k : ℕ) → (r ≡ Refused 15 k) ↔ FirstDisputed S k
-  pub missing : (k : ℕ) → (r ≡ Refused 16 k) ↔ FirstMissing S k
-  pub unchanged : (n k : ℕ) → r ≡ Refused n k → out' ≡ out
 
 both : {A B C : Type 0} → A ↔ B → B ↔ C → A ↔ C
 both f g = ((λ a. g .0 (f .0 a)), λ c. f .1 (g .1 c))

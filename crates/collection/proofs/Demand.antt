@@ -16,7 +16,7 @@ use Rattle.book.specs.Encode.{encode}
 use Rattle.book.specs.Read.{idOf, readBook, okBook}
 use Rattle.book.proofs.Round.{valid-fits, encode-ok, encode-id, encode-read}
 use Rattle.collection.specs.Collection.{Decision, refuses, goodPage, offering, done, answerOf, bytesAfter}
-use Rattle.collection.proofs.Built.{Built, opened, offered, joined, bytesOf, Says, In, Lent, offeredAll, Among, PageAmong, AllBytes}
+use Rattle.collection.specs.Built.{Built, opened, offered, joined, bytesOf, Says, In, Lent, offeredAll, Among, PageAmong, AllBytes}
 use Rattle.collection.proofs.Replay.{taken, history, offer-encode, run-valid, bytes-run, run-means}
 
 -- ---- theorem 1: the bytes are those of document 01's rules for the set of good pages

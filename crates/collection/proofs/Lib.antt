@@ -7,6 +7,5 @@ pub mod Merging
 pub mod Calls
 pub mod Keeps
 pub mod Answers
-pub mod Built
 pub mod Replay
 pub mod Demand

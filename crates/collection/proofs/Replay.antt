@@ -19,7 +19,7 @@ use Rattle.book.specs.Encode.{encode}
 use Rattle.book.proofs.Round.{valid-fits, encode-ok, encode-id, encode-read}
 use Rattle.collection.specs.Collection.{goodPage, opening, taking, offering, joining, bytesAfter}
 use Rattle.collection.proofs.Good.{good-page}
-use Rattle.collection.proofs.Built.{Built, opened, offered, joined, bytesOf, In, Lent}
+use Rattle.collection.specs.Built.{Built, opened, offered, joined, bytesOf, In, Lent}
 
 -- ---- from raw frames to pages
 

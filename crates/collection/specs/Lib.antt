@@ -1,3 +1,4 @@
 pub mod Collection
 pub mod Answer
+pub mod Built
 pub mod Parts

@@ -14,63 +14,10 @@ use Rattle.wire.proofs.Cases.{lt-or-le}
 use Rattle.state.specs.State.{Slot, absent, held, disputed, dataOf, Book, empty, collecting, disagree}
 use Rattle.state.specs.Take.{Page}
 use Rattle.state.specs.Meaning.{SlotIs, BookIs}
+use Rattle.state.specs.Complete.{TwoTotals, OneVersion, TwoVersions, Present, Missing, Complete, FirstDisputed, FirstMissing, FinishIs}
 use Rattle.state.specs.Finish.{isAbsent, isDisputed, lowest, joined, Finish, whole, lacking, finishPages, finishBook}
 use Rattle.state.proofs.Valid.{ValidPages, Valid}
 use Rattle.state.proofs.Counts.{lowest-has, lowest-lacks}
-
--- ---- what can be said of a set of pages
-
--- there is no page
-abbrev pub NoPages : (Page → Type 0) → Type 0
-NoPages S = (p : Page) → S p → ⊥
-
--- there is a page, and all name the total t
-abbrev pub OneTotal : (Page → Type 0) → ℕ → Type 0
-OneTotal S t = ((p : Page) × S p) × ((p : Page) → S p → p .total ≡ t)
-
--- two pages name two totals
-abbrev pub TwoTotals : (Page → Type 0) → Type 0
-TwoTotals S = (p : Page) × (q : Page) × S p × S q × (p .total ≡ q .total → ⊥)
-
--- pages of one index have the same contents
-abbrev pub OneVersion : (Page → Type 0) → Type 0
-OneVersion S = (p q : Page) → S p → S q → p .index ≡ q .index → p .contents ≡ q .contents
-
--- two pages of index k differ
-abbrev pub TwoVersions : (Page → Type 0) → ℕ → Type 0
-TwoVersions S k = (p : Page) × (q : Page) × S p × S q × (p .index ≡ k) × (q .index ≡ k) × (p .contents ≡ q .contents → ⊥)
-
--- some page has index k
-abbrev pub Present : (Page → Type 0) → ℕ → Type 0
-Present S k = (p : Page) × S p × (p .index ≡ k)
-
--- none has
-abbrev pub Missing : (Page → Type 0) → ℕ → Type 0
-Missing S k = (p : Page) → S p → p .index ≡ k → ⊥
-
--- complete, with the data d: one total, one version of each page, each index below the total has a page, and d is their contents in index order
-pub record Complete (S : Page → Type 0) (d : List ℕ) : Type 0 where
-  pub pages : ℕ
-  pub named : OneTotal S pages
-  pub agreed : OneVersion S
-  pub parts : List (List ℕ)
-  pub number : length parts ≡ pages
-  pub each : (k : ℕ) → k < pages → (p : Page) × S p × (p .index ≡ k) × (p .contents ≡ getD parts k [])
-  pub inOrder : flatten parts ≡ d
-
--- one total, and k is the lowest index below it in two versions
-abbrev pub FirstDisputed : (Page → Type 0) → ℕ → Type 0
-FirstDisputed S k = (t : ℕ) × OneTotal S t × (k < t) × TwoVersions S k × ((j : ℕ) → j < k → TwoVersions S j → ⊥)
-
--- no page and k is 0; or one total, one version of each page, and k is the lowest index below the total without a page
-abbrev pub FirstMissing : (Page → Type 0) → ℕ → Type 0
-FirstMissing S k =
-    ((k ≡ 0) × NoPages S) ⊎ ((t : ℕ) × OneTotal S t × OneVersion S × (k < t) × Missing S k × ((j : ℕ) → j < k → Present S j))
-
--- what each answer of finish says
-abbrev pub FinishIs : (Page → Type 0) → Finish → Type 0
-FinishIs S (whole d) = Complete S d
-FinishIs S (lacking n k) = ((n ≡ 14) × (k ≡ 0) × TwoTotals S) ⊎ (((n ≡ 15) × FirstDisputed S k) ⊎ ((n ≡ 16) × FirstMissing S k))
 
 -- ---- a slot, and what its set says
 

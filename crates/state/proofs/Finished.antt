@@ -13,11 +13,12 @@ use Rattle.wire.proofs.Stands.{bytes-none}
 use Rattle.state.specs.State.{Slot, dataOf, Book, empty, collecting, disagree, noPages}
 use Rattle.state.specs.Take.{Page, takePage}
 use Rattle.state.specs.Meaning.{BookIs}
+use Rattle.state.specs.Complete.{OneTotal, TwoTotals, OneVersion, TwoVersions, Complete, FirstDisputed, FirstMissing, FinishIs}
 use Rattle.state.specs.Finish.{isAbsent, isDisputed, lowest, joined, Finish, whole, lacking, finishPages, finishBook}
 use Rattle.state.proofs.Valid.{Good, Valid, book-valid, Short, short-none, BytesBook, data-take}
 use Rattle.state.proofs.Counts.{joined-most, joined-bytes}
 use Rattle.state.proofs.Histories.{History, run, In, AllGood, good-indexed, run-is, run-valid}
-use Rattle.state.proofs.Complete.{OneTotal, TwoTotals, OneVersion, TwoVersions, Complete, FirstDisputed, FirstMissing, FinishIs, finish-is}
+use Rattle.state.proofs.Complete.{finish-is}
 
 -- ---- no two answers of one set
 

@@ -2,3 +2,4 @@ pub mod State
 pub mod Take
 pub mod Meaning
 pub mod Finish
+pub mod Complete

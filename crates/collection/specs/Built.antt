@@ -1,4 +1,4 @@
--- How a collection came to be, and which good pages were offered on the way: the words of the third demand, for Demand.antt.
+-- How a collection came to be, and which good pages were offered on the way: the words of the third demand.
 use mathlib.Core.Path.{_≡_}
 use mathlib.Core.Logic.{_⊎_}
 use mathlib.Core.List.{List, [], _∷_}
