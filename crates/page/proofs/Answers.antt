@@ -6,7 +6,8 @@ use Rattle.page.specs.Answer.{told}
 use Rattle.page.specs.declared.PageCount.{PageCount}
 use Rattle.page.specs.declared.PageCount.the-variants.{Pages, Refused}
 
-told-injective : (r q : PageCount) → told r ≡ told q → r ≡ q
+-- the enum says no more than 01's answer does
+pub told-injective : (r q : PageCount) → told r ≡ told q → r ≡ q
 told-injective (Pages m) (Pages n) e = cc
 told-injective (Pages m) (Refused n) e = cc
 told-injective (Refused m) (Pages n) e = cc

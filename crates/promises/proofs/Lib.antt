@@ -1,0 +1,12 @@
+pub mod Formats
+pub mod Payloads
+pub mod Demand2
+pub mod Demand3
+pub mod Examples
+pub mod Lasts
+pub mod OnceBytes
+pub mod OnceItems
+pub mod OncePayloads
+pub mod OncePages
+pub mod OnceCollection
+pub mod OncePrograms

@@ -1,0 +1,78 @@
+-- One answer, by each contract itself: lent buffers, numbers, texts, paths and digests. Assumes nothing.
+use mathlib.Core.Path.{refl, sym, _∙_}
+use Rattle.promises.specs.Once.{Once}
+use Rattle.promises.proofs.Lasts.{here, past}
+use Rattle.wire.proofs.Writes.{written-once}
+use Rattle.varint.proofs.Answers as varint
+use Rattle.lend.proofs.put as lend-put
+use Rattle.lend.proofs.copy as lend-copy
+use Rattle.lend.proofs.fill as lend-fill
+use Rattle.lend.proofs.clear as lend-clear
+use Rattle.lend.proofs.equal as lend-equal
+use Rattle.varint.proofs.read as varint-read
+use Rattle.varint.proofs.size as varint-size
+use Rattle.varint.proofs.write as varint-write
+use Rattle.path.proofs.sized as path-sized
+use Rattle.path.proofs.allowed as path-allowed
+use Rattle.path.proofs.ascends as path-ascends
+use Rattle.text.proofs.base64_read as text-base64-read
+use Rattle.text.proofs.base64_write as text-base64-write
+use Rattle.text.proofs.zbase32_read as text-zbase32-read
+use Rattle.text.proofs.zbase32_write as text-zbase32-write
+use Rattle.crc.proofs.crc32 as crc-crc32
+use Rattle.sha256.proofs.sha256 as sha256-sha256
+use Rattle.blake2b.proofs.blake2b as blake2b-blake2b
+
+pub lend-put-once : Once lend-put.Kinds.ps lend-put.Kinds.r lend-put.Reads.Learnt
+lend-put-once κs args x y u v p q = (refl, here (p ∙ sym q))
+
+pub lend-copy-once : Once lend-copy.Kinds.ps lend-copy.Kinds.r lend-copy.Reads.Learnt
+lend-copy-once κs args x y u v p q = (refl, here (p ∙ sym q))
+
+pub lend-fill-once : Once lend-fill.Kinds.ps lend-fill.Kinds.r lend-fill.Reads.Learnt
+lend-fill-once κs args x y u v p q = (refl, here (p ∙ sym q))
+
+pub lend-clear-once : Once lend-clear.Kinds.ps lend-clear.Kinds.r lend-clear.Reads.Learnt
+lend-clear-once κs args x y u v p q = (refl, here (p ∙ sym q))
+
+pub lend-equal-once : Once lend-equal.Kinds.ps lend-equal.Kinds.r lend-equal.Reads.Learnt
+lend-equal-once κs args x y u v p q = (p ∙ sym q, refl)
+
+pub varint-read-once : Once varint-read.Kinds.ps varint-read.Kinds.r varint-read.Reads.Learnt
+varint-read-once κs args x y u v p q = (varint.told-injective x y (p ∙ sym q), refl)
+
+pub varint-size-once : Once varint-size.Kinds.ps varint-size.Kinds.r varint-size.Reads.Learnt
+varint-size-once κs args x y u v p q = (p ∙ sym q, refl)
+
+pub varint-write-once : Once varint-write.Kinds.ps varint-write.Kinds.r varint-write.Reads.Learnt
+varint-write-once κs args x y u v p q = let e = written-once p q in (e .0, past (here (e .1)))
+
+pub path-sized-once : Once path-sized.Kinds.ps path-sized.Kinds.r path-sized.Reads.Learnt
+path-sized-once κs args x y u v p q = (p ∙ sym q, refl)
+
+pub path-allowed-once : Once path-allowed.Kinds.ps path-allowed.Kinds.r path-allowed.Reads.Learnt
+path-allowed-once κs args x y u v p q = (p ∙ sym q, refl)
+
+pub path-ascends-once : Once path-ascends.Kinds.ps path-ascends.Kinds.r path-ascends.Reads.Learnt
+path-ascends-once κs args x y u v p q = (p ∙ sym q, refl)
+
+pub text-base64-read-once : Once text-base64-read.Kinds.ps text-base64-read.Kinds.r text-base64-read.Reads.Learnt
+text-base64-read-once κs args x y u v p q = let e = written-once p q in (e .0, past (here (e .1)))
+
+pub text-base64-write-once : Once text-base64-write.Kinds.ps text-base64-write.Kinds.r text-base64-write.Reads.Learnt
+text-base64-write-once κs args x y u v p q = let e = written-once p q in (e .0, past (here (e .1)))
+
+pub text-zbase32-read-once : Once text-zbase32-read.Kinds.ps text-zbase32-read.Kinds.r text-zbase32-read.Reads.Learnt
+text-zbase32-read-once κs args x y u v p q = let e = written-once p q in (e .0, past (here (e .1)))
+
+pub text-zbase32-write-once : Once text-zbase32-write.Kinds.ps text-zbase32-write.Kinds.r text-zbase32-write.Reads.Learnt
+text-zbase32-write-once κs args x y u v p q = let e = written-once p q in (e .0, past (here (e .1)))
+
+pub crc-crc32-once : Once crc-crc32.Kinds.ps crc-crc32.Kinds.r crc-crc32.Reads.Learnt
+crc-crc32-once κs args x y u v p q = (p ∙ sym q, refl)
+
+pub sha256-sha256-once : Once sha256-sha256.Kinds.ps sha256-sha256.Kinds.r sha256-sha256.Reads.Learnt
+sha256-sha256-once κs args x y u v p q = (p ∙ sym q, refl)
+
+pub blake2b-blake2b-once : Once blake2b-blake2b.Kinds.ps blake2b-blake2b.Kinds.r blake2b-blake2b.Reads.Learnt
+blake2b-blake2b-once κs args x y u v p q = (p ∙ sym q, refl)

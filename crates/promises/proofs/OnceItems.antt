@@ -1,0 +1,90 @@
+-- One answer, by each contract itself: CBOR items. Assumes nothing.
+use mathlib.Core.Path.{refl, sym, _∙_}
+use Rattle.promises.specs.Once.{Once}
+use Rattle.promises.proofs.Lasts.{here}
+use Rattle.cbor.proofs.Answers.{step-injective, number-injective, head-injective, string-injective}
+use Rattle.cbor.proofs.Runs.{put-once}
+use Rattle.cbor.proofs.step_no as cbor-step-no
+use Rattle.cbor.proofs.number_no as cbor-number-no
+use Rattle.cbor.proofs.head_no as cbor-head-no
+use Rattle.cbor.proofs.string_no as cbor-string-no
+use Rattle.cbor.proofs.read.byte as cbor-read-byte
+use Rattle.cbor.proofs.read.one_byte as cbor-read-one-byte
+use Rattle.cbor.proofs.read.head as cbor-read-head
+use Rattle.cbor.proofs.read.number as cbor-read-number
+use Rattle.cbor.proofs.read.contents as cbor-read-contents
+use Rattle.cbor.proofs.read.string as cbor-read-string
+use Rattle.cbor.proofs.read.key as cbor-read-key
+use Rattle.cbor.proofs.read.double as cbor-read-double
+use Rattle.cbor.proofs.read.string_field as cbor-read-string-field
+use Rattle.cbor.proofs.read.number_field as cbor-read-number-field
+use Rattle.cbor.proofs.write.size as cbor-write-size
+use Rattle.cbor.proofs.write.fixed as cbor-write-fixed
+use Rattle.cbor.proofs.write.head as cbor-write-head
+use Rattle.cbor.proofs.write.string as cbor-write-string
+use Rattle.cbor.proofs.write.double as cbor-write-double
+use Rattle.cbor.proofs.write.string_field as cbor-write-string-field
+use Rattle.cbor.proofs.write.number_field as cbor-write-number-field
+
+pub cbor-step-no-once : Once cbor-step-no.Kinds.ps cbor-step-no.Kinds.r cbor-step-no.Reads.Learnt
+cbor-step-no-once κs args x y u v p q = (p ∙ sym q, refl)
+
+pub cbor-number-no-once : Once cbor-number-no.Kinds.ps cbor-number-no.Kinds.r cbor-number-no.Reads.Learnt
+cbor-number-no-once κs args x y u v p q = (p ∙ sym q, refl)
+
+pub cbor-head-no-once : Once cbor-head-no.Kinds.ps cbor-head-no.Kinds.r cbor-head-no.Reads.Learnt
+cbor-head-no-once κs args x y u v p q = (p ∙ sym q, refl)
+
+pub cbor-string-no-once : Once cbor-string-no.Kinds.ps cbor-string-no.Kinds.r cbor-string-no.Reads.Learnt
+cbor-string-no-once κs args x y u v p q = (p ∙ sym q, refl)
+
+pub cbor-read-byte-once : Once cbor-read-byte.Kinds.ps cbor-read-byte.Kinds.r cbor-read-byte.Reads.Learnt
+cbor-read-byte-once κs args x y u v p q = (number-injective x y (p ∙ sym q), refl)
+
+pub cbor-read-one-byte-once : Once cbor-read-one-byte.Kinds.ps cbor-read-one-byte.Kinds.r cbor-read-one-byte.Reads.Learnt
+cbor-read-one-byte-once κs args x y u v p q = (step-injective x y (p ∙ sym q), refl)
+
+pub cbor-read-head-once : Once cbor-read-head.Kinds.ps cbor-read-head.Kinds.r cbor-read-head.Reads.Learnt
+cbor-read-head-once κs args x y u v p q = (head-injective x y (p ∙ sym q), refl)
+
+pub cbor-read-number-once : Once cbor-read-number.Kinds.ps cbor-read-number.Kinds.r cbor-read-number.Reads.Learnt
+cbor-read-number-once κs args x y u v p q = (number-injective x y (p ∙ sym q), refl)
+
+pub cbor-read-contents-once : Once cbor-read-contents.Kinds.ps cbor-read-contents.Kinds.r cbor-read-contents.Reads.Learnt
+cbor-read-contents-once κs args x y u v p q = (string-injective x y (p ∙ sym q), refl)
+
+pub cbor-read-string-once : Once cbor-read-string.Kinds.ps cbor-read-string.Kinds.r cbor-read-string.Reads.Learnt
+cbor-read-string-once κs args x y u v p q = (string-injective x y (p ∙ sym q), refl)
+
+pub cbor-read-key-once : Once cbor-read-key.Kinds.ps cbor-read-key.Kinds.r cbor-read-key.Reads.Learnt
+cbor-read-key-once κs args x y u v p q = (step-injective x y (p ∙ sym q), refl)
+
+pub cbor-read-double-once : Once cbor-read-double.Kinds.ps cbor-read-double.Kinds.r cbor-read-double.Reads.Learnt
+cbor-read-double-once κs args x y u v p q = (number-injective x y (p ∙ sym q), refl)
+
+pub cbor-read-string-field-once : Once cbor-read-string-field.Kinds.ps cbor-read-string-field.Kinds.r cbor-read-string-field.Reads.Learnt
+cbor-read-string-field-once κs args x y u v p q = (string-injective x y (p ∙ sym q), refl)
+
+pub cbor-read-number-field-once : Once cbor-read-number-field.Kinds.ps cbor-read-number-field.Kinds.r cbor-read-number-field.Reads.Learnt
+cbor-read-number-field-once κs args x y u v p q = (number-injective x y (p ∙ sym q), refl)
+
+pub cbor-write-size-once : Once cbor-write-size.Kinds.ps cbor-write-size.Kinds.r cbor-write-size.Reads.Learnt
+cbor-write-size-once κs args x y u v p q = (p ∙ sym q, refl)
+
+pub cbor-write-fixed-once : Once cbor-write-fixed.Kinds.ps cbor-write-fixed.Kinds.r cbor-write-fixed.Reads.Learnt
+cbor-write-fixed-once κs args x y u v p q = let e = put-once p q in (e .0, here (e .1))
+
+pub cbor-write-head-once : Once cbor-write-head.Kinds.ps cbor-write-head.Kinds.r cbor-write-head.Reads.Learnt
+cbor-write-head-once κs args x y u v p q = let e = put-once p q in (e .0, here (e .1))
+
+pub cbor-write-string-once : Once cbor-write-string.Kinds.ps cbor-write-string.Kinds.r cbor-write-string.Reads.Learnt
+cbor-write-string-once κs args x y u v p q = let e = put-once p q in (e .0, here (e .1))
+
+pub cbor-write-double-once : Once cbor-write-double.Kinds.ps cbor-write-double.Kinds.r cbor-write-double.Reads.Learnt
+cbor-write-double-once κs args x y u v p q = let e = put-once p q in (e .0, here (e .1))
+
+pub cbor-write-string-field-once : Once cbor-write-string-field.Kinds.ps cbor-write-string-field.Kinds.r cbor-write-string-field.Reads.Learnt
+cbor-write-string-field-once κs args x y u v p q = let e = put-once p q in (e .0, here (e .1))
+
+pub cbor-write-number-field-once : Once cbor-write-number-field.Kinds.ps cbor-write-number-field.Kinds.r cbor-write-number-field.Reads.Learnt
+cbor-write-number-field-once κs args x y u v p q = let e = put-once p q in (e .0, here (e .1))

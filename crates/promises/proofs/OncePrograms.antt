@@ -1,0 +1,64 @@
+-- One answer, by each contract itself: what the small program, the phone and the bench call. Assumes nothing.
+use mathlib.Core.Path.{_≡_, refl, sym, ap, _∙_}
+use mathlib.Core.List.{List}
+use Prim.Native.Nat.{ℕ}
+use Rattle.promises.specs.Once.{Once}
+use Rattle.promises.proofs.Lasts.{both, here, past}
+use Rattle.wire.proofs.Writes.{written-once}
+use Rattle.scan.specs.Session.{At, at}
+use Rattle.scan.specs.declared.session.Session.{Session}
+use Rattle.scan.proofs.id as scan-id
+use Rattle.scan.proofs.session.scan as scan-session-scan
+use Rattle.scan.proofs.session.feed as scan-session-feed
+use Rattle.scan.proofs.session.close as scan-session-close
+use Rattle.scan.proofs.session.report as scan-session-report
+use Rattle.phone.proofs.stilt_open as phone-stilt-open
+use Rattle.phone.proofs.stilt_offer as phone-stilt-offer
+use Rattle.phone.proofs.stilt_join as phone-stilt-join
+use Rattle.phone.proofs.stilt_finish as phone-stilt-finish
+use Rattle.speed.proofs.speed_crc32 as speed-speed-crc32
+use Rattle.speed.proofs.speed_sha256 as speed-speed-sha256
+use Rattle.speed.proofs.speed_blake2b as speed-speed-blake2b
+
+-- where a session is says all of it
+at-injective : (r q : Session) {l m c d : List ℕ} → at r l c ≡ at q m d → (r ≡ q) × (l ≡ m) × (c ≡ d)
+at-injective r q e =
+    let a : r .phase ≡ q .phase = ap (λ (s : At). s .phase) e in
+    let b : r .len ≡ q .len = ap (λ (s : At). s .len) e in
+    (λ i. record { phase = a i; len = b i }, ap (λ (s : At). s .line) e, ap (λ (s : At). s .collection) e)
+
+pub scan-id-once : Once scan-id.Kinds.ps scan-id.Kinds.r scan-id.Reads.Learnt
+scan-id-once κs args x y u v p q = let e = written-once p q in (e .0, past (here (e .1)))
+
+pub scan-session-scan-once : Once scan-session-scan.Kinds.ps scan-session-scan.Kinds.r scan-session-scan.Reads.Learnt
+scan-session-scan-once κs args x y u v p q = (refl, past (here (p ∙ sym q)))
+
+pub scan-session-feed-once : Once scan-session-feed.Kinds.ps scan-session-feed.Kinds.r scan-session-feed.Reads.Learnt
+scan-session-feed-once κs args x y u v p q = let e = at-injective x y (p ∙ sym q) in (e .0, past (past (both (e .1) (here (e .2)))))
+
+pub scan-session-close-once : Once scan-session-close.Kinds.ps scan-session-close.Kinds.r scan-session-close.Reads.Learnt
+scan-session-close-once κs args x y u v p q = let e = at-injective x y (p ∙ sym q) in (e .0, past (past (here (e .2))))
+
+pub scan-session-report-once : Once scan-session-report.Kinds.ps scan-session-report.Kinds.r scan-session-report.Reads.Learnt
+scan-session-report-once κs args x y u v p q = let e = written-once p q in (e .0, past (past (here (e .1))))
+
+pub phone-stilt-open-once : Once phone-stilt-open.Kinds.ps phone-stilt-open.Kinds.r phone-stilt-open.Reads.Learnt
+phone-stilt-open-once κs args x y u v p q = (p .0 ∙ sym (q .0), past (here (p .1 ∙ sym (q .1))))
+
+pub phone-stilt-offer-once : Once phone-stilt-offer.Kinds.ps phone-stilt-offer.Kinds.r phone-stilt-offer.Reads.Learnt
+phone-stilt-offer-once κs args x y u v p q = (p .0 ∙ sym (q .0), here (p .1 ∙ sym (q .1)))
+
+pub phone-stilt-join-once : Once phone-stilt-join.Kinds.ps phone-stilt-join.Kinds.r phone-stilt-join.Reads.Learnt
+phone-stilt-join-once κs args x y u v p q = (p .0 ∙ sym (q .0), here (p .1 ∙ sym (q .1)))
+
+pub phone-stilt-finish-once : Once phone-stilt-finish.Kinds.ps phone-stilt-finish.Kinds.r phone-stilt-finish.Reads.Learnt
+phone-stilt-finish-once κs args x y u v p q = (p .0 ∙ sym (q .0), past (here (p .1 ∙ sym (q .1))))
+
+pub speed-speed-crc32-once : Once speed-speed-crc32.Kinds.ps speed-speed-crc32.Kinds.r speed-speed-crc32.Reads.Learnt
+speed-speed-crc32-once κs args x y u v p q = (p ∙ sym q, refl)
+
+pub speed-speed-sha256-once : Once speed-speed-sha256.Kinds.ps speed-speed-sha256.Kinds.r speed-speed-sha256.Reads.Learnt
+speed-speed-sha256-once κs args x y u v p q = (refl, past (here (p ∙ sym q)))
+
+pub speed-speed-blake2b-once : Once speed-speed-blake2b.Kinds.ps speed-speed-blake2b.Kinds.r speed-speed-blake2b.Reads.Learnt
+speed-speed-blake2b-once κs args x y u v p q = (refl, past (here (p ∙ sym q)))

@@ -1,0 +1,1 @@
+// What is promised, in one place: definitions and theorems only, in specs/ and proofs/.
