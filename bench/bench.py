@@ -1,121 +1,168 @@
-"""Building and measuring, shared by bench/check and bench/run."""
+"""The measured functions: how their programs are built, and whether their answers are right.
 
+There are three sides: the plain C, ours (crates/speed), and the peer: the
+library that a C programmer would take instead.
+"""
+
+import glob
 import hashlib
 import os
-import platform
 import re
-import shutil
 import subprocess
+import sys
 import zlib
 
-BENCH = os.path.dirname(os.path.realpath(__file__))
-ROOT = os.path.dirname(BENCH)
-X86 = platform.machine() in ("x86_64", "AMD64")
+import counting
 
-ALGORITHMS = ("crc32", "sha256", "blake2b")
-ARCHIVE = os.path.join(ROOT, "target", "staticlib", "libspeed.a")
+ROOT = os.path.dirname(counting.BENCH)
+sys.path.insert(0, os.path.join(ROOT, "tests"))
+from second import answers, forms  # noqa: E402
+
+FUNCTIONS = ("crc32", "sha256", "blake2b", "base64_write", "base64_read")
+
+# Each library, the name to link it by, and the functions that it is the peer for.
+PEERS = {
+    "zlib": ("z", ("crc32",)),
+    "openssl": ("crypto", ("sha256", "base64_write", "base64_read")),
+    "libb2": ("b2", ("blake2b",)),
+}
+MACHINE = "x86_64-linux-gnu"
+FETCHED = os.path.join(ROOT, "target", "bench", "amd64", "usr")
+
+
+# Building.
 
 
 def compiler():
     """gcc -O2 for x86-64, since that is what Rattle's archives hold."""
-    which = ["gcc"] if X86 else ["x86_64-linux-gnu-gcc", "-static"]
-    return [*which, "-std=c11", "-O2", "-Wall", "-Wextra"]
+    which = ["gcc"] if counting.X86 else [f"{MACHINE}-gcc", "-static"]
+    return [*which, "-std=c11", "-O2", "-Wall", "-Wextra", "-D_POSIX_C_SOURCE=199309L",
+            "-I" + os.path.join(ROOT, "include")]
 
 
-def runner():
-    """How a built program is run: as it is, or under qemu."""
-    return [] if X86 else ["qemu-x86_64"]
+def build(output, sources, *more, **options):
+    """Compile and link one program; None where that fails and `check` is false."""
+    paths = [os.path.join(counting.BENCH, source) for source in sources]
+    done = subprocess.run([*compiler(), "-o", output, *paths, *more], **{"check": True, **options})
+    return output if done.returncode == 0 else None
 
 
-def build(output, sources, *more):
-    """Compile and link one program."""
-    paths = [os.path.join(BENCH, source) for source in sources]
-    subprocess.run([*compiler(), "-o", output, *paths, *more], check=True)
-    return output
+def archive(crate):
+    """A crate's archive, proved and built where it is lacking or older than a source."""
+    path = os.path.join(ROOT, "target", "staticlib", f"lib{crate}.a")
+    sources = glob.glob(os.path.join(ROOT, "crates", "*", "src", "**", "*.rt"), recursive=True)
+    if not os.path.exists(path) or os.path.getmtime(path) < max(map(os.path.getmtime, sources)):
+        done = subprocess.run(["rt", "staticlib", crate], cwd=ROOT, text=True, check=False,
+                              capture_output=True)
+        if done.returncode != 0:
+            raise SystemExit(f"rt staticlib {crate} failed: {done.stderr.strip()[-300:]}")
+    return path
 
 
 def build_plain(folder):
     """The plain side."""
-    names = ("main.c", "subjects.c", "crc32.c", "sha256.c", "blake2b.c")
-    return build(os.path.join(folder, "plain"), [os.path.join("plain", name) for name in names])
+    names = ("subjects.c", "crc32.c", "sha256.c", "blake2b.c", "base64.c")
+    sources = ["functions.c", *(os.path.join("plain", name) for name in names)]
+    return build(os.path.join(folder, "plain"), sources)
 
 
 def build_ours(folder):
-    """Our side, over the archive of crates/speed, which is proved and built where it is lacking."""
-    if not os.path.exists(ARCHIVE):
-        subprocess.run(["rt", "staticlib", "speed"], cwd=ROOT, check=True, stdout=subprocess.DEVNULL)
-    return build(os.path.join(folder, "ours"), ["plain/main.c", "ours.c"], ARCHIVE)
+    """Our side."""
+    return build(os.path.join(folder, "ours"), ["functions.c", "ours.c"], archive("speed"))
+
+
+def build_jobs(folder):
+    """The jobs, over the phone's library."""
+    return build(os.path.join(folder, "jobs"), ["jobs.c"], archive("phone"), archive("speed"))
+
+
+def build_peer(folder, library):
+    """The program of one library, or None where the compiler does not find the library."""
+    places = []
+    if os.path.isdir(FETCHED):
+        places = [f"-I{FETCHED}/include", f"-I{FETCHED}/include/{MACHINE}",
+                  f"-L{FETCHED}/lib/{MACHINE}"]
+    sources = ["functions.c", os.path.join("peers", library + ".c")]
+    return build(os.path.join(folder, library), sources, *places, "-l" + PEERS[library][0],
+                 check=False, stderr=subprocess.DEVNULL)
+
+
+def library_version(library):
+    """The library's name and version, as its pkg-config file says."""
+    name = {"openssl": "libcrypto"}.get(library, library)
+    for place in (f"{FETCHED}/lib/{MACHINE}", f"/usr/lib/{MACHINE}", "/usr/lib64", "/usr/lib"):
+        path = os.path.join(place, "pkgconfig", name + ".pc")
+        if os.path.exists(path):
+            with open(path, encoding="utf-8") as lines:
+                found = re.search(r"^Version:\s*(\S+)", lines.read(), re.MULTILINE)
+            return f"{library} {found.group(1)}" if found else library
+    return library
+
+
+def repeated(program, name, path):
+    """The command that runs a function over a file's bytes, by the number of runs."""
+    return lambda times: [program, name, "repeat", path, str(times)]
 
 
 # Right answers.
 
 
 def pattern(length):
-    """The bytes of main.c."""
+    """Bytes to measure with."""
     return bytes((i * 167 + 13) // 2 % 256 for i in range(length))
 
 
-def right(name, data):
-    """The answer by Python's library."""
-    if name == "crc32":
-        return zlib.crc32(data).to_bytes(4, "big")
-    if name == "sha256":
-        return hashlib.sha256(data).digest()
-    return hashlib.blake2b(data, digest_size=32).digest()
+def read_text(text):
+    """The bytes of a base64 text: none where it is refused."""
+    try:
+        return forms.base64_read(text)
+    except answers.Refusal:
+        return b""
 
 
-def wrong_lengths(program, name, most):
-    """The lengths up to `most` at which a program is wrong."""
-    done = subprocess.run([*runner(), program, name, "list", str(most)], text=True, check=False,
-                          stdout=subprocess.PIPE)
-    lines = done.stdout.split()
-    if done.returncode != 0 or len(lines) != most + 1:
-        return [len(lines)]
+RIGHT = {
+    "crc32": lambda data: zlib.crc32(data).to_bytes(4, "big"),
+    "sha256": lambda data: hashlib.sha256(data).digest(),
+    "blake2b": lambda data: hashlib.blake2b(data, digest_size=32).digest(),
+    "base64_write": forms.base64_write,
+    "base64_read": read_text,
+}
+
+
+def subject(name, data):
+    """What a function is run over: the bytes, or their text."""
+    return forms.base64_write(data) if name == "base64_read" else data
+
+
+def other_texts(text):
+    """Texts near this one: cut, with spaces, with a character changed, with padding."""
+    half = len(text) // 2
+    yield text[:-1]
+    yield text[:half] + b" \t\r\n\v\f" + text[half:] + b" "
+    yield text[:half] + b"-" + text[half + 1:]
+    yield text[:-1] + b"/"
+    yield text + b"="
+
+
+def inputs(name, most, step):
+    """What a function is tried on: lengths up to `most`, and for our reader also bad texts."""
     data = pattern(most)
-    return [length for length, line in enumerate(lines)
-            if not line or not right(name, data[:length]).hex().startswith(line)]
+    for length in range(0, most + 1, step):
+        yield subject(name, data[:length])
+    if name == "base64_read" and step == 1:
+        for length in range(0, most + 1, 7):
+            yield from other_texts(subject(name, data[:length]))
 
 
-# Counting instructions.
-
-
-def perf_counts():
-    """Whether perf can count instructions here."""
-    if not shutil.which("perf"):
-        return False
-    done = subprocess.run(["perf", "stat", "-x", ",", "-e", "instructions:u", "true"], text=True,
-                          check=False, stdout=subprocess.DEVNULL, stderr=subprocess.PIPE)
-    return done.returncode == 0 and bool(re.match(r"\d+,", done.stderr))
-
-
-def by_perf(command):
-    """Instructions of one run, by perf."""
-    done = subprocess.run(["perf", "stat", "-x", ",", "-e", "instructions:u", *command], text=True,
-                          check=True, stdout=subprocess.DEVNULL, stderr=subprocess.PIPE)
-    return int(re.match(r"(\d+),", done.stderr).group(1))
-
-
-def by_callgrind(command):
-    """Instructions of one run, by callgrind."""
-    done = subprocess.run(["valgrind", "--tool=callgrind", "--callgrind-out-file=/dev/null",
-                           *command], text=True, check=True, stdout=subprocess.DEVNULL,
-                          stderr=subprocess.PIPE)
-    return int(re.search(r"Collected : (\d+)", done.stderr).group(1))
-
-
-def counter():
-    """The way of counting and its name, or None."""
-    if not X86:
-        return None, "none"
-    if perf_counts():
-        return by_perf, "perf stat -e instructions:u"
-    if shutil.which("valgrind"):
-        return by_callgrind, "valgrind --tool=callgrind"
-    return None, "none"
-
-
-def per_byte(count, program, name, length, times):
-    """Instructions for each byte: 2 R runs less R runs, so that the start cancels out."""
-    once, twice = (count([program, name, "repeat", str(length), str(n)])
-                   for n in (times, 2 * times))
-    return (twice - once) / (length * times)
+def wrong_inputs(folder, program, name, most, step=1):
+    """The lengths of the inputs on which a program's answer is wrong."""
+    tried = list(inputs(name, most, step))
+    path = os.path.join(folder, "inputs")
+    with open(path, "wb") as file:
+        file.writelines(len(data).to_bytes(4, "little") + data for data in tried)
+    done = subprocess.run([*counting.runner(), program, name, "list", path], text=True,
+                          check=False, stdout=subprocess.PIPE)
+    lines = done.stdout.split("\n")[:-1]
+    if done.returncode != 0 or len(lines) != len(tried):
+        return [len(lines)]
+    return [len(data) for data, line in zip(tried, lines) if RIGHT[name](data).hex() != line]

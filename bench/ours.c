@@ -2,27 +2,33 @@
 #include "rattle.h"
 #include "subjects.h"
 
-static void crc32(const uint8_t *data, size_t length, uint8_t *out)
+static size_t crc32(const uint8_t *data, size_t length, uint8_t *out, size_t room)
 {
     uint32_t sum = speed_crc32(data, length);
 
+    (void)room;
     for (int i = 0; i < 4; i++)
         out[i] = (uint8_t)(sum >> (24 - 8 * i));
+    return 4;
 }
 
-static void sha256(const uint8_t *data, size_t length, uint8_t *out)
+static size_t sha256(const uint8_t *data, size_t length, uint8_t *out, size_t room)
 {
-    speed_sha256(data, length, out, 32);
+    speed_sha256(data, length, out, room);
+    return 32;
 }
 
-static void blake2b(const uint8_t *data, size_t length, uint8_t *out)
+static size_t blake2b(const uint8_t *data, size_t length, uint8_t *out, size_t room)
 {
-    speed_blake2b(data, length, out, 32);
+    speed_blake2b(data, length, out, room);
+    return 32;
 }
 
 const struct subject SUBJECTS[] = {
-    {"crc32", 4, crc32},
-    {"sha256", 32, sha256},
-    {"blake2b", 32, blake2b},
-    {NULL, 0, NULL},
+    {"crc32", crc32},
+    {"sha256", sha256},
+    {"blake2b", blake2b},
+    {"base64_write", speed_base64_write},
+    {"base64_read", speed_base64_read},
+    {NULL, NULL},
 };

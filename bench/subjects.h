@@ -7,8 +7,8 @@
 
 struct subject {
     const char *name;
-    size_t output; /* how many bytes it writes, at most 32 */
-    void (*run)(const uint8_t *data, size_t length, uint8_t *out);
+    /* writes its answer to out, which has room for it, and says how many bytes that is */
+    size_t (*run)(const uint8_t *data, size_t length, uint8_t *out, size_t room);
 };
 
 extern const struct subject SUBJECTS[]; /* the last has no name */

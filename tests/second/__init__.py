@@ -13,6 +13,8 @@ is one subject of 01, and each function names the section that it follows:
     manifest    paths, file entries, the manifest
     envelope    the envelope
     collection  the collection of pages, which is also the saved file
+    pier        the small program: scans in, a status line out
+    press       the programs of the harbour and the pantry
     desk        the call desk of CALLS.md: lines in, lines out
 
 The rest is for trying it out: `cases` makes calls, `stored` the run that is

@@ -2,7 +2,8 @@
 use Prim.Native.Nat.{ℕ}
 use mathlib.Core.Path.{_≡_, refl, ap}
 use Rattle.wire.specs.Answer.{Got, refused, then, numberOf}
-use Rattle.cbor.proofs.Answers.{go, stop, chain}
+use Rattle.wire.proofs.Branch.{go, stop}
+use Rattle.cbor.proofs.Answers.{chain}
 use Rattle.auth.specs.Auth.{Claim}
 use Rattle.auth.specs.Answer.{claimTold}
 use Rattle.auth.specs.declared.ClaimRead.{ClaimRead}

@@ -9,10 +9,10 @@ use lib.ListN.{length, take, drop}
 use Rattle.wire.specs.Answer.{got}
 use Rattle.wire.specs.Number.{Bytes}
 use Rattle.wire.proofs.Cases.{passed, then-passed}
+use Rattle.wire.proofs.Standing.{Stands, stands-whole, stands-all, stands-first, stands-second, stands-join, stands-as}
 use Rattle.cbor.specs.Form.{stringFieldOf, numberFieldOf}
 use Rattle.cbor.specs.Item.{Place, partAt, oneAt, stringFieldAt, numberFieldAt}
 use Rattle.cbor.specs.Names.{pubKey, sigKey, hashKey, versionKey}
-use Rattle.cbor.proofs.Standing.{Stands, stands-whole, stands-all, stands-first, stands-second, stands-join, stands-as}
 use Rattle.cbor.proofs.Within.{string-field-within, number-field-within}
 use Rattle.cbor.proofs.Written.{kind-bytes, one-back, string-field-back, number-field-back}
 use Rattle.cbor.proofs.Only.{one-only, string-field-only, number-field-only}

@@ -6,7 +6,7 @@ use native.Mathlib.Omega.{arith}
 use borrow.Author.Tests.{eq-eqb, ne-eqb, le-leb}
 use lib.ListN.{length}
 use Rattle.wire.specs.Over.{over}
-use Rattle.wire.specs.Writing.{Verdict, bytes, fault, Written}
+use Rattle.wire.specs.Writing.{bytes, Written}
 use Rattle.wire.specs.declared.Wrote.the-variants.{Done, Refused}
 use Rattle.wire.proofs.Writes.{written, no-room, denied}
 use Rattle.cbor.specs.Form.{stringFieldOf, numberFieldOf}
@@ -16,31 +16,20 @@ use Rattle.cbor.proofs.Runs.{left-all, left-on, left-last}
 use Rattle.auth.specs.Auth.{authOf, authVerdict, authDomain, signedOf, signedVerdict}
 use Rattle.auth.proofs.Lengths.{auth-length, signed-length}
 
--- a verdict is known, and with it the whole promise
-module _ (v : Verdict) (x : List ℕ) where
-  refused : (e : ℕ) → v ≡ fault e → Written 0 v x x (Refused e)
-  refused e h = rw h (denied 0 x e)
-
-  short : (bs : List ℕ) (k : ℕ) → v ≡ bytes bs → length bs ≡ k → length x < k → Written 0 v x x (Refused 11)
-  short bs k h e l = rw h (no-room 0 x bs (omega arith))
-
-  done : (bs : List ℕ) (k : ℕ) (z : List ℕ) → v ≡ bytes bs → length bs ≡ k → k ≤ length x → z ≡ over 0 bs x → Written 0 v x z (Done k)
-  done bs k z h e l o = rw h (written 0 x bs z k (omega arith) (sym e) o)
-
 module _ (public sig hash x : List ℕ) where
   pub auth-public : (length public ≡ 32 → ⊥) → Written 0 (authVerdict public sig hash) x x (Refused 19)
   unfolding authVerdict
-  auth-public p = refused (authVerdict public sig hash) x 19 (rw (ne-eqb (length public) 32 p))
+  auth-public p = rw (ne-eqb (length public) 32 p) (denied 0 x 19)
 
   module _ (p : length public ≡ 32) where
     pub auth-sig : (length sig ≡ 64 → ⊥) → Written 0 (authVerdict public sig hash) x x (Refused 19)
     unfolding authVerdict
-    auth-sig g = refused (authVerdict public sig hash) x 19 (rw (eq-eqb (length public) 32 p, ne-eqb (length sig) 64 g))
+    auth-sig g = rw (eq-eqb (length public) 32 p, ne-eqb (length sig) 64 g) (denied 0 x 19)
 
     module _ (g : length sig ≡ 64) where
       pub auth-hash : (length hash ≡ 32 → ⊥) → Written 0 (authVerdict public sig hash) x x (Refused 19)
       unfolding authVerdict
-      auth-hash h = refused (authVerdict public sig hash) x 19 (rw (eq-eqb (length public) 32 p, eq-eqb (length sig) 64 g, ne-eqb (length hash) 32 h))
+      auth-hash h = rw (eq-eqb (length public) 32 p, eq-eqb (length sig) 64 g, ne-eqb (length hash) 32 h) (denied 0 x 19)
 
       module _ (h : length hash ≡ 32) where
         judged : authVerdict public sig hash ≡ bytes (authOf public sig hash)
@@ -50,13 +39,15 @@ module _ (public sig hash x : List ℕ) where
             rw (eq-eqb (length public) 32 p, eq-eqb (length sig) 64 g, eq-eqb (length hash) 32 h, le-leb (length (authOf public sig hash)) 480 (omega arith))
 
         pub auth-short : length x < 157 → Written 0 (authVerdict public sig hash) x x (Refused 11)
-        auth-short l = short (authVerdict public sig hash) x (authOf public sig hash) 157 judged (auth-length public sig hash p g h) l
+        auth-short l = rw judged (no-room 0 x (authOf public sig hash) (omega (arith, auth-length public sig hash p g h)))
 
         pub auth-fits : 157 ≤ length x → length (authOf public sig hash) ≤ length x
         auth-fits l = omega (arith, auth-length public sig hash p g h)
 
         pub auth-done : (z : List ℕ) → 157 ≤ length x → z ≡ over 0 (authOf public sig hash) x → Written 0 (authVerdict public sig hash) x z (Done 157)
-        auth-done z l o = done (authVerdict public sig hash) x (authOf public sig hash) 157 z judged (auth-length public sig hash p g h) l o
+        auth-done z l o =
+            let n = auth-length public sig hash p g h in
+            rw judged (written 0 x (authOf public sig hash) z 157 (omega arith) (sym n) o)
 
   pub auth-run : length (authOf public sig hash) ≤ length x → (a b c d e : ℕ) (x₁ x₂ x₃ x₄ z : List ℕ) → Put 0 (0xA4 ∷ []) x x₁ a
       → Put a (stringFieldOf pubKey 2 public) x₁ x₂ b → Put b (stringFieldOf sigKey 2 sig) x₂ x₃ c → Put c (stringFieldOf hashKey 2 hash) x₃ x₄ d
@@ -69,12 +60,12 @@ module _ (public sig hash x : List ℕ) where
 module _ (public hash x : List ℕ) where
   pub signed-public : (length public ≡ 32 → ⊥) → Written 0 (signedVerdict public hash) x x (Refused 19)
   unfolding signedVerdict
-  signed-public p = refused (signedVerdict public hash) x 19 (rw (ne-eqb (length public) 32 p))
+  signed-public p = rw (ne-eqb (length public) 32 p) (denied 0 x 19)
 
   module _ (p : length public ≡ 32) where
     pub signed-hash : (length hash ≡ 32 → ⊥) → Written 0 (signedVerdict public hash) x x (Refused 19)
     unfolding signedVerdict
-    signed-hash h = refused (signedVerdict public hash) x 19 (rw (eq-eqb (length public) 32 p, ne-eqb (length hash) 32 h))
+    signed-hash h = rw (eq-eqb (length public) 32 p, ne-eqb (length hash) 32 h) (denied 0 x 19)
 
     module _ (h : length hash ≡ 32) where
       signed-judged : signedVerdict public hash ≡ bytes (signedOf public hash)
@@ -82,13 +73,15 @@ module _ (public hash x : List ℕ) where
       signed-judged = rw (eq-eqb (length public) 32 p, eq-eqb (length hash) 32 h)
 
       pub signed-short : length x < 104 → Written 0 (signedVerdict public hash) x x (Refused 11)
-      signed-short l = short (signedVerdict public hash) x (signedOf public hash) 104 signed-judged (signed-length public hash p h) l
+      signed-short l = rw signed-judged (no-room 0 x (signedOf public hash) (omega (arith, signed-length public hash p h)))
 
       pub signed-fits : 104 ≤ length x → length (signedOf public hash) ≤ length x
       signed-fits l = omega (arith, signed-length public hash p h)
 
       pub signed-done : (z : List ℕ) → 104 ≤ length x → z ≡ over 0 (signedOf public hash) x → Written 0 (signedVerdict public hash) x z (Done 104)
-      signed-done z l o = done (signedVerdict public hash) x (signedOf public hash) 104 z signed-judged (signed-length public hash p h) l o
+      signed-done z l o =
+          let n = signed-length public hash p h in
+          rw signed-judged (written 0 x (signedOf public hash) z 104 (omega arith) (sym n) o)
 
   pub signed-run : length (signedOf public hash) ≤ length x → (a b c d e : ℕ) (x₁ x₂ x₃ x₄ z : List ℕ) → Put 0 authDomain x x₁ a → Put a (0xA3 ∷ []) x₁ x₂ b
       → Put b (stringFieldOf pubKey 2 public) x₂ x₃ c → Put c (stringFieldOf hashKey 2 hash) x₃ x₄ d → Put d (numberFieldOf versionKey 1) x₄ z e

@@ -7,8 +7,7 @@ use lib.Dec.{eqb, leb}
 use lib.ListN.{length, take, drop, getD, replicate}
 use Rattle.wire.specs.Answer.{choose}
 use Rattle.wire.specs.Number.{Bytes, bigEndian}
-use Rattle.wire.proofs.Digits.{digits-small, small-take, small-drop}
-use Rattle.wire.proofs.Stands.{bytes-none, bytes-cons, bytes-append}
+use Rattle.wire.proofs.Digits.{digits-small, small-take, small-drop, bytes-none, bytes-cons, bytes-append}
 use Rattle.crc.specs.Crc.{crc32}
 use Rattle.state.specs.State.{Slot, absent, held, disputed, dataOf}
 use Rattle.block.specs.Block.{stateOf, sealed, pageBody, pageBlock}

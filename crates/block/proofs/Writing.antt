@@ -2,7 +2,7 @@
 use mathlib.Core.Path.{_≡_, refl, sym, ap, _∙_}
 use mathlib.Core.Bool.{_&&_}
 use mathlib.Core.List.{List, [], _∷_, _++_}
-use Prim.Native.Nat.{ℕ, _+_, _-_, _/_, _%_, _^_, _≤_, _<_}
+use Prim.Native.Nat.{ℕ, _+_, _-_, _/_, _%_, _≤_, _<_}
 use native.Mathlib.Omega.{arith}
 use borrow.Author.Tests.{eq-eqb, ne-eqb, le-leb, lt-leb}
 use lib.Dec.{eqb, leb}
@@ -18,13 +18,6 @@ use Rattle.block.specs.Block.{sealed, pageBody, pageBlock, hasBlock, wit
 use Rattle.block.proofs.Lengths.{length-body, length-whole}
 
 -- ---- numbers
-
-pub four-bytes : (n : ℕ) → n < 2 ^ 32 → n / 2 ^ 24 ∷ n / 2 ^ 16 % 256 ∷ n / 2 ^ 8 % 256 ∷ n % 256 ∷ [] ≡ bigEndian 4 n
-unfolding digits
-four-bytes n h =
-    let a : n / 2 ^ 24 ≡ n / 256 / 256 / 256 % 256 = omega arith in
-    let b : n / 2 ^ 16 % 256 ≡ n / 256 / 256 % 256 = omega arith in
-    cc
 
 two-bytes : (n : ℕ) → n ≤ 480 → n / 256 ∷ n % 256 ∷ [] ≡ bigEndian 2 n
 unfolding digits
@@ -63,11 +56,11 @@ body-laid at id i s d l v w x y z (room, eight, small) ev ew ex ey ez =
 
 -- ---- the checksum
 
-pub sum-laid : (at s : ℕ) (sum l y : List ℕ) → s ≡ crc32 (take (at + 508 - at) (drop at l)) → sum ≡ bigEndian 4 s → y ≡ over (at + 508) sum l → y ≡ withSum at l
+pub sum-laid : (at : ℕ) (sum l y : List ℕ) → sum ≡ bigEndian 4 (crc32 (take (at + 508 - at) (drop at l))) → y ≡ over (at + 508) sum l → y ≡ withSum at l
 unfolding withSum
-sum-laid at s sum l y es eb ey =
+sum-laid at sum l y es ey =
     let e : at + 508 - at ≡ 508 = omega arith in
-    ey ∙ rw (eb, es, e)
+    ey ∙ rw (es, e)
 
 -- where the block has no room, nothing changes
 pub sum-out : (at : ℕ) (l : List ℕ) → length l < at + 512 → l ≡ withSum at l

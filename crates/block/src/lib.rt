@@ -26,17 +26,6 @@ const ID: usize = 8;
 // The most data that a page has.
 const MOST: usize = 480;
 
-fn big_endian(n: u32) -> [u8; 4]
-    ensures { λ r. ⌜ r ≡ bigEndian 4 n ⌝ }
-{
-    [
-        (n >> 24) as u8,
-        ((n >> 16) % 256) as u8,
-        ((n >> 8) % 256) as u8,
-        (n % 256) as u8,
-    ]
-}
-
 // The checksum of the 508 bytes from index at on, behind them.
 pub fn seal(out: &mut [u8], at: usize)
     ensures { λ _. ⌜ now (out .exit) ≡ withSum at (now (out .entry)) ⌝ }
@@ -48,7 +37,7 @@ pub fn seal(out: &mut [u8], at: usize)
         return;
     }
     let end = at + 508;
-    let sum = big_endian(crc::crc32(&out[at..end]));
+    let sum = crc::sum(&out[at..end]);
     lend::copy(out, end, &sum);
 }
 

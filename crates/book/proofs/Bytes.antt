@@ -7,8 +7,7 @@ use lib.Dec.{eqb}
 use lib.ListN.{length, drop, replicate}
 use Rattle.wire.specs.Answer.{choose}
 use Rattle.wire.specs.Number.{Bytes}
-use Rattle.wire.proofs.Digits.{small-take, small-drop}
-use Rattle.wire.proofs.Stands.{bytes-none, bytes-cons, bytes-append}
+use Rattle.wire.proofs.Digits.{small-take, small-drop, bytes-none, bytes-cons, bytes-append}
 use Rattle.state.specs.State.{Slot, dataOf, Book, empty, collecting, disagree, totalOf, slotsOf}
 use Rattle.block.specs.Block.{pageBlock}
 use Rattle.block.proofs.Bytes.{bytes-zeros, bytes-sealed, bytes-block, bytes-at, bytes-data}

@@ -1,4 +1,3 @@
-pub mod Fronts
 pub mod Heads
 pub mod Pages
 pub mod Judging

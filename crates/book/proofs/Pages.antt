@@ -7,13 +7,12 @@ use borrow.Author.Tests.{eq-eqb, ne-eqb}
 use lib.ListN.{length, take, drop, getD, set, replicate, length-append, length-replicate, replicate-append-replicate}
 use lib.Seq.{take-at, drop-append-add}
 use Rattle.wire.specs.Over.{over}
-use Rattle.wire.proofs.Overs.{over-out, over-append, over-none, length-over}
+use Rattle.wire.proofs.Overs.{over-out, over-append, over-none, length-over, over-front, over-skip}
 use Rattle.state.specs.State.{Slot, absent, dataOf, noPages}
 use Rattle.block.specs.Block.{pageBlock, withPage}
 use Rattle.block.proofs.Lengths.{length-block}
 use Rattle.block.proofs.Writing.{with-page}
 use Rattle.book.specs.Encode.{pages, withBlank}
-use Rattle.book.proofs.Fronts.{over-front, over-skip}
 use Rattle.state.proofs.Slots.{length-none}
 use Rattle.state.proofs.Valid.{EachData, Short, short-none, data-none}
 

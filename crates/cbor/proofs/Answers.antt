@@ -5,7 +5,7 @@ use mathlib.Core.Bool.{true, false}
 use borrow.Author.Tests.{eq-eqb, ne-eqb}
 use lib.Dec.{eqb}
 use Rattle.wire.specs.Answer.{Got, refused, then, numberOf}
-use Rattle.wire.proofs.Branch.{branch}
+use Rattle.wire.proofs.Branch.{branch, go, stop}
 use Rattle.cbor.specs.Item.{Head, Place}
 use Rattle.cbor.specs.Answer.{stepTold, numberTold, headTold, stringTold}
 use Rattle.cbor.specs.declared.StepRead.{StepRead}
@@ -52,16 +52,6 @@ string-injective (string.Refused m) (string.Value b n j) e = cc
 string-injective (string.Refused m) (string.Refused n) e = cc
 
 -- ---- for `search`: one item of a chain. g is what a reader's contract says, r what it answered, n the number that the code took from r
-
--- one law for every enum, which told reads; a crate with an enum of its own cites it
-module _ {A B E : Type 0} (told : E → Got A) (g : Got A) (f : A → ℕ → Got B) where
-  -- it was read, and the chain goes on
-  pub go : (r x : E) (y : Got B) → told r ≡ g → r ≡ x → y ≡ then (told x) f → y ≡ then g f
-  go r x y e k h = rw (← e, k) h
-
-  -- it was refused, and so is the chain
-  pub stop : (r x : E) (n e : ℕ) → told r ≡ g → r ≡ x → told x ≡ refused e → n ≡ numberOf (told r) → refused n ≡ then g f
-  stop r x n e h k w q = rw (q, ← h, k, w)
 
 module _ {B : Type 0} (g : Got Unit) (f : Unit → ℕ → Got B) where
   pub go-step : (r : StepRead) (next : ℕ) (y : Got B) → stepTold r ≡ g → r ≡ step.Past next → y ≡ f tt next → y ≡ then g f

@@ -5,7 +5,6 @@ pub mod Within
 pub mod Runs
 pub mod Storing
 pub mod Writers
-pub mod Standing
 pub mod Written
 pub mod Only
 pub mod Examples

@@ -14,13 +14,13 @@ use Rattle.wire.specs.Answer.{Got, got}
 use Rattle.wire.specs.Number.{Bytes, bigEndian, digits, number}
 use Rattle.wire.proofs.Cases.{lt-or-le, passed, then-passed}
 use Rattle.wire.proofs.Digits.{digits-number, number-lt}
+use Rattle.wire.proofs.Standing.{Stands, stands-none, stands-as, stands-join, stands-part, byte-stands}
 use Rattle.lend.specs.Same.{same}
 use Rattle.lend.proofs.Sames.{same-eq}
 use Rattle.cbor.specs.Form.{infoOf, widthOf, headOf, stringOf, doubleOf, stringFieldOf, numberFieldOf}
 use Rattle.cbor.specs.Item.{byteAt, oneAt, bigEndianAt, argumentAt, kindOf, Head, headAt, numberAt, Place, partAt, contentsAt, stringAt, nameAt, keyAt, doubleAt, stringFieldAt, numberFieldAt}
 use Rattle.cbor.proofs.Sizes.{either, width-none, width-most, head-low}
 use Rattle.cbor.proofs.Within.{contents-within}
-use Rattle.cbor.proofs.Standing.{Stands, stands-none, stands-as, stands-join, stands-part, byte-stands}
 
 -- a part of the input is of bytes, as all of it is
 part-bytes : (s : List ℕ) (at k : ℕ) → length (take k (drop at s)) ≡ k → Bytes s → Bytes (take k (drop at s))

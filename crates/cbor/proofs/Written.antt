@@ -11,11 +11,11 @@ use Rattle.wire.specs.Answer.{choose, got}
 use Rattle.wire.specs.Number.{bigEndian, number}
 use Rattle.wire.proofs.Cases.{lt-or-le}
 use Rattle.wire.proofs.Digits.{length-digits, number-digits}
+use Rattle.wire.proofs.Standing.{Stands, stands-first, stands-second, stands-bytes, stands-byte}
 use Rattle.lend.proofs.Sames.{same-refl}
 use Rattle.cbor.specs.Form.{infoOf, widthOf, headOf, stringOf, doubleOf, stringFieldOf, numberFieldOf}
 use Rattle.cbor.specs.Item.{byteAt, oneAt, bigEndianAt, argumentAt, kindOf, headAt, numberAt, Place, partAt, contentsAt, stringAt, nameAt, keyAt, doubleAt, stringFieldAt, numberFieldAt}
 use Rattle.cbor.proofs.Sizes.{info-most, info-low, info-high, width-none, width-holds, head-low}
-use Rattle.cbor.proofs.Standing.{Stands, stands-first, stands-second, stands-take, stands-byte}
 
 module _ {s : List ℕ} {at next : ℕ} where
   pub byte-back : (x : ℕ) → Stands s at (x ∷ []) next → byteAt s at ≡ got x next
@@ -31,7 +31,7 @@ module _ {s : List ℕ} {at next : ℕ} where
       let c = length-digits 256 k n in
       let e : next ≡ at + k = omega (arith, h .ends) in
       let v : number 256 (take k (drop at s)) ≡ n =
-      ap (λ (j : ℕ). number 256 (take j (drop at s))) (sym c) ∙ ap (number 256) (stands-take h) ∙ number-digits 256 k n (lit< tt) l in
+      ap (λ (j : ℕ). number 256 (take j (drop at s))) (sym c) ∙ ap (number 256) (stands-bytes h) ∙ number-digits 256 k n (lit< tt) l in
       rw (le-leb (at + k) (length s) (omega (arith, h .within)), v, e)
 
   -- the number of a head, after its first byte
@@ -56,7 +56,7 @@ module _ {s : List ℕ} {at next : ℕ} where
   pub name-back : (name : List ℕ) → Stands s at name next → nameAt s at name ≡ got tt next
   unfolding nameAt
   name-back name h =
-      rw (le-leb (at + length name) (length s) (omega (arith, h .ends, h .within)), stands-take h, same-refl name, h .ends)
+      rw (le-leb (at + length name) (length s) (omega (arith, h .ends, h .within)), stands-bytes h, same-refl name, h .ends)
 
 module _ {s : List ℕ} {at next : ℕ} where
   pub head-back : (major n : ℕ) → n < 2 ^ 64 → Stands s at (headOf major n) next → headAt s at (kindOf major) ≡ got (record { major = major; number = n }) next
@@ -120,7 +120,7 @@ module _ (kind least most fault : ℕ) (k : kindOf kind ≡ kind) where
         let h₂ = stands-second (headOf kind (length bs)) bs h in (
           record { start = at + length (headOf kind (length bs)); len = length bs },
           rw (number-back (length bs) l a b h₁) (contents-back bs h₂),
-          record { long = refl; part = stands-take h₂ },
+          record { long = refl; part = stands-bytes h₂ },
         )
 
     pub string-field-back : {s : List ℕ} {at next : ℕ} (name : List ℕ) → length name < 24 → Stands s at (stringFieldOf name kind bs) next

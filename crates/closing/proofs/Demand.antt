@@ -12,12 +12,11 @@ use Rattle.wire.specs.Answer.{choose}
 use Rattle.wire.specs.Over.{over}
 use Rattle.wire.proofs.Overs.{read-over}
 use Rattle.lend.specs.Same.{same}
-use Rattle.lend.proofs.Sames.{same-eq, same-refl}
+use Rattle.lend.proofs.Sames.{same-eq, same-refl, same-ne, same-false}
 use Rattle.page.specs.Page.{documentId}
 use Rattle.state.specs.Take.{Page}
 use Rattle.state.specs.Meaning.{BookIs}
 use Rattle.state.specs.Finish.{Finish, whole, lacking, finishBook}
-use Rattle.state.proofs.Slots.{same-ne, same-false}
 use Rattle.state.specs.Complete.{TwoTotals, Complete, FirstDisputed, FirstMissing, FinishIs}
 use Rattle.state.proofs.Finished.{finish-exact, finish-whole, finish-14, finish-15, finish-16, finish-short}
 use Rattle.book.specs.Read.{idOf, readBook, okBook}

@@ -5,7 +5,6 @@ use Prim.Native.Nat.{ℕ}
 use Rattle.state.specs.Finish.{Finish}
 use Rattle.closing.specs.Finish.{Closed}
 use Rattle.closing.specs.Finish as finish
-use Rattle.closing.specs.Mend.{mended, repair}
 use Rattle.closing.specs.Mend as mend
 use Rattle.closing.specs.declared.Finished.{Finished}
 use Rattle.closing.specs.declared.Finished.the-variants as finished
@@ -28,7 +27,3 @@ mended-injective (mends.Done m) (mends.Done n) e = cc
 mended-injective (mends.Done m) (mends.Refused n) e = cc
 mended-injective (mends.Refused m) (mends.Done n) e = cc
 mended-injective (mends.Refused m) (mends.Refused n) e = cc
-
--- mend has one answer, and leaves one collection
-pub mended-once : (c : List ℕ) {x y : List ℕ} {r q : Mended} → mend.told r ≡ repair c → mend.told q ≡ repair c → x ≡ mended c → y ≡ mended c → (r ≡ q) × (x ≡ y)
-mended-once c {r = r} {q = q} a b e f = (mended-injective r q (a ∙ sym b), e ∙ sym f)

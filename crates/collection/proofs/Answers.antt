@@ -1,8 +1,8 @@
--- What open, offer and join answer, and every byte that they leave, is fixed by their contracts. Assumes nothing.
+-- The answers of open, offer and join say no more than 01, and their promise fixes the answer and every byte. Assumes nothing.
 use mathlib.Core.Path.{_≡_, refl, sym, _∙_}
 use mathlib.Core.List.{List}
 use Prim.Native.Nat.{ℕ}
-use Rattle.collection.specs.Collection.{Decision, Answer, opening, offering, joining, Kept}
+use Rattle.collection.specs.Collection.{Decision, Answer, Kept}
 use Rattle.collection.specs.Answer.{told, toldKind}
 use Rattle.collection.specs.declared.Answered.{Answered}
 use Rattle.collection.specs.declared.Answered.the-variants as A
@@ -25,13 +25,3 @@ kind-injective (O.Refused m) (O.Refused n) e = cc
 -- the promise of a call fixes its answer and every byte
 pub kept-once : {A : Type 0} {d : Decision A} {c x y : List ℕ} {a b : Answer A} → Kept d c x a → Kept d c y b → (a ≡ b) × (x ≡ y)
 kept-once p q = (p .answer ∙ sym (q .answer), p .bytes ∙ sym (q .bytes))
-
--- two answers and two buffers that keep the contract of open are equal; so for offer, and for join
-pub open-once : (id c x y : List ℕ) (r q : Answered) → Kept (opening id c) c x (told r) → Kept (opening id c) c y (told q) → (r ≡ q) × (x ≡ y)
-open-once id c x y r q j k = let e = kept-once j k in (told-injective r q (e .0), e .1)
-
-pub offer-once : (c raw x y : List ℕ) (r q : Offered) → Kept (offering c raw) c x (toldKind r) → Kept (offering c raw) c y (toldKind q) → (r ≡ q) × (x ≡ y)
-offer-once c raw x y r q j k = let e = kept-once j k in (kind-injective r q (e .0), e .1)
-
-pub join-once : (c o x y : List ℕ) (r q : Answered) → Kept (joining c o) c x (told r) → Kept (joining c o) c y (told q) → (r ≡ q) × (x ≡ y)
-join-once c o x y r q j k = let e = kept-once j k in (told-injective r q (e .0), e .1)

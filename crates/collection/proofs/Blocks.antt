@@ -7,9 +7,10 @@ use Prim.Native.Nat.{ℕ, _+_, _≤_}
 use native.Mathlib.Omega.{arith}
 use lib.ListN.{length}
 use Rattle.wire.proofs.Cases.{lt-or-le}
+use Rattle.lend.proofs.Sames.{same-false}
 use Rattle.state.specs.State.{Slot, absent, held, disputed, dataOf}
 use Rattle.state.specs.Take.{joinSlot, kindOfSlot}
-use Rattle.state.proofs.Slots.{same-false, join-absent, join-disputed, join-stays, join-first, join-again, join-other}
+use Rattle.state.proofs.Slots.{join-absent, join-disputed, join-stays, join-first, join-again, join-other}
 use Rattle.block.specs.Block.{stateOf, withPage}
 use Rattle.block.specs.Read.{blockAt, holding}
 use Rattle.block.proofs.Reading.{block-none, read-fits}

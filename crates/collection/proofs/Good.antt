@@ -9,8 +9,7 @@ use lib.Dec.{eqb}
 use lib.ListN.{length, take, drop}
 use Rattle.wire.specs.Answer.{got, refused, numberOf}
 use Rattle.wire.specs.Number.{Bytes}
-use Rattle.wire.proofs.Cases.{passed, then-passed}
-use Rattle.wire.proofs.Stands.{got-value, got-next}
+use Rattle.wire.proofs.Cases.{passed, then-passed, got-value, got-next}
 use Rattle.wire.proofs.Digits.{small-take, small-drop}
 use Rattle.lend.specs.Same.{same}
 use Rattle.frame.specs.Frame as F

@@ -6,8 +6,7 @@ use Prim.Native.Nat.{ℕ}
 use borrow.Author.Tests.{eq-eqb}
 use lib.ListN.{length}
 use Rattle.wire.specs.Answer.{Got, got, refused}
-use Rattle.wire.proofs.Stands.{got-value}
-use Rattle.wire.proofs.Cases.{not-got}
+use Rattle.wire.proofs.Cases.{not-got, got-value}
 use Rattle.lend.proofs.Sames.{same-refl}
 use Rattle.state.specs.State.{Book, empty}
 use Rattle.state.specs.Take.{Page, takePage, joinBook}

@@ -1,14 +1,13 @@
--- What `read` answers is fixed by its contract, and how a caller goes on from it. Assumes nothing.
+-- The answer of `read` says no more than 01, and how a caller goes on from it. Assumes nothing.
 use Prim.Native.Nat.{ℕ, _+_}
-use mathlib.Core.Path.{_≡_, refl, sym, ap, _∙_}
-use mathlib.Core.List.{List}
+use mathlib.Core.Path.{_≡_, refl, ap}
 use Rattle.wire.specs.Answer.{Got, refused, then, numberOf}
-use Rattle.wire.proofs.Stands.{got-value}
+use Rattle.wire.proofs.Branch.{go, stop}
+use Rattle.wire.proofs.Cases.{got-value}
 use Rattle.cover.specs.Cover as C
 use Rattle.cover.specs.Answer.{told}
 use Rattle.cover.specs.declared.CoverRead.{CoverRead}
 use Rattle.cover.specs.declared.CoverRead.the-variants.{Cover, Refused}
-use Rattle.cover.proofs.Chain.{go, stop}
 
 -- the enum says no more than 01's answer does
 pub told-injective : (r q : CoverRead) → told r ≡ told q → r ≡ q
@@ -22,10 +21,6 @@ told-injective (Cover m ml p pl) (Cover n nl q ql) e =
 told-injective (Cover m ml p pl) (Refused n) e = cc
 told-injective (Refused m) (Cover n nl q ql) e = cc
 told-injective (Refused m) (Refused n) e = cc
-
--- two answers that keep the contract of `read` are equal
-pub cover-once : (s : List ℕ) (r q : CoverRead) → told r ≡ C.coverAt s → told q ≡ C.coverAt s → r ≡ q
-cover-once s r q a b = told-injective r q (a ∙ sym b)
 
 -- for `search`: a cover in a chain
 module _ {B : Type 0} (g : Got C.Cover) (f : C.Cover → ℕ → Got B) where

@@ -8,7 +8,7 @@ use lib.Dec.{leb}
 use lib.ListN.{length}
 use Rattle.wire.specs.Answer.{Got, got, refused, then, numberOf}
 use Rattle.wire.specs.Number.{Bytes}
-use Rattle.wire.proofs.Branch.{branch}
+use Rattle.wire.proofs.Branch.{branch, go, stop}
 use Rattle.wire.proofs.Cases.{passed, then-passed}
 use Rattle.varint.specs.Answer as Varint
 use Rattle.varint.specs.Varint.{varintAt}
@@ -16,27 +16,11 @@ use Rattle.varint.specs.declared.VarintRead.{VarintRead}
 use Rattle.varint.specs.declared.VarintRead.the-variants.{Value}
 use Rattle.varint.proofs.Answers.{go-varint, no-varint}
 use Rattle.varint.proofs.Rounds.{read-stands}
+use Rattle.mark.proofs.Answers.{go-mark, no-mark}
 use Rattle.cover.specs.Cover.{Chunk, chunkAt}
-use Rattle.cover.specs.Parts.{stepOf, chunkTold}
-use Rattle.cover.specs.declared.part.Step.{Step}
-use Rattle.cover.specs.declared.part.Step.the-variants as S
-use Rattle.cover.specs.declared.part.ChunkRead.{ChunkRead}
-use Rattle.cover.specs.declared.part.ChunkRead.the-variants as K
-
--- one law for every answer enum E: `of` reads it as 01's answer, g is what the contract says, r what was answered
-module _ {A B E : Type 0} (of : E → Got A) (g : Got A) (f : A → ℕ → Got B) where
-  pub go : (r x : E) (y : Got B) → of r ≡ g → r ≡ x → y ≡ then (of x) f → y ≡ then g f
-  go r x y e k h = rw (← e, k) h
-
-  pub stop : (r x : E) (n e : ℕ) → of r ≡ g → r ≡ x → of x ≡ refused e → n ≡ numberOf (of r) → refused n ≡ then g f
-  stop r x n m e k w q = rw (q, ← e, k, w)
-
-module _ {B : Type 0} (g : Got Unit) (f : Unit → ℕ → Got B) where
-  pub go-step : (r : Step) (next : ℕ) (y : Got B) → stepOf r ≡ g → r ≡ S.At next → y ≡ f tt next → y ≡ then g f
-  go-step r next y = go stepOf g f r (S.At next) y
-
-  pub no-step : (r : Step) (n e : ℕ) → stepOf r ≡ g → r ≡ S.Refused e → n ≡ numberOf (stepOf r) → refused n ≡ then g f
-  no-step r n e h k q = stop stepOf g f r (S.Refused e) n e h k refl q
+use Rattle.cover.specs.Answer.{chunkTold}
+use Rattle.cover.specs.declared.ChunkRead.{ChunkRead}
+use Rattle.cover.specs.declared.ChunkRead.the-variants as K
 
 module _ {B : Type 0} (g : Got Chunk) (f : Chunk → ℕ → Got B) where
   pub go-chunk : (r : ChunkRead) (start len : ℕ) (y : Got B) → chunkTold r ≡ g → r ≡ K.Chunk start len
@@ -46,7 +30,7 @@ module _ {B : Type 0} (g : Got Chunk) (f : Chunk → ℕ → Got B) where
   pub no-chunk : (r : ChunkRead) (n e : ℕ) → chunkTold r ≡ g → r ≡ K.Refused e → n ≡ numberOf (chunkTold r) → refused n ≡ then g f
   no-chunk r n e h k q = stop chunkTold g f r (K.Refused e) n e h k refl q
 
-pub ruleset chain = (branch, go-varint, no-varint, go-step, no-step, go-chunk, no-chunk)
+pub ruleset chain = (branch, go-varint, no-varint, go-mark, no-mark, go-chunk, no-chunk)
 
 -- ---- a field that was read ends within the input
 
@@ -73,7 +57,7 @@ module _ (s : List ℕ) (at : ℕ) (r : VarintRead) (n next : ℕ) (y : Bytes s)
   length-read = sym e ∙ ap Varint.told k
 
   pub length-within : next ≤ length s
-  length-within = read-stands s at n next y length-read .within
+  length-within = read-stands s at n next y length-read .0 .within
 
   pub chunk-cut : length s - next < n → refused 3 ≡ chunkAt s at
   unfolding chunkAt

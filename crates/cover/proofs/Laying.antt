@@ -1,6 +1,6 @@
 -- How long a layout is, and that the writes of its fields in a row are one write of it. Assumes nothing.
 use Prim.Native.Nat.{ℕ, _+_, _<_, _≤_}
-use mathlib.Core.Path.{_≡_, refl, _∙_}
+use mathlib.Core.Path.{_≡_, refl}
 use mathlib.Core.List.{List, _++_}
 use native.Mathlib.Omega.{arith}
 use lib.ListN.{length, length-append}
@@ -9,29 +9,21 @@ use Rattle.wire.specs.Writing.{Written, bytes}
 use Rattle.wire.specs.declared.Wrote.{Wrote}
 use Rattle.wire.specs.declared.Wrote.the-variants.{Done, Refused}
 use Rattle.wire.proofs.Overs.{over-run}
-use Rattle.wire.proofs.Stands.{written-over}
-use Rattle.wire.proofs.Writes.{written, no-room}
+use Rattle.wire.proofs.Writes.{written, no-room, written-over}
 use Rattle.varint.specs.Varint.{varint}
-use Rattle.varint.proofs.Lengths.{varint-length-one}
+use Rattle.mark.specs.Mark.{marked}
+use Rattle.mark.proofs.Marks.{mark-length}
 use Rattle.cover.specs.Cover.{magic, chunkOf, coverOf}
 
 pub chunk-length : (bs : List ℕ) → length (chunkOf bs) ≡ length (varint (length bs)) + length bs
 unfolding chunkOf
 chunk-length bs = length-append (varint (length bs)) bs
 
--- two bytes of magic and one of version
-opening-length : length (magic ++ varint 1) ≡ 3
-opening-length = length-append magic (varint 1) ∙ rw (varint-length-one 1 (omega arith))
-
 pub cover-length : (m p : List ℕ) → length (coverOf m p) ≡ 3 + length (chunkOf m) + length (chunkOf p)
 unfolding coverOf
-cover-length m p = simp (length-append, varint-length-one 1 (omega arith))
+cover-length m p = simp (length-append, mark-length magic)
 
 -- ---- the writes
-
-pub opening-laid : (l x y : List ℕ) (r : Wrote) → 3 ≤ length l → x ≡ over 0 magic l → Written 2 (bytes (varint 1)) x y r → y ≡ over 0 (magic ++ varint 1) l
-opening-laid l x y r room ex w =
-    over-run 0 2 2 1 magic (varint 1) l x y (written-over 2 (varint 1) x y r w) (ex, refl) (varint-length-one 1 (omega arith)) refl (omega arith) .0
 
 -- k is how many bytes the length takes
 pub chunk-laid : (bs l x y : List ℕ) (at k : ℕ) (r : Wrote) → at + length (chunkOf bs) ≤ length l → Written at (bytes (varint (length bs))) l x r
@@ -44,15 +36,15 @@ chunk-laid bs l x y at k r room w e ey =
     (omega arith, t .0)
 
 module _ (m p l : List ℕ) where
-  pub cover-laid : length (coverOf m p) ≤ length l → (x y z : List ℕ) (a b : ℕ) → x ≡ over 0 (magic ++ varint 1) l
+  pub cover-laid : length (coverOf m p) ≤ length l → (x y z : List ℕ) (a b : ℕ) → x ≡ over 0 (marked magic) l
       → (a ≡ 3 + length (chunkOf m)) × (y ≡ over 3 (chunkOf m) x) → (b ≡ a + length (chunkOf p)) × (z ≡ over a (chunkOf p) y)
       → (b ≡ length (coverOf m p)) × (z ≡ over 0 (coverOf m p) l)
   unfolding coverOf
   cover-laid room x y z a b ex (ea, ey) (eb, ez) =
       let n = cover-length m p in
-      let t = over-run 0 3 3 (length (chunkOf m)) (magic ++ varint 1) (chunkOf m) l x y ey (ex, opening-length) refl refl (omega arith) in
+      let t = over-run 0 3 3 (length (chunkOf m)) (marked magic) (chunkOf m) l x y ey (ex, mark-length magic) refl refl (omega arith) in
       let u =
-      over-run 0 a (3 + length (chunkOf m)) (length (chunkOf p)) (magic ++ varint 1 ++ chunkOf m) (chunkOf p) l y z ez t refl (omega arith) (omega arith) in
+      over-run 0 a (3 + length (chunkOf m)) (length (chunkOf p)) (marked magic ++ chunkOf m) (chunkOf p) l y z ez t refl (omega arith) (omega arith) in
       (omega arith, u .0)
 
   -- i and j are how many bytes the lengths take

@@ -3,26 +3,21 @@ use Prim.Native.Nat.{ℕ, _+_, _^_, _<_}
 use mathlib.Core.Path.{_≡_, sym, ap, _∙_}
 use mathlib.Core.List.{List, [], _++_, append-assoc, append-nil}
 use native.Mathlib.Omega.{arith}
-use borrow.Author.Tests.{le-ltb, le-leb, eq-eqb}
+use borrow.Author.Tests.{le-leb, eq-eqb}
 use lib.ListN.{length, drop}
+use lib.Seq.{drop-at}
 use Rattle.wire.specs.Answer.{got}
-use Rattle.wire.proofs.Stands.{got-value, stands-next, stands-take, stands-left}
-use Rattle.lend.specs.Same.{same}
+use Rattle.wire.proofs.Cases.{got-value}
+use Rattle.wire.proofs.Standing.{stands-next, stands-take, stands-left}
 use Rattle.varint.specs.Varint.{varint}
-use Rattle.varint.proofs.Lengths.{varint-length, varint-length-one}
+use Rattle.varint.proofs.Lengths.{varint-length}
 use Rattle.varint.proofs.Rounds.{reads-at}
-use Rattle.cover.specs.Cover.{Cover, manifestOf, payloadOf, magic, magicOf, versionAt, chunkAt, coverAt, chunkOf, coverOf}
+use Rattle.mark.specs.Mark.{marked}
+use Rattle.mark.proofs.Marks.{mark-length, mark-reads}
+use Rattle.cover.specs.Cover.{Cover, manifestOf, payloadOf, magic, chunkAt, coverAt, chunkOf, coverOf}
 use Rattle.cover.proofs.Laying.{chunk-length, cover-length}
 
-magic-reads : (s rest : List ℕ) → s ≡ magic ++ rest → magicOf s ≡ got tt 2
-unfolding magicOf same
-magic-reads s rest e = rw (e, le-ltb (length (magic ++ rest)) 2 (omega arith))
-
 module _ (s : List ℕ) (at : ℕ) (rest : List ℕ) where
-  version-reads : drop at s ≡ varint 1 ++ rest → versionAt s at ≡ got tt (at + 1)
-  unfolding versionAt
-  version-reads h = rw (reads-at s rest at 1 (omega arith) h, varint-length-one 1 (omega arith))
-
   module _ (bs : List ℕ) (h : drop at s ≡ chunkOf bs ++ rest) where
     -- where the bytes of the chunk start
     abbrev start : ℕ
@@ -55,30 +50,28 @@ pub cover-back : (m p : List ℕ) → length m < 2 ^ 64 → length p < 2 ^ 64 �
 unfolding coverAt coverOf
 cover-back m p i j =
     let s : List ℕ = coverOf m p in
-    let h₀ : s ≡ magic ++ (varint 1 ++ (chunkOf m ++ (chunkOf p ++ []))) = simp (append-assoc, append-nil) in
-    let h₁ : drop 2 s ≡ varint 1 ++ (chunkOf m ++ (chunkOf p ++ [])) = ap (drop 2) h₀ in
-    let h₂ : drop 3 s ≡ chunkOf m ++ (chunkOf p ++ []) = rw (varint-length-one 1 (omega arith)) at (stands-next s 2 (varint 1) (chunkOf m ++ (chunkOf p ++ [])) h₁) in
-    let h₃ : drop (3 + length (chunkOf m)) s ≡ chunkOf p ++ [] = stands-next s 3 (chunkOf m) (chunkOf p ++ []) h₂ in
+    let h₀ : s ≡ marked magic ++ (chunkOf m ++ (chunkOf p ++ [])) = simp (append-assoc, append-nil) in
+    let h₁ : drop 3 s ≡ chunkOf m ++ (chunkOf p ++ []) = ap (drop 3) h₀ ∙ drop-at (marked magic) (chunkOf m ++ (chunkOf p ++ [])) 3 (mark-length magic) in
+    let h₂ : drop (3 + length (chunkOf m)) s ≡ chunkOf p ++ [] = stands-next s 3 (chunkOf m) (chunkOf p ++ []) h₁ in
     let n : length s ≡ 3 + length (chunkOf m) + length (chunkOf p) = cover-length m p in
     record {
       cover =
           record {
-            manifest = start s 3 (chunkOf p ++ []) m h₂;
+            manifest = start s 3 (chunkOf p ++ []) m h₁;
             manifest-len = length m;
-            payload = start s (3 + length (chunkOf m)) [] p h₃;
+            payload = start s (3 + length (chunkOf m)) [] p h₂;
             payload-len = length p;
           };
       read =
           rw (
-            magic-reads s _ h₀,
-            version-reads s 2 _ h₁,
-            chunk-reads s 3 (chunkOf p ++ []) m h₂ i,
-            chunk-reads s (3 + length (chunkOf m)) [] p h₃ j,
+            mark-reads magic s _ h₀,
+            chunk-reads s 3 (chunkOf p ++ []) m h₁ i,
+            chunk-reads s (3 + length (chunkOf m)) [] p h₂ j,
             eq-eqb (3 + length (chunkOf m) + length (chunkOf p)) (length s) (sym n),
             n,
           );
-      manifest-is = stands-take s (start s 3 (chunkOf p ++ []) m h₂) m (chunkOf p ++ []) (held s 3 (chunkOf p ++ []) m h₂);
-      payload-is = stands-take s (start s (3 + length (chunkOf m)) [] p h₃) p [] (held s (3 + length (chunkOf m)) [] p h₃);
+      manifest-is = stands-take s (start s 3 (chunkOf p ++ []) m h₁) m (chunkOf p ++ []) (held s 3 (chunkOf p ++ []) m h₁);
+      payload-is = stands-take s (start s (3 + length (chunkOf m)) [] p h₂) p [] (held s (3 + length (chunkOf m)) [] p h₂);
     }
 
 -- the bytes of a cover say its parts

@@ -1,11 +1,18 @@
--- What `read` answers, as document 01's number and values.
+-- What the readers answer, as document 01's number and values.
 use Prim.Native.Nat.{_+_}
 use Rattle.wire.specs.Answer.{Got, got, refused}
 use Rattle.cover.specs.Cover as C
 use Rattle.cover.specs.declared.CoverRead.{CoverRead}
 use Rattle.cover.specs.declared.CoverRead.the-variants.{Cover, Refused}
+use Rattle.cover.specs.declared.ChunkRead.{ChunkRead}
+use Rattle.cover.specs.declared.ChunkRead.the-variants as K
 
 -- the two parts and the position past the payload, or the number of a refusal
 abbrev pub told : CoverRead → Got C.Cover
 told (Cover m ml p pl) = got (record { manifest = m; manifest-len = ml; payload = p; payload-len = pl }) (p + pl)
 told (Refused e) = refused e
+
+-- for the contract of a private function: where the bytes of a length stand, and the position past them
+abbrev pub chunkTold : ChunkRead → Got C.Chunk
+chunkTold (K.Chunk start len) = got (record { start = start; len = len }) (start + len)
+chunkTold (K.Refused e) = refused e

@@ -1,11 +1,11 @@
 -- The outer layout of an envelope, read and laid out: document 01, "CBOR payloads", the paragraph on the envelope; source document 002, section 2.
 use Prim.Native.Nat.{ℕ, _+_}
 use mathlib.Core.List.{List, [], _∷_, _++_}
-use lib.Dec.{ltb, leb, eqb}
+use lib.Dec.{leb, eqb}
 use lib.ListN.{length, take, drop}
 use Rattle.wire.specs.Answer.{choose, Got, got, refused, then}
-use Rattle.lend.specs.Same.{same}
 use Rattle.varint.specs.Varint.{varint, varintAt}
+use Rattle.mark.specs.Mark.{markOf, marked}
 
 -- what is read of an envelope: where its manifest and its payload stand in the input, and how many bytes each has
 pub record Cover : Type 0 where
@@ -23,16 +23,9 @@ payloadOf s c = take (c .payload-len) (drop (c .payload) s)
 
 -- ---- the fields, left to right: each is judged once it is whole
 
--- version 1, else 5
-unfoldable pub versionAt : List ℕ → ℕ → Got Unit
-versionAt s at = then (varintAt s at) (λ version next. choose (eqb version 1) (got tt next) (refused 5))
-
--- `41 59`, else 4
+-- `41 59`, and the version behind it
 abbrev pub magic : List ℕ
 magic = 0x41 ∷ 0x59 ∷ []
-
-unfoldable pub magicOf : List ℕ → Got Unit
-magicOf s = choose (ltb (length s) 2) (refused 3) (choose (same (take 2 s) magic) (got tt 2) (refused 4))
 
 -- a length and that many bytes: where they start and how many they are
 pub record Chunk : Type 0 where
@@ -46,13 +39,12 @@ chunkAt s at =
 -- the first fault decides: magic, version, manifest length, manifest, payload length, payload, no more
 unfoldable pub coverAt : List ℕ → Got Cover
 coverAt s =
-    then (magicOf s) (λ _ a.
-    then (versionAt s a) (λ _ b.
-    then (chunkAt s b) (λ m c.
-    then (chunkAt s c) (λ p d.
-    choose (eqb d (length s))
-    (got (record { manifest = m .start; manifest-len = m .len; payload = p .start; payload-len = p .len }) d)
-    (refused 3)))))
+    then (markOf magic s) (λ _ a.
+    then (chunkAt s a) (λ m b.
+    then (chunkAt s b) (λ p c.
+    choose (eqb c (length s))
+    (got (record { manifest = m .start; manifest-len = m .len; payload = p .start; payload-len = p .len }) c)
+    (refused 3))))
 
 -- ---- the same, laid out
 
@@ -60,4 +52,4 @@ unfoldable pub chunkOf : List ℕ → List ℕ
 chunkOf bs = varint (length bs) ++ bs
 
 unfoldable pub coverOf : List ℕ → List ℕ → List ℕ
-coverOf manifest payload = magic ++ varint 1 ++ chunkOf manifest ++ chunkOf payload
+coverOf manifest payload = marked magic ++ chunkOf manifest ++ chunkOf payload

@@ -1,3 +1,2 @@
 pub mod Cover
 pub mod Answer
-pub mod Parts

@@ -1,24 +1,14 @@
 // The layout of an envelope, judged for room and then written.
 ghost use mathlib.Core.Path.{_≡_};
 ghost use Prim.Native.Nat.{_+_, _≤_};
-ghost use mathlib.Core.List.{_++_};
 ghost use lib.ListN.{length};
 ghost use Rattle.wire.specs.Over.{over};
 ghost use Rattle.wire.specs.Writing.{Written, bytes};
-ghost use Rattle.varint.specs.Varint.{varint};
-ghost use Rattle.cover.specs.Cover.{magic, chunkOf, coverOf};
+ghost use Rattle.cover.specs.Cover.{chunkOf, coverOf};
 use wire::Wrote;
 
 // Two bytes of magic and one of version.
 const OPENING: usize = 3;
-
-fn opening(out: &mut [u8])
-    requires { ⌜ 3 ≤ length (now out) ⌝ }
-    ensures { λ _. ⌜ now (out .exit) ≡ over 0 (magic ++ varint 1) (now (out .entry)) ⌝ }
-{
-    lend::copy(out, 0, b"AY");
-    varint::write(1, out, 2);
-}
 
 // The length of bs and bs at index at; the answer is the index past them.
 fn chunk(bs: &[u8], out: &mut [u8], at: usize) -> usize
@@ -36,7 +26,7 @@ fn lay_fitting(manifest: &[u8], payload: &[u8], out: &mut [u8]) -> usize
     requires { ⌜ length (coverOf (now manifest) (now payload)) ≤ length (now out) ⌝ }
     ensures { λ r. ⌜ (r ≡ length (coverOf (now (manifest .entry)) (now (payload .entry)))) × (now (out .exit) ≡ over 0 (coverOf (now (manifest .entry)) (now (payload .entry))) (now (out .entry))) ⌝ }
 {
-    opening(out);
+    mark::lay(b"AY", out);
     let next = chunk(manifest, out, OPENING);
     chunk(payload, out, next)
 }

@@ -1,14 +1,13 @@
 // The outer layout of an envelope, read and laid out: document 01, "CBOR payloads". What its two parts hold is judged by the crate envelope.
 mod form;
-mod part;
 
 ghost use mathlib.Core.Path.{_≡_};
 ghost use Rattle.wire.specs.Answer.{numberOf};
 ghost use Rattle.wire.specs.Writing.{Written, bytes};
-ghost use Rattle.cover.specs.Cover.{coverAt, coverOf};
-ghost use Rattle.cover.specs.Answer.{told};
-use part::ChunkRead;
-use part::Step;
+ghost use Rattle.cover.specs.Cover.{chunkAt, coverAt, coverOf};
+ghost use Rattle.cover.specs.Answer.{told, chunkTold};
+use mark::MarkRead;
+use varint::VarintRead;
 use wire::Wrote;
 
 pub enum CoverRead {
@@ -40,41 +39,67 @@ pub fn cover_no(r: CoverRead) -> u8
     }
 }
 
-// The two parts of s, all of s.
+// A length, and where its bytes start.
+enum ChunkRead {
+    Chunk { start: usize, len: usize },
+    Refused { no: u8 },
+}
+
+fn chunk_no(r: ChunkRead) -> u8
+    ensures { λ n. ⌜ n ≡ numberOf (chunkTold r) ⌝ }
+{
+    match r {
+        ChunkRead::Chunk { start: _, len: _ } => 0,
+        ChunkRead::Refused { no } => no,
+    }
+}
+
+// A length and that many bytes. A length near 2^64 is compared, and never added to.
+fn chunk(s: &[u8], at: usize) -> ChunkRead
+    ensures { λ r. ⌜ chunkTold r ≡ chunkAt (now (s .entry)) at ⌝ }
+{
+    let r = varint::read(s, at);
+    let VarintRead::Value { n, next } = r else {
+        return ChunkRead::Refused {
+            no: varint::varint_no(r),
+        };
+    };
+    if ((s.len() - next) as u64) < n {
+        return ChunkRead::Refused {
+            no: wire::CUT_OR_LEFT_OVER,
+        };
+    }
+    ChunkRead::Chunk {
+        start: next,
+        len: n as usize,
+    }
+}
+
+// The two parts of s, all of s. Its fields are read from left to right, and the first fault decides.
 pub fn read(s: &[u8]) -> CoverRead
     ensures { λ r. ⌜ told r ≡ coverAt (now (s .entry)) ⌝ }
 {
-    let r1 = part::magic(s);
-    let Step::At { next: a } = r1 else {
+    let r1 = mark::read(b"AY", s);
+    let MarkRead::Past { next } = r1 else {
         return CoverRead::Refused {
-            no: part::step_no(r1),
+            no: mark::mark_no(r1),
         };
     };
-    let r2 = part::version(s, a);
-    let Step::At { next: b } = r2 else {
-        return CoverRead::Refused {
-            no: part::step_no(r2),
-        };
-    };
-    let r3 = part::chunk(s, b);
+    let r2 = chunk(s, next);
     let ChunkRead::Chunk {
         start: manifest,
         len: manifest_len,
-    } = r3
+    } = r2
     else {
-        return CoverRead::Refused {
-            no: part::chunk_no(r3),
-        };
+        return CoverRead::Refused { no: chunk_no(r2) };
     };
-    let r4 = part::chunk(s, manifest + manifest_len);
+    let r3 = chunk(s, manifest + manifest_len);
     let ChunkRead::Chunk {
         start: payload,
         len: payload_len,
-    } = r4
+    } = r3
     else {
-        return CoverRead::Refused {
-            no: part::chunk_no(r4),
-        };
+        return CoverRead::Refused { no: chunk_no(r3) };
     };
     if payload + payload_len != s.len() {
         return CoverRead::Refused {

@@ -1,5 +1,6 @@
 // CRC-32/ISO-HDLC: the checksum of a frame and of a block of the collection.
 ghost use mathlib.Core.Path.{_≡_};
+ghost use Rattle.wire.specs.Number.{bigEndian};
 ghost use Rattle.crc.specs.Crc as C;
 
 // One bit leaves the register; where it is set, the polynomial comes in.
@@ -30,4 +31,22 @@ pub fn crc32(s: &[u8]) -> u32
         i += 1;
     }
     c ^ 0xFFFFFFFF
+}
+
+fn big_endian(n: u32) -> [u8; 4]
+    ensures { λ r. ⌜ r ≡ bigEndian 4 n ⌝ }
+{
+    [
+        (n >> 24) as u8,
+        ((n >> 16) % 256) as u8,
+        ((n >> 8) % 256) as u8,
+        (n % 256) as u8,
+    ]
+}
+
+// The checksum of all of s as a frame and a block hold it: four bytes, the highest first.
+pub fn sum(s: &[u8]) -> [u8; 4]
+    ensures { λ r. ⌜ r ≡ bigEndian 4 (C.crc32 (now (s .entry))) ⌝ }
+{
+    big_endian(crc32(s))
 }

@@ -2,7 +2,8 @@
 use Prim.Native.Nat.{ℕ}
 use mathlib.Core.Path.{_≡_, refl}
 use Rattle.wire.specs.Answer.{Got, refused, then, numberOf}
-use Rattle.cbor.proofs.Answers.{go, stop, chain}
+use Rattle.wire.proofs.Branch.{go, stop}
+use Rattle.cbor.proofs.Answers.{chain}
 use Rattle.entry.specs.Answer.{fileTold}
 use Rattle.entry.specs.Parts.{mtimeTold}
 use Rattle.entry.specs.declared.Mtime.{Mtime}

@@ -8,6 +8,7 @@ use lib.ListN.{length, take, drop}
 use mir.Syntax.{w64}
 use mir.Val.{Fits}
 use Rattle.wire.specs.Answer.{got, refused}
+use Rattle.wire.proofs.Cases.{said-no, said-yes}
 use Rattle.path.specs.Order.{below}
 use Rattle.path.specs.Path.{pathAllowed}
 use Rattle.cbor.specs.Item.{stringFieldAt}
@@ -18,7 +19,6 @@ use Rattle.cbor.specs.declared.StringRead.the-variants.{Value}
 use Rattle.cbor.proofs.Answers.{as-told}
 use Rattle.cbor.proofs.Within.{string-field-within}
 use Rattle.entry.specs.File.{pathAt}
-use Rattle.entry.proofs.Verdicts.{said-no, said-yes}
 
 module _ (s : List ℕ) (at : ℕ) (start len next : ℕ) (r : StringRead) (e : stringTold r ≡ stringFieldAt s at pathKey 3 1 200 20) (k : r ≡ Value start len next) where
   there : stringFieldAt s at pathKey 3 1 200 20 ≡ got (record { start = start; len = len }) next

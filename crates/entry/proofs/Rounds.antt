@@ -10,6 +10,7 @@ use lib.ListN.{length}
 use Rattle.wire.specs.Answer.{choose, Got, got, then}
 use Rattle.wire.specs.Number.{Bytes, bigEndian}
 use Rattle.wire.proofs.Cases.{passed, then-passed}
+use Rattle.wire.proofs.Standing.{Stands, stands-first, stands-second, stands-join, stands-as}
 use Rattle.path.specs.Order.{below}
 use Rattle.path.specs.Path.{pathAllowed}
 use Rattle.path.proofs.Paths.{allowed-length}
@@ -17,7 +18,6 @@ use Rattle.cbor.specs.Form.{infoOf, widthOf, headOf, stringOf, stringFieldOf, n
 use Rattle.cbor.specs.Item.{byteAt, oneAt, kindOf, Head, headAt, Place, partAt, keyAt, stringFieldAt, numberFieldAt}
 use Rattle.cbor.specs.Names.{hashKey, pathKey, sizeKey, mtimeKey}
 use Rattle.cbor.proofs.Sizes.{info-most, either}
-use Rattle.cbor.proofs.Standing.{Stands, stands-first, stands-second, stands-join, stands-as}
 use Rattle.cbor.proofs.Within.{string-field-within, number-field-within}
 use Rattle.cbor.proofs.Written.{kind-bytes, kind-text, byte-back, one-back, head-back, key-back, string-field-back, number-field-back}
 use Rattle.cbor.proofs.Only.{byte-only, one-only, head-only, key-only, string-field-only, number-field-only}

@@ -12,7 +12,7 @@ use Rattle.wire.specs.Answer.{choose}
 use Rattle.wire.specs.Writing.{Verdict, bytes, fault, wrote, failed, told, outcome}
 use Rattle.wire.specs.declared.Wrote.{Wrote}
 use Rattle.wire.specs.declared.Wrote.the-variants.{Done, Refused}
-use Rattle.wire.proofs.Cases.{both-hold}
+use Rattle.wire.proofs.Cases.{both-hold, said-no, said-yes}
 use Rattle.wire.proofs.Overs.{over-none, over-out}
 use Rattle.wire.proofs.Writes.{passed, bytes-injective}
 use Rattle.path.specs.Order.{below}
@@ -29,7 +29,6 @@ use Rattle.entry.specs.declared.Part.{Part}
 use Rattle.entry.specs.declared.Mtime.{Mtime}
 use Rattle.entry.specs.declared.Mtime.the-variants.{Null, Integer}
 use Rattle.entry.specs.declared.File.{File}
-use Rattle.entry.proofs.Verdicts.{said-no, said-yes}
 use Rattle.entry.proofs.Sizes.{part-length, file-length, file-most}
 
 -- ---- `part`

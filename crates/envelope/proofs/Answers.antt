@@ -104,10 +104,6 @@ wrote-injective (W.Done m) (W.Refused n k) e = cc
 wrote-injective (W.Refused n k) (W.Done m) e = cc
 wrote-injective (W.Refused m j) (W.Refused n k) e = cc
 
--- two answers that keep the contract of `read` are equal
-pub envelope-once : (s : List ℕ) (r q : EnvelopeRead) → readTold r ≡ envelopeAt s → readTold q ≡ envelopeAt s → r ≡ q
-envelope-once s r q a b = read-injective r q (a ∙ sym b)
-
 -- the writer's promise fixes its answer and every byte of its output
 pub written-once : {v : Placed (List ℕ)} {out x y : List ℕ} {r q : EnvelopeWrote} → EnvelopeWritten v out x r → EnvelopeWritten v out y q → (r ≡ q) × (x ≡ y)
 written-once {r = r} {q = q} a b = (wrote-injective r q (a .answer ∙ sym (b .answer)), a .output ∙ sym (b .output))

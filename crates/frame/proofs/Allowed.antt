@@ -1,27 +1,14 @@
--- The parts that 01's rules allow a frame, and the tests of the reader that say so. Assumes nothing.
+-- The tests of the reader say which parts 01's rules allow a frame. Assumes nothing.
 use Prim.Native.Nat.{ℕ, _<_, _≤_}
 use mathlib.Core.Path.{_≡_, refl}
 use mathlib.Core.Logic.{_⊎_, inl, inr}
 use mathlib.Core.Bool.{Bool, true, false}
-use mathlib.Core.List.{List}
 use native.Mathlib.Omega.{arith}
 use borrow.Author.Tests.{le-ltb, lt-ltb, le-leb, lt-leb, eq-eqb, ne-eqb, ltb-false, leb-true, leb-false, eqb-true, eqb-false}
 use lib.Dec.{ltb, leb, eqb}
-use lib.ListN.{length}
 use Rattle.wire.specs.Answer.{choose}
+use Rattle.frame.specs.Allowed.{Kind}
 use Rattle.frame.specs.Frame.{known, inPlace, inSize}
-
--- a main, a key or an auth frame
-abbrev pub Kind : ℕ → Type 0
-Kind kind = (kind ≡ 0x44) ⊎ ((kind ≡ 0x4B) ⊎ (kind ≡ 0x41))
-
-pub record Allowed (kind : ℕ) (id : List ℕ) (index total : ℕ) (contents : List ℕ) : Type 0 where
-  pub type : Kind kind
-  pub eight : length id ≡ 8
-  pub below : index < total
-  pub pages : total ≤ 96
-  pub single : (kind ≡ 0x44) ⊎ (total ≡ 1)
-  pub short : length contents ≤ 480
 
 pub known-yes : (kind : ℕ) → Kind kind → known kind ≡ true
 unfolding known

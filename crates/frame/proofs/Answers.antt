@@ -1,12 +1,10 @@
--- What `read` answers is fixed by its contract. Assumes nothing.
-use mathlib.Core.Path.{_≡_, sym, ap, _∙_}
-use mathlib.Core.List.{List}
-use Prim.Native.Nat.{ℕ}
+-- The answer of `read` says no more than 01. Assumes nothing.
+use mathlib.Core.Path.{_≡_, ap}
+use Rattle.wire.proofs.Cases.{got-value}
 use Rattle.frame.specs.Frame as F
 use Rattle.frame.specs.Answer.{told}
 use Rattle.frame.specs.declared.FrameRead.{FrameRead}
 use Rattle.frame.specs.declared.FrameRead.the-variants.{Frame, Refused}
-use Rattle.wire.proofs.Stands.{got-value}
 
 -- the enum says no more than 01's answer does
 pub told-injective : (r q : FrameRead) → told r ≡ told q → r ≡ q
@@ -21,7 +19,3 @@ told-injective (Frame k i t a l) (Frame k' i' t' a' l') e =
 told-injective (Frame k i t a l) (Refused n) e = cc
 told-injective (Refused m) (Frame k i t a l) e = cc
 told-injective (Refused m) (Refused n) e = cc
-
--- two answers that keep the contract of `read` are equal
-pub read-once : (s : List ℕ) (r q : FrameRead) → told r ≡ F.frameOf s → told q ≡ F.frameOf s → r ≡ q
-read-once s r q a b = told-injective r q (a ∙ sym b)

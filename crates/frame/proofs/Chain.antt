@@ -2,8 +2,9 @@
 use Prim.Native.Nat.{ℕ}
 use mathlib.Core.Path.{_≡_, refl}
 use Rattle.wire.specs.Answer.{Got, refused, then, numberOf}
-use Rattle.wire.proofs.Branch.{branch}
+use Rattle.wire.proofs.Branch.{branch, go, stop}
 use Rattle.varint.proofs.Answers.{go-varint, no-varint}
+use Rattle.mark.proofs.Answers.{go-mark, no-mark}
 use Rattle.frame.specs.Frame.{Numbers}
 use Rattle.frame.specs.Parts.{stepOf, kindOf, numbersOf}
 use Rattle.frame.specs.declared.part.Step.{Step}
@@ -12,14 +13,6 @@ use Rattle.frame.specs.declared.part.KindRead.{KindRead}
 use Rattle.frame.specs.declared.part.KindRead.the-variants as K
 use Rattle.frame.specs.declared.part.NumbersRead.{NumbersRead}
 use Rattle.frame.specs.declared.part.NumbersRead.the-variants as N
-
--- one law for every answer enum E: `of` reads it as 01's answer, g is what the contract says, r what was answered
-module _ {A B E : Type 0} (of : E → Got A) (g : Got A) (f : A → ℕ → Got B) where
-  go : (r x : E) (y : Got B) → of r ≡ g → r ≡ x → y ≡ then (of x) f → y ≡ then g f
-  go r x y e k h = rw (← e, k) h
-
-  stop : (r x : E) (n e : ℕ) → of r ≡ g → r ≡ x → of x ≡ refused e → n ≡ numberOf (of r) → refused n ≡ then g f
-  stop r x n m e k w q = rw (q, ← e, k, w)
 
 module _ {B : Type 0} (g : Got Unit) (f : Unit → ℕ → Got B) where
   pub go-step : (r : Step) (next : ℕ) (y : Got B) → stepOf r ≡ g → r ≡ S.At next → y ≡ f tt next → y ≡ then g f
@@ -43,4 +36,4 @@ module _ {B : Type 0} (g : Got Numbers) (f : Numbers → ℕ → Got B) where
   pub no-numbers : (r : NumbersRead) (n e : ℕ) → numbersOf r ≡ g → r ≡ N.Refused e → n ≡ numberOf (numbersOf r) → refused n ≡ then g f
   no-numbers r n e h k q = stop numbersOf g f r (N.Refused e) n e h k refl q
 
-pub ruleset chain = (branch, go-varint, no-varint, go-step, no-step, go-kind, no-kind, go-numbers, no-numbers)
+pub ruleset chain = (branch, go-varint, no-varint, go-mark, no-mark, go-step, no-step, go-kind, no-kind, go-numbers, no-numbers)

@@ -3,7 +3,7 @@ use Prim.Native.Nat.{ℕ, _+_, _<_, _≤_}
 use mathlib.Core.Path.{_≡_, refl, sym, _∙_}
 use mathlib.Core.List.{List, [], _∷_, _++_}
 use native.Mathlib.Omega.{arith}
-use lib.ListN.{length, take, length-append}
+use lib.ListN.{length, take}
 use Rattle.wire.specs.Number.{bigEndian}
 use Rattle.wire.specs.Over.{over}
 use Rattle.wire.specs.Writing.{Written, bytes}
@@ -12,26 +12,20 @@ use Rattle.wire.proofs.Digits.{length-digits}
 use Rattle.wire.proofs.Overs.{over-run, over-append, read-over}
 use Rattle.wire.proofs.Writes.{written, no-room}
 use Rattle.varint.specs.Varint.{varint}
-use Rattle.varint.proofs.Lengths.{varint-length-one}
+use Rattle.mark.specs.Mark.{marked}
+use Rattle.mark.proofs.Marks.{mark-length}
 use Rattle.crc.specs.Crc.{crc32}
 use Rattle.frame.specs.Frame.{magic}
 use Rattle.frame.specs.Layout.{start, numbers, body, layout}
 use Rattle.frame.proofs.Lengths.{start-length, numbers-length, body-length, layout-length}
 
--- magic and version
-pub opening-laid : (l x y : List ℕ) → 3 ≤ length l → x ≡ over 0 magic l → y ≡ over 2 (varint 1) x → y ≡ over 0 (magic ++ varint 1) l
-opening-laid l x y room ex ey =
-    let v = varint-length-one 1 (omega arith) in
-    over-run 0 2 2 1 magic (varint 1) l x y ey (ex, refl) v refl (omega arith) .0
-
--- type and id
+-- magic and version, type and id
 pub start-laid : (kind : ℕ) (id l x y z : List ℕ) → length id ≡ 8 → 12 ≤ length l
-    → x ≡ over 0 (magic ++ varint 1) l → y ≡ over 3 (kind ∷ []) x → z ≡ over 4 id y → z ≡ over 0 (start kind id) l
+    → x ≡ over 0 (marked magic) l → y ≡ over 3 (kind ∷ []) x → z ≡ over 4 id y → z ≡ over 0 (start kind id) l
 unfolding start
 start-laid kind id l x y z eight room ex ey ez =
-    let v = varint-length-one 1 (omega arith) in
-    let t = over-run 0 3 3 1 (magic ++ varint 1) (kind ∷ []) l x y ey (ex, length-append magic (varint 1) ∙ rw v) refl refl (omega arith) in
-    over-run 0 4 4 8 (magic ++ varint 1 ++ (kind ∷ [])) id l y z ez t eight refl (omega arith) .0
+    let t = over-run 0 3 3 1 (marked magic) (kind ∷ []) l x y ey (ex, mark-length magic) refl refl (omega arith) in
+    over-run 0 4 4 8 (marked magic ++ (kind ∷ [])) id l y z ez t eight refl (omega arith) .0
 
 -- the varints, each where the one before it ended
 pub numbers-laid : (index total len at : ℕ) (l x y z : List ℕ) (a b n : ℕ) → at + length (numbers index total len) ≤ length l

@@ -7,12 +7,14 @@ use lib.ListN.{length, length-append}
 use Rattle.wire.proofs.Digits.{length-digits}
 use Rattle.varint.specs.Varint.{varint, sevens}
 use Rattle.varint.proofs.Lengths.{varint-length, varint-length-one}
+use Rattle.mark.proofs.Marks.{mark-length}
+use Rattle.frame.specs.Frame.{magic}
 use Rattle.frame.specs.Layout.{start, numbers, body, layout}
 
--- 2 of magic, one each of version and type, 8 of id
+-- 3 of magic and version, one of type, 8 of id
 pub start-length : (kind : ℕ) (id : List ℕ) → length id ≡ 8 → length (start kind id) ≡ 12
 unfolding start
-start-length kind id h = simp (length-append, varint-length-one 1 (omega arith), h)
+start-length kind id h = simp (length-append, mark-length magic, h)
 
 pub numbers-length : (index total len : ℕ) → length (numbers index total len) ≡ length (varint index) + length (varint total) + length (varint len)
 unfolding numbers

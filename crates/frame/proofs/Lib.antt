@@ -1,7 +1,6 @@
 pub mod Chain
 pub mod Answers
 pub mod Within
-pub mod Digest
 pub mod Lengths
 pub mod Range
 pub mod Laying

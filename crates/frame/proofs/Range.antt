@@ -4,22 +4,23 @@ use mathlib.Core.List.{List, [], _∷_, _++_}
 use native.Mathlib.Omega.{arith}
 use lib.ListN.{length}
 use Rattle.wire.specs.Number.{bigEndian, Bytes}
-use Rattle.wire.proofs.Digits.{digits-small}
+use Rattle.wire.proofs.Digits.{digits-small, bytes-none, bytes-cons, bytes-append}
 use Rattle.varint.specs.Varint.{varint}
 use Rattle.varint.proofs.Sevens.{varint-bytes}
+use Rattle.mark.specs.Mark.{marked}
+use Rattle.mark.proofs.Marks.{mark-bytes}
 use Rattle.crc.specs.Crc.{crc32}
 use Rattle.frame.specs.Frame.{magic}
 use Rattle.frame.specs.Layout.{start, numbers, body, layout}
-use Rattle.wire.proofs.Stands.{bytes-none, bytes-cons, bytes-append}
 
 module _ (kind : ℕ) (id : List ℕ) (index total : ℕ) (contents : List ℕ) (k : kind < 256) (d : Bytes id) (i : index < 2 ^ 64) (t : total < 2 ^ 64)
     (l : length contents < 2 ^ 64) (c : Bytes contents) where
   start-bytes : Bytes (start kind id)
   unfolding start
   start-bytes =
-      bytes-append (magic ++ varint 1 ++ (kind ∷ [])) id
-      (bytes-append (magic ++ varint 1) (kind ∷ [])
-      (bytes-append magic (varint 1) (bytes-cons 0x41 (0x50 ∷ []) (omega arith) (bytes-cons 0x50 [] (omega arith) bytes-none)) (varint-bytes 1 (omega arith)))
+      bytes-append (marked magic ++ (kind ∷ [])) id
+      (bytes-append (marked magic) (kind ∷ [])
+      (mark-bytes magic (bytes-cons 0x41 (0x50 ∷ []) (omega arith) (bytes-cons 0x50 [] (omega arith) bytes-none)))
       (bytes-cons kind [] k bytes-none)) d
 
   numbers-bytes : Bytes (numbers index total (length contents))

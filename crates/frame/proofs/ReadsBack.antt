@@ -11,28 +11,22 @@ use lib.Seq.{take-at, drop-at}
 use Rattle.wire.specs.Answer.{choose, got, refused}
 use Rattle.wire.specs.Number.{bigEndian}
 use Rattle.wire.proofs.Digits.{length-digits}
-use Rattle.lend.specs.Same.{same}
+use Rattle.wire.proofs.Cases.{got-value}
+use Rattle.wire.proofs.Standing.{stands-next, stands-take, stands-left, stands-head}
 use Rattle.lend.proofs.Sames.{same-refl}
 use Rattle.varint.specs.Varint.{varint}
-use Rattle.varint.proofs.Lengths.{varint-length-one}
 use Rattle.varint.proofs.Rounds.{reads-at}
+use Rattle.mark.specs.Mark.{marked}
+use Rattle.mark.proofs.Marks.{mark-length, mark-reads}
 use Rattle.crc.specs.Crc.{crc32}
-use Rattle.frame.specs.Frame.{Frame, magic, magicOf, versionAt, known, kindAt, idAt, startOf, numbersAt, dataAt, inPlace, inSize, judged, frameOf, idOf, dataOf}
+use Rattle.frame.specs.Frame.{Frame, magic, known, kindAt, idAt, startOf, numbersAt, dataAt, inPlace, inSize, judged, frameOf, idOf, dataOf}
 use Rattle.frame.specs.Layout.{start, numbers, body, layout}
-use Rattle.wire.proofs.Stands.{got-value, stands-next, stands-take, stands-left, stands-head}
 use Rattle.frame.proofs.Lengths.{start-length, body-length, layout-length}
-use Rattle.frame.proofs.Allowed.{Kind, Allowed, known-yes, place-yes, place-past, place-several, size-yes, size-pages, size-data}
+use Rattle.frame.specs.Allowed.{Kind, Allowed}
+use Rattle.frame.proofs.Allowed.{known-yes, place-yes, place-past, place-several, size-yes, size-pages, size-data}
 use Rattle.frame.proofs.Within.{data-stands}
 
-magic-reads : (s rest : List ℕ) → s ≡ magic ++ rest → magicOf s ≡ got tt 2
-unfolding magicOf same
-magic-reads s rest e = rw (e, le-ltb (length (magic ++ rest)) 2 (omega arith))
-
 module _ (s : List ℕ) (at : ℕ) (rest : List ℕ) where
-  version-reads : drop at s ≡ varint 1 ++ rest → versionAt s at ≡ got tt (at + 1)
-  unfolding versionAt
-  version-reads h = rw (reads-at s rest at 1 (omega arith) h, varint-length-one 1 (omega arith))
-
   kind-reads : (kind : ℕ) → known kind ≡ true → drop at s ≡ kind ∷ rest → kindAt s at ≡ got kind (at + 1)
   unfolding kindAt
   kind-reads kind k h =
@@ -55,11 +49,10 @@ module _ (s : List ℕ) (at : ℕ) (rest : List ℕ) where
 start-reads : (kind : ℕ) (id s rest : List ℕ) → known kind ≡ true → length id ≡ 8 → s ≡ start kind id ++ rest → startOf s ≡ got kind 12
 unfolding startOf start
 start-reads kind id s rest k e h =
-    let h₀ : s ≡ magic ++ (varint 1 ++ (kind ∷ (id ++ rest))) = h ∙ simp append-assoc in
-    let h₁ : drop 2 s ≡ varint 1 ++ (kind ∷ (id ++ rest)) = ap (drop 2) h₀ in
-    let h₂ : drop 3 s ≡ kind ∷ (id ++ rest) = rw (varint-length-one 1 (omega arith)) at (stands-next s 2 (varint 1) (kind ∷ (id ++ rest)) h₁) in
-    let h₃ : drop 4 s ≡ id ++ rest = stands-next s 3 (kind ∷ []) (id ++ rest) h₂ in
-    rw (magic-reads s _ h₀, version-reads s 2 _ h₁, kind-reads s 3 _ kind k h₂, id-reads s 4 rest id e h₃)
+    let h₀ : s ≡ marked magic ++ (kind ∷ (id ++ rest)) = h ∙ simp append-assoc in
+    let h₁ : drop 3 s ≡ kind ∷ (id ++ rest) = ap (drop 3) h₀ ∙ drop-at (marked magic) (kind ∷ (id ++ rest)) 3 (mark-length magic) in
+    let h₂ : drop 4 s ≡ id ++ rest = stands-next s 3 (kind ∷ []) (id ++ rest) h₁ in
+    rw (mark-reads magic s _ h₀, kind-reads s 3 _ kind k h₁, id-reads s 4 rest id e h₂)
 
 data-reads : (s : List ℕ) (at : ℕ) (contents : List ℕ) → drop at s ≡ contents ++ bigEndian 4 (crc32 (take (at + length contents) s))
     → dataAt s at (length contents) ≡ got tt (at + length contents + 4)
@@ -83,9 +76,9 @@ framed kind index total contents =
 start-id : (kind : ℕ) (id rest : List ℕ) → length id ≡ 8 → idOf (start kind id ++ rest) ≡ id
 unfolding start
 start-id kind id rest e =
-    let four : length (magic ++ varint 1 ++ (kind ∷ [])) ≡ 4 = simp (length-append, varint-length-one 1 (omega arith)) in
-    ap (λ (l : List ℕ). take 8 (drop 4 l)) (append-assoc (magic ++ varint 1 ++ (kind ∷ [])) id rest)
-    ∙ ap (take 8) (drop-at (magic ++ varint 1 ++ (kind ∷ [])) (id ++ rest) 4 four)
+    let four : length (marked magic ++ (kind ∷ [])) ≡ 4 = simp (length-append, mark-length magic) in
+    ap (λ (l : List ℕ). take 8 (drop 4 l)) (append-assoc (marked magic ++ (kind ∷ [])) id rest)
+    ∙ ap (take 8) (drop-at (marked magic ++ (kind ∷ [])) (id ++ rest) 4 four)
     ∙ take-at id rest 8 e
 
 regroup : (a b c d : List ℕ) → a ++ b ++ c ++ d ≡ a ++ (b ++ (c ++ d))

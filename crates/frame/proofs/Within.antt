@@ -78,4 +78,4 @@ numbers-within s at r i t l next y e k =
     let t₂ = then-passed (varintAt s (t₁ .1)) _ (t₁ .3) in
     let t₃ = then-passed (varintAt s (t₂ .1)) _ (t₂ .3) in
     let p : t₃ .1 ≡ next = cc (t₃ .3) in
-    omega (arith, read-stands s (t₂ .1) (t₃ .0) (t₃ .1) y (t₃ .2) .within)
+    omega (arith, read-stands s (t₂ .1) (t₃ .0) (t₃ .1) y (t₃ .2) .0 .within)

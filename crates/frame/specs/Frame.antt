@@ -8,6 +8,7 @@ use Rattle.wire.specs.Answer.{choose, Got, got, refused, then}
 use Rattle.wire.specs.Number.{bigEndian}
 use Rattle.lend.specs.Same.{same}
 use Rattle.varint.specs.Varint.{varintAt}
+use Rattle.mark.specs.Mark.{markOf}
 use Rattle.crc.specs.Crc.{crc32}
 
 -- what is read of a frame: its type byte, INDEX, TOTAL, and where its data stand in the input, len bytes from at on
@@ -27,16 +28,9 @@ dataOf s f = take (f .len) (drop (f .at) s)
 
 -- ---- the fields, left to right: each is judged once it is whole
 
--- `41 50`
+-- `41 50`, and version 1 behind it
 abbrev pub magic : List ℕ
 magic = 0x41 ∷ 0x50 ∷ []
-
-unfoldable pub magicOf : List ℕ → Got Unit
-magicOf s = choose (ltb (length s) 2) (refused 3) (choose (same (take 2 s) magic) (got tt 2) (refused 4))
-
--- version 1
-unfoldable pub versionAt : List ℕ → ℕ → Got Unit
-versionAt s at = then (varintAt s at) (λ version next. choose (eqb version 1) (got tt next) (refused 5))
 
 -- type byte (44 main, 4B key, 41 auth)
 unfoldable pub known : ℕ → Bool
@@ -52,10 +46,9 @@ idAt s at = choose (ltb (length s - at) 8) (refused 3) (got tt (at + 8))
 -- all before the varints: the type byte
 unfoldable pub startOf : List ℕ → Got ℕ
 startOf s =
-    then (magicOf s) (λ _ a.
-    then (versionAt s a) (λ _ b.
-    then (kindAt s b) (λ kind c.
-    then (idAt s c) (λ _ d. got kind d))))
+    then (markOf magic s) (λ _ a.
+    then (kindAt s a) (λ kind b.
+    then (idAt s b) (λ _ c. got kind c)))
 
 -- varints INDEX, TOTAL, DATA_LEN
 pub record Numbers : Type 0 where

@@ -4,12 +4,13 @@ use mathlib.Core.List.{List, [], _∷_, _++_}
 use lib.ListN.{length}
 use Rattle.wire.specs.Number.{bigEndian}
 use Rattle.varint.specs.Varint.{varint}
+use Rattle.mark.specs.Mark.{marked}
 use Rattle.crc.specs.Crc.{crc32}
 use Rattle.frame.specs.Frame.{magic}
 
 -- `41 50`, version 1, type byte, 8 bytes id
 unfoldable pub start : ℕ → List ℕ → List ℕ
-start kind id = magic ++ varint 1 ++ (kind ∷ []) ++ id
+start kind id = marked magic ++ (kind ∷ []) ++ id
 
 -- varints INDEX, TOTAL, DATA_LEN
 unfoldable pub numbers : ℕ → ℕ → ℕ → List ℕ

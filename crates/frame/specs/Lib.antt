@@ -2,3 +2,4 @@ pub mod Frame
 pub mod Layout
 pub mod Answer
 pub mod Parts
+pub mod Allowed

@@ -1,16 +1,13 @@
 // The layout of a frame, where there is room for it.
 ghost use mathlib.Core.Path.{_≡_};
 ghost use Prim.Native.Nat.{_+_, _≤_};
-ghost use mathlib.Core.List.{_++_};
 ghost use lib.ListN.{length, take};
 ghost use Rattle.wire.specs.Number.{bigEndian};
 ghost use Rattle.wire.specs.Over.{over};
 ghost use Rattle.wire.specs.Writing.{Written, bytes};
 ghost use Rattle.varint.specs.Varint.{varint};
 ghost use Rattle.crc.specs.Crc.{crc32};
-ghost use Rattle.frame.specs.Frame.{magic};
 ghost use Rattle.frame.specs.Layout as L;
-use super::sum;
 use wire::Wrote;
 
 // Two bytes of magic, one of version, one of type, eight of id and four of CRC.
@@ -23,19 +20,11 @@ fn numbers_size(index: u64, total: u64, len: u64) -> usize
     varint::size(index) + varint::size(total) + varint::size(len)
 }
 
-fn opening(out: &mut [u8])
-    requires { ⌜ 3 ≤ length (now out) ⌝ }
-    ensures { λ _. ⌜ now (out .exit) ≡ over 0 (magic ++ varint 1) (now (out .entry)) ⌝ }
-{
-    lend::copy(out, 0, b"AP");
-    varint::write(1, out, 2);
-}
-
 fn start(kind: u8, id: &[u8], out: &mut [u8])
     requires { ⌜ (length (now id) ≡ 8) × (12 ≤ length (now out)) ⌝ }
     ensures { λ _. ⌜ now (out .exit) ≡ over 0 (L.start kind (now (id .entry))) (now (out .entry)) ⌝ }
 {
-    opening(out);
+    mark::lay(b"AP", out);
     lend::put(out, 3, kind);
     lend::copy(out, 4, id);
 }
@@ -75,7 +64,7 @@ fn seal(out: &mut [u8], n: usize)
     requires { ⌜ n + 4 ≤ length (now out) ⌝ }
     ensures { λ _. ⌜ now (out .exit) ≡ over n (bigEndian 4 (crc32 (take n (now (out .entry))))) (now (out .entry)) ⌝ }
 {
-    let sum = sum::of(&out[..n]);
+    let sum = crc::sum(&out[..n]);
     lend::copy(out, n, &sum);
 }
 

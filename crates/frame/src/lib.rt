@@ -1,7 +1,6 @@
 // One frame, read and laid out: document 01, "Frames".
 mod form;
 mod part;
-mod sum;
 
 ghost use mathlib.Core.Path.{_≡_};
 ghost use Prim.Native.Nat.{_+_};

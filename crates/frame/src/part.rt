@@ -1,12 +1,14 @@
 // The fields of a frame, from left to right: the first fault decides.
 ghost use mathlib.Core.Path.{_≡_};
 ghost use Prim.Native.Nat.{_≤_};
-ghost use lib.ListN.{length};
+ghost use lib.ListN.{length, take, drop};
 ghost use Rattle.wire.specs.Answer.{numberOf};
-ghost use Rattle.varint.specs.Answer as Varint;
-ghost use Rattle.frame.specs.Frame.{magicOf, versionAt, known, kindAt, idAt, startOf, numbersAt, dataAt};
+ghost use Rattle.wire.specs.Number.{bigEndian};
+ghost use Rattle.lend.specs.Same.{same};
+ghost use Rattle.crc.specs.Crc.{crc32};
+ghost use Rattle.frame.specs.Frame.{known, kindAt, idAt, startOf, numbersAt, dataAt};
 ghost use Rattle.frame.specs.Parts.{stepOf, kindOf, numbersOf};
-use super::sum;
+use mark::MarkRead;
 use varint::VarintRead;
 
 // A field that has no value, and the position past it.
@@ -65,46 +67,6 @@ pub(super) fn numbers_no(r: NumbersRead) -> u8
     }
 }
 
-fn varint_no(r: VarintRead) -> u8
-    ensures { λ n. ⌜ n ≡ numberOf (Varint.told r) ⌝ }
-{
-    match r {
-        VarintRead::Value { n: _, next: _ } => 0,
-        VarintRead::Refused { no } => no,
-    }
-}
-
-fn magic(s: &[u8]) -> Step
-    ensures { λ r. ⌜ stepOf r ≡ magicOf (now (s .entry)) ⌝ }
-{
-    if s.len() < 2 {
-        return Step::Refused {
-            no: wire::CUT_OR_LEFT_OVER,
-        };
-    }
-    if lend::equal(&s[..2], b"AP") {
-        return Step::At { next: 2 };
-    }
-    Step::Refused {
-        no: wire::BAD_MAGIC,
-    }
-}
-
-fn version(s: &[u8], at: usize) -> Step
-    ensures { λ r. ⌜ stepOf r ≡ versionAt (now (s .entry)) at ⌝ }
-{
-    let r = varint::read(s, at);
-    let VarintRead::Value { n, next } = r else {
-        return Step::Refused { no: varint_no(r) };
-    };
-    if n == 1 {
-        return Step::At { next };
-    }
-    Step::Refused {
-        no: wire::BAD_VERSION,
-    }
-}
-
 fn is_known(kind: u8) -> bool
     ensures { λ r. ⌜ r ≡ known kind ⌝ }
 {
@@ -152,23 +114,21 @@ fn id(s: &[u8], at: usize) -> Step
 pub(super) fn start(s: &[u8]) -> KindRead
     ensures { λ r. ⌜ kindOf r ≡ startOf (now (s .entry)) ⌝ }
 {
-    let r1 = magic(s);
-    let Step::At { next: a } = r1 else {
-        return KindRead::Refused { no: step_no(r1) };
+    let r1 = mark::read(b"AP", s);
+    let MarkRead::Past { next: a } = r1 else {
+        return KindRead::Refused {
+            no: mark::mark_no(r1),
+        };
     };
-    let r2 = version(s, a);
-    let Step::At { next: b } = r2 else {
-        return KindRead::Refused { no: step_no(r2) };
+    let r2 = kind(s, a);
+    let KindRead::Kind { kind, next: b } = r2 else {
+        return KindRead::Refused { no: kind_no(r2) };
     };
-    let r3 = kind(s, b);
-    let KindRead::Kind { kind, next: c } = r3 else {
-        return KindRead::Refused { no: kind_no(r3) };
+    let r3 = id(s, b);
+    let Step::At { next: c } = r3 else {
+        return KindRead::Refused { no: step_no(r3) };
     };
-    let r4 = id(s, c);
-    let Step::At { next: d } = r4 else {
-        return KindRead::Refused { no: step_no(r4) };
-    };
-    KindRead::Kind { kind, next: d }
+    KindRead::Kind { kind, next: c }
 }
 
 // INDEX, TOTAL and DATA_LEN.
@@ -177,15 +137,21 @@ pub(super) fn numbers(s: &[u8], at: usize) -> NumbersRead
 {
     let r1 = varint::read(s, at);
     let VarintRead::Value { n: index, next: a } = r1 else {
-        return NumbersRead::Refused { no: varint_no(r1) };
+        return NumbersRead::Refused {
+            no: varint::varint_no(r1),
+        };
     };
     let r2 = varint::read(s, a);
     let VarintRead::Value { n: total, next: b } = r2 else {
-        return NumbersRead::Refused { no: varint_no(r2) };
+        return NumbersRead::Refused {
+            no: varint::varint_no(r2),
+        };
     };
     let r3 = varint::read(s, b);
     let VarintRead::Value { n: len, next: c } = r3 else {
-        return NumbersRead::Refused { no: varint_no(r3) };
+        return NumbersRead::Refused {
+            no: varint::varint_no(r3),
+        };
     };
     NumbersRead::Numbers {
         index,
@@ -193,6 +159,15 @@ pub(super) fn numbers(s: &[u8], at: usize) -> NumbersRead
         len,
         next: c,
     }
+}
+
+// Whether the checksum of what stands before end is all that stands from there on.
+fn sum_stands(s: &[u8], end: usize) -> bool
+    requires { ⌜ end ≤ length (now s) ⌝ }
+    ensures { λ r. ⌜ r ≡ same (drop end (now (s .entry))) (bigEndian 4 (crc32 (take end (now (s .entry))))) ⌝ }
+{
+    let sum = crc::sum(&s[..end]);
+    lend::equal(&s[end..], &sum)
 }
 
 // The data, len bytes from at on, and the CRC of all before it. A length near 2^64 is compared, and never added to.
@@ -212,7 +187,7 @@ pub(super) fn data_and_sum(s: &[u8], at: usize, len: u64) -> Step
         };
     }
     let end = at + (len as usize);
-    if sum::stands(s, end) {
+    if sum_stands(s, end) {
         return Step::At { next: end + 4 };
     }
     Step::Refused {

@@ -1,10 +1,9 @@
 -- `same` is true of equal lists alone, and how a loop comes to know it. Assumes nothing.
 use mathlib.Core.Path.{_≡_, refl, sym, ap, ap₂, _∙_}
-use mathlib.Core.Bool.{Bool, true, false}
+use mathlib.Core.Bool.{Bool, true, false, false≢true, _&&_}
 use mathlib.Core.List.{List, [], _∷_}
-use Prim.Native.Nat.{ℕ, suc, _+_, _≤_, _<_}
+use Prim.Native.Nat.{ℕ, _+_, _≤_, _<_}
 use native.Mathlib.Numerals.{add-one}
-use native.Mathlib.Omega.{arith}
 use lib.ListN.{length, drop, getD, drop-of-length-le}
 use lib.Seq.{drop-cons}
 use lib.Dec.{eqb}
@@ -28,13 +27,20 @@ same-eq (x ∷ xs) (y ∷ ys) e =
     let t : xs ≡ ys = same-eq xs ys (b .1) in
     cc
 
--- lists of different lengths differ
-pub same-lengths : (xs ys : List ℕ) → (length xs ≡ length ys → ⊥) → same xs ys ≡ false
-same-lengths xs ys h = go (same xs ys) refl
+-- lists that `same` tells apart differ
+pub same-false : (xs ys : List ℕ) → same xs ys ≡ false → xs ≡ ys → ⊥
+same-false xs ys f e = false≢true (sym f ∙ ap (same xs) (sym e) ∙ same-refl xs)
+
+-- lists that differ are told apart by `same`
+pub same-ne : (xs ys : List ℕ) → (xs ≡ ys → ⊥) → same xs ys ≡ false
+same-ne xs ys n = go (same xs ys) refl
   where
     go : (b : Bool) → same xs ys ≡ b → same xs ys ≡ false
-    go true e = absurd (h (ap length (same-eq xs ys e)))
+    go true e = absurd (n (same-eq xs ys e))
     go false e = e
+
+pub same-lengths : (xs ys : List ℕ) → (length xs ≡ length ys → ⊥) → same xs ys ≡ false
+same-lengths xs ys n = same-ne xs ys (λ e. n (ap length e))
 
 -- a turn of a loop that compares, and its two ends
 module _ (a b : List ℕ) (i : ℕ) where
@@ -49,3 +55,24 @@ module _ (a b : List ℕ) (i : ℕ) where
   pub same-end : length a ≤ i → length b ≤ i → same (drop i a) (drop i b) ≡ true
   unfolding same
   same-end h k = ap₂ same (drop-of-length-le a {i = i} h) (drop-of-length-le b {i = i} k)
+
+-- a loop that looks at every byte: what it has seen so far, and what is left
+module _ (a b : List ℕ) (i : ℕ) (alike : Bool) where
+  never : (t u : Bool) → u ≡ false → (t && u) ≡ false
+  never true u e = e
+  never false u e = refl
+
+  pub alike-stop : i < length a → i < length b → (getD a i 0 ≡ getD b i 0 → ⊥) → same a b ≡ (alike && same (drop i a) (drop i b))
+      → same a b ≡ (false && same (drop (i + 1) a) (drop (i + 1) b))
+  alike-stop h k e p = p ∙ never alike (same (drop i a) (drop i b)) (same-stop a b i h k e)
+
+  pub alike-step : i < length a → i < length b → getD a i 0 ≡ getD b i 0 → same a b ≡ (alike && same (drop i a) (drop i b))
+      → same a b ≡ (alike && same (drop (i + 1) a) (drop (i + 1) b))
+  alike-step h k e p = p ∙ ap (λ (t : Bool). alike && t) (same-step a b i h k e)
+
+  pub alike-end : length a ≤ i → length b ≤ i → same a b ≡ (alike && same (drop i a) (drop i b)) → alike ≡ same a b
+  alike-end h k p = sym (p ∙ ap (λ (t : Bool). alike && t) (same-end a b i h k) ∙ all alike)
+    where
+      all : (t : Bool) → (t && true) ≡ t
+      all true = refl
+      all false = refl

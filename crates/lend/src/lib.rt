@@ -4,7 +4,9 @@ ghost use mathlib.Core.List.{[], _∷_};
 ghost use Prim.Native.Nat.{_+_, _≤_};
 ghost use lib.ListN.{length, replicate};
 ghost use Rattle.wire.specs.Over.{over};
+ghost use Rattle.wire.specs.Writing.{Written, bytes};
 ghost use Rattle.lend.specs.Same.{same};
+use wire::Wrote;
 
 // One byte at index at.
 pub fn put(out: &mut [u8], at: usize, b: u8)
@@ -66,19 +68,32 @@ pub fn clear(out: &mut [u8], at: usize, n: usize)
     fill(out, at, n, 0);
 }
 
-// Whether a and b hold the same bytes.
+// Whether a and b hold the same bytes. All of them are looked at: of a loop that never leaves early the compiler makes one that takes
+// sixteen bytes at a time.
 pub fn equal(a: &[u8], b: &[u8]) -> bool
     ensures { λ r. ⌜ r ≡ same (now (a .entry)) (now (b .entry)) ⌝ }
 {
     if a.len() != b.len() {
         return false;
     }
+    let mut alike = true;
     let mut i = 0;
     while i < a.len() {
         if a[i] != b[i] {
-            return false;
+            alike = false;
         }
         i += 1;
     }
-    true
+    alike
+}
+
+// All of text at the front of out, where it fits: the whole answer of a call that writes what was put together elsewhere.
+pub fn give(text: &[u8], out: &mut [u8]) -> Wrote
+    ensures { λ r. ⌜ Written 0 (bytes (now (text .entry))) (now (out .entry)) (now (out .exit)) r ⌝ }
+{
+    if out.len() < text.len() {
+        return Wrote::Refused { no: wire::NO_ROOM };
+    }
+    copy(out, 0, text);
+    Wrote::Done { len: text.len() }
 }

@@ -1,4 +1,4 @@
--- What `read` answers is fixed by its contract, and how a chain of items goes on from each field. Assumes nothing.
+-- How a chain of items goes on from each field, and what an answer says for a caller. Assumes nothing.
 use Prim.Native.Nat.{ℕ, _+_, _-_, _<_, _≤_}
 use mathlib.Core.Path.{_≡_, refl, sym, ap, _∙_}
 use mathlib.Core.Bool.{Bool, true, false}
@@ -12,9 +12,10 @@ use Rattle.cbor.specs.declared.StepRead.{StepRead}
 use Rattle.cbor.specs.declared.StepRead.the-variants as step
 use Rattle.cbor.specs.declared.NumberRead.{NumberRead}
 use Rattle.cbor.specs.declared.NumberRead.the-variants as number
-use Rattle.cbor.proofs.Answers.{go, stop, chain}
+use Rattle.wire.proofs.Branch.{go, stop}
+use Rattle.cbor.proofs.Answers.{chain}
 use Rattle.entry.specs.declared.File.{File}
-use Rattle.manifest.specs.Manifest.{Listing, Ending, manifestAt}
+use Rattle.manifest.specs.Manifest.{Listing, Ending}
 use Rattle.manifest.specs.Answer.{blankFile, padded, answerFor}
 use Rattle.manifest.specs.Parts.{seedTold, sealedTold, createdTold, endTold, filesAnswer}
 use Rattle.manifest.specs.declared.Seed.{Seed}
@@ -30,10 +31,6 @@ use Rattle.manifest.specs.declared.Ending as struct
 use Rattle.manifest.specs.declared.EndRead.{EndRead}
 use Rattle.manifest.specs.declared.EndRead.the-variants as endread
 use Rattle.manifest.specs.declared.FilesRead.{FilesRead}
-
--- two answers that keep the contract are one
-pub read-once : (s : List ℕ) {r q : ManifestRead} → r ≡ answerFor (manifestAt s) → q ≡ answerFor (manifestAt s) → r ≡ q
-read-once s e h = e ∙ sym h
 
 -- ---- what an answer says, for a caller
 

@@ -12,7 +12,7 @@ use Rattle.wire.specs.Answer.{choose}
 use Rattle.wire.specs.Writing.{Verdict, bytes, wrote, failed, told, Outcome, outcome}
 use Rattle.wire.specs.declared.Wrote.{Wrote}
 use Rattle.wire.specs.declared.Wrote.the-variants.{Done, Refused}
-use Rattle.wire.proofs.Cases.{both-hold}
+use Rattle.wire.proofs.Cases.{both-hold, said-yes}
 use Rattle.wire.proofs.Digits.{length-digits}
 use Rattle.wire.proofs.Writes.{passed, bytes-injective}
 use Rattle.cbor.specs.Form.{headOf, headSize, stringOf, doubleOf, numberFieldOf}
@@ -23,7 +23,6 @@ use Rattle.entry.specs.Writing.{entryIn, integerOf}
 use Rattle.entry.specs.declared.File.{File}
 use Rattle.entry.proofs.Sizes.{part-length}
 use Rattle.entry.proofs.Writers.{digest-within, done-verdict, refused-verdict}
-use Rattle.entry.proofs.Verdicts.{said-yes}
 use Rattle.manifest.specs.Manifest.{agrees}
 use Rattle.manifest.specs.Writing.{Said, seedIn, saidIn, secretOf, entriesOf, createdOf, saidOf, manifestOf, seedAllowed, followed, filesVerdict, createdAllowed, listed, manifestVerdict}
 use Rattle.manifest.specs.Parts.{seedSize, createdSize}

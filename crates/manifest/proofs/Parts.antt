@@ -10,11 +10,11 @@ use lib.ListN.{length}
 use Rattle.wire.specs.Answer.{choose, Got, got, then}
 use Rattle.wire.specs.Number.{Bytes, bigEndian}
 use Rattle.wire.proofs.Cases.{passed, then-passed}
+use Rattle.wire.proofs.Standing.{Stands, stands-none, stands-first, stands-second, stands-join, stands-as}
 use Rattle.cbor.specs.Form.{infoOf, widthOf, headOf, stringOf, doubleOf}
 use Rattle.cbor.specs.Item.{byteAt, numberAt, keyAt, stringAt, doubleAt}
 use Rattle.cbor.specs.Names.{seedKey, filesKey, sealedKey, createdKey}
 use Rattle.cbor.proofs.Sizes.{info-most, either}
-use Rattle.cbor.proofs.Standing.{Stands, stands-none, stands-first, stands-second, stands-join, stands-as}
 use Rattle.cbor.proofs.Within.{number-within, string-within}
 use Rattle.cbor.proofs.Written.{kind-bytes, kind-array, byte-back, double-back, key-back, number-back, string-back}
 use Rattle.cbor.proofs.Only.{byte-only, double-only, key-only, number-only, string-only}
@@ -24,7 +24,7 @@ use Rattle.entry.specs.declared.File.{File}
 use Rattle.entry.proofs.Writers.{within-digest}
 use Rattle.entry.proofs.Rounds.{sign-major, integer-back, integer-first, integer-only, Sound, good-sound, file-back, file-only}
 use Rattle.manifest.specs.Manifest.{seedAt, filesAt, listAt, agrees, sealedAt, finite, finiteAt, createdAt}
-use Rattle.manifest.specs.Writing.{Secret, none, some, seedIn, secretOf, entriesOf, createdOf, seedAllowed, createdAllowed}
+use Rattle.manifest.specs.Writing.{Secret, none, some, seedIn, secretOf, entriesOf, createdOf, seedAllowed, createdAllowed, CreatedFits}
 use Rattle.manifest.specs.declared.Seed.{Seed}
 use Rattle.manifest.specs.declared.Seed.the-variants as seed
 use Rattle.manifest.specs.declared.Created.{Created}
@@ -219,11 +219,6 @@ sealed-only {s} {at} {next} {v} {b} e =
     }
 
 -- ---- created
-
--- what the type says of every value: a double has 64 bits
-abbrev pub CreatedFits : Created → Type 0
-CreatedFits (created.Integer negative n) = Unit
-CreatedFits (created.Double bits) = bits < 2 ^ 64
 
 double-first : {s : List ℕ} {at next : ℕ} (bits : ℕ) → Stands s at (doubleOf bits) next → byteAt s at ≡ got 0xFB (at + 1)
 unfolding doubleOf

@@ -11,12 +11,11 @@ use lib.Seq.{take-at, length-take-le}
 use Rattle.wire.specs.Answer.{choose, Got, got}
 use Rattle.wire.specs.Number.{Bytes}
 use Rattle.wire.specs.Writing.{bytes}
-use Rattle.wire.proofs.Cases.{passed, then-passed}
-use Rattle.wire.proofs.Stands.{got-value, got-next, got-as}
+use Rattle.wire.proofs.Cases.{passed, then-passed, got-value, got-next, got-as}
+use Rattle.wire.proofs.Standing.{Stands, stands-whole, stands-all, stands-first, stands-second, stands-join, stands-as}
 use Rattle.cbor.specs.Form.{headOf, stringOf, numberFieldOf}
 use Rattle.cbor.specs.Item.{oneAt, numberAt, keyAt, numberFieldAt}
 use Rattle.cbor.specs.Names.{seedKey, filesKey, sealedKey, createdKey, versionKey}
-use Rattle.cbor.proofs.Standing.{Stands, stands-whole, stands-all, stands-first, stands-second, stands-join, stands-as}
 use Rattle.cbor.proofs.Within.{number-within, number-field-within}
 use Rattle.cbor.proofs.Written.{one-back, number-field-back}
 use Rattle.cbor.proofs.Only.{one-only, number-field-only}
@@ -27,14 +26,14 @@ use Rattle.entry.proofs.Sizes.{part-length}
 use Rattle.entry.proofs.Writers.{digest-within}
 use Rattle.entry.proofs.Rounds.{file-within}
 use Rattle.manifest.specs.Manifest.{Listing, seedAt, filesAt, listAt, agrees, sealedAt, createdAt, Ending, endAt, manifestAt}
-use Rattle.manifest.specs.Writing.{Secret, some, Said, seedIn, saidIn, secretOf, entriesOf, createdOf, saidOf, manifestOf, seedAllowed, createdAllowed, listed, manifestVerdict}
+use Rattle.manifest.specs.Writing.{Secret, some, Said, seedIn, saidIn, secretOf, entriesOf, createdOf, saidOf, manifestOf, seedAllowed, createdAllowed, listed, manifestVerdict, CreatedFits, Typed}
 use Rattle.manifest.specs.Answer.{padded, answerFor}
 use Rattle.manifest.specs.declared.Seed.{Seed}
 use Rattle.manifest.specs.declared.Seed.the-variants as seed
 use Rattle.manifest.specs.declared.Manifest.{Manifest}
 use Rattle.manifest.proofs.Judging.{AllGood}
 use Rattle.manifest.proofs.Lengths.{Fit, verdict-fit, fit-verdict}
-use Rattle.manifest.proofs.Parts.{SecretLong, seed-back, seed-only, AllSound, all-sound, list-back, Listed, list-only, sealed-back, sealed-only, CreatedFits, created-back, created-only}
+use Rattle.manifest.proofs.Parts.{SecretLong, seed-back, seed-only, AllSound, all-sound, list-back, Listed, list-only, sealed-back, sealed-only, created-back, created-only}
 
 -- ---- an accepted payload and its parts
 
@@ -145,11 +144,6 @@ manifest-within s {v} e =
     (omega (arith, w .0, r .1), omega (arith, w .1, r .1), r .0)
 
 -- ---- what is written reads back
-
--- what the type says of every value: the array has 64 files, and a double 64 bits
-pub record Typed (m : Manifest) : Type 0 where
-  pub array : length (m .files) ≡ 64
-  pub bits : CreatedFits (m .created)
 
 secret-long : (pool : List ℕ) (v : Seed) → seedAllowed pool v ≡ true → SecretLong (seedIn pool v)
 unfolding seedAllowed seedIn

@@ -1,5 +1,6 @@
 -- The manifest, as it is written: document 01, "CBOR payloads" and "House sizes".
-use Prim.Native.Nat.{ℕ}
+use Prim.Native.Nat.{ℕ, _^_, _<_}
+use mathlib.Core.Path.{_≡_}
 use mathlib.Core.Bool.{Bool, true, _&&_}
 use mathlib.Core.List.{List, [], _∷_, _++_, map}
 use lib.Dec.{ltb, leb}
@@ -111,3 +112,15 @@ manifestVerdict pool m =
     (fault 19)))
     (fault 19))
     (fault 19)
+
+-- ---- what the types of the struct say of every value
+
+-- a double has 64 bits
+abbrev pub CreatedFits : Created → Type 0
+CreatedFits (created.Integer negative n) = Unit
+CreatedFits (created.Double bits) = bits < 2 ^ 64
+
+-- the array has 64 files
+pub record Typed (m : Manifest) : Type 0 where
+  pub array : length (m .files) ≡ 64
+  pub bits : CreatedFits (m .created)

@@ -1,14 +1,13 @@
 -- How many pages there are, as the code tests it. Assumes nothing.
-use Prim.Native.Nat.{ℕ, zero, suc, _+_, _-_, _*_, _/_, _≤_, _<_}
-use mathlib.Core.Path.{_≡_, refl, sym, ap, _∙_}
-use mathlib.Core.Bool.{Bool, true, false, _&&_}
+use Prim.Native.Nat.{ℕ, _+_, _-_, _*_, _/_, _≤_, _<_}
+use mathlib.Core.Path.{_≡_, refl, ap, _∙_}
+use mathlib.Core.Bool.{true}
 use mathlib.Core.List.{List, [], _∷_}
 use native.Mathlib.Nat.{add-mul-div-right, one-mul}
 use native.Mathlib.Omega.{arith}
 use borrow.Author.Tests.{lt-ltb, le-ltb, le-leb, lt-leb}
-use lib.Dec.{ltb, leb}
 use lib.ListN.{length, take, getD}
-use Rattle.page.specs.Page.{pageCount, printable, Counted, pages, unprintable, countOf}
+use Rattle.page.specs.Page.{pageCount, printable, pages, unprintable, countOf}
 
 -- one more than the pages before the last
 pub count-is : (n size : ℕ) → 0 < n → 0 < size → pageCount n size ≡ (n - 1) / size + 1

@@ -1,5 +1,5 @@
 -- What a page's answer is, from the tests that the code makes. Assumes nothing.
-use Prim.Native.Nat.{ℕ, zero, suc, _+_, _-_, _*_, _≤_, _<_, min}
+use Prim.Native.Nat.{ℕ, _-_, _*_, _≤_, _<_, min}
 use mathlib.Core.Path.{_≡_, refl, sym, ap, _∙_}
 use mathlib.Core.Bool.{Bool, true, false, _&&_}
 use mathlib.Core.Logic.{⊎-elim}
@@ -11,10 +11,10 @@ use lib.Dec.{ltb, leb}
 use lib.ListN.{length, take, drop, length-drop}
 use lib.Seq.{take-all}
 use Rattle.wire.specs.Answer.{choose}
-use Rattle.wire.specs.Writing.{Verdict, bytes, fault}
+use Rattle.wire.specs.Writing.{bytes, fault}
 use Rattle.wire.proofs.Cases.{lt-or-le, both-hold}
 use Rattle.frame.specs.Layout.{layout}
-use Rattle.page.specs.Page.{documentId, pageCount, pageData, printable, Counted, pages, unprintable, countOf, pageOf, pageVerdict}
+use Rattle.page.specs.Page.{documentId, pageCount, pageData, printable, pages, unprintable, countOf, pageVerdict}
 use Rattle.page.proofs.Pages.{count-fewest}
 
 printable-facts : (n size : ℕ) → printable n size ≡ true → (0 < n) × (0 < size) × (size ≤ 480)

@@ -1,7 +1,7 @@
 -- Every page of a document reads back as its own index, the document's total, its id and its slice of the ciphertext, also
 -- through either text form. Assumes nothing.
-use Prim.Native.Nat.{ℕ, _+_, _*_, _≤_, _<_}
-use mathlib.Core.Path.{_≡_, refl, sym, _∙_}
+use Prim.Native.Nat.{ℕ, _*_, _<_}
+use mathlib.Core.Path.{_≡_, refl}
 use mathlib.Core.Logic.{inl}
 use mathlib.Core.List.{List}
 use native.Mathlib.Omega.{arith}
@@ -16,19 +16,12 @@ use Rattle.text.proofs.Forms.{Lawful}
 use Rattle.text.proofs.Round.{read-written}
 use Rattle.blake2b.specs.Blake2b.{blake2b}
 use Rattle.blake2b.proofs.Output.{blake2b-bytes}
-use Rattle.frame.proofs.Allowed.{Allowed}
+use Rattle.frame.specs.Allowed.{Allowed}
 use Rattle.frame.proofs.Range.{layout-bytes}
 use Rattle.frame.proofs.ReadsBack.{ReadsAs, reads-back}
-use Rattle.page.specs.Page.{documentId, pageCount, pageData, pageFrame, printable, countOf, pageVerdict}
+use Rattle.page.specs.Page.{Printed, documentId, pageCount, pageData, pageFrame, printable, countOf, pageVerdict}
 use Rattle.page.proofs.Pages.{page-length}
 use Rattle.page.proofs.Typing.{id-length}
-
--- a document that can be printed with this page size
-pub record Printed (c : List ℕ) (size : ℕ) : Type 0 where
-  pub some : 0 < length c
-  pub least : 0 < size
-  pub most : size ≤ 480
-  pub fits : pageCount (length c) size ≤ 96
 
 module _ (c : List ℕ) (size : ℕ) (p : Printed c size) (i : ℕ) (here : i < pageCount (length c) size) where
   -- the page is printed

@@ -1,16 +1,11 @@
 -- A page through a text form: the frame is made in a room of its own, which always suffices. Assumes nothing.
 use Prim.Native.Nat.{ℕ, _+_, _-_, _≤_, _<_}
 use mathlib.Core.Path.{_≡_, refl, sym, ap, _∙_}
-use mathlib.Core.Bool.{Bool, true, false}
-use mathlib.Core.Logic.{_⊎_, inl, inr, ⊎-elim}
+use mathlib.Core.Logic.{_⊎_, ⊎-elim}
 use mathlib.Core.List.{List}
 use native.Mathlib.Omega.{arith}
-use borrow.Author.Tests.{ltb-true}
-use lib.Dec.{ltb}
 use lib.ListN.{length, take, drop}
 use lib.Seq.{length-take-le}
-use Rattle.wire.specs.Answer.{choose}
-use Rattle.wire.specs.Over.{over}
 use Rattle.wire.specs.Writing.{Verdict, bytes, fault, Written}
 use Rattle.wire.specs.declared.Wrote.{Wrote}
 use Rattle.wire.specs.declared.Wrote.the-variants.{Done, Refused}
@@ -50,19 +45,29 @@ frame-short c size number bs e = go (countOf (length c) size) refl
         ⊎-elim (λ l. rw (bytes-injective (sym e ∙ page-is c size number n (sym h) l)) (laid n (sym h) l))
         (λ l. not-both e (no-page c size number n (sym h) l)) (lt-or-le number n)
 
--- the frame was made, and its text is what is written
-pub typed-done : (f : Form) (v : Verdict) (room room' : List ℕ) (n : ℕ) (out out' : List ℕ) (r : Wrote) → Stood 0 v room room' n
-    → Written 0 (bytes (textOf f (take (n - 0) (drop 0 room')))) out out' r → Written 0 (typed f v) out out' r
-typed-done f v room room' n out out' r s w =
-    let bs = s .what in
-    let l : 0 + length bs ≤ length room = omega (arith, s .fits, s .count) in
-    let z : n - 0 ≡ n = omega arith in
-    let e : take (n - 0) (drop 0 room') ≡ bs = ap (λ (k : ℕ). take k (drop 0 room')) z ∙ ap (λ (x : List ℕ). take n (drop 0 x)) (s .stands) ∙ ap (λ (k : ℕ). take k (drop 0 (over 0 bs room))) (s .count) ∙ read-over 0 bs room l in
-    rw (s .meant) (rw e at w)
+-- for `search`, of both forms: made is what the frame's writer answered, and room' what it left in the room
+module _ (v : Verdict) (room room' : List ℕ) (made : Wrote) (n : ℕ) (w : Written 0 v room room' made) (k : made ≡ Done n) where
+  stood : Stood 0 v room room' n
+  stood = done-stood 0 v room room' n (rw k at w)
+
+  pub made-fits : length room' ≡ length room → n ≤ length room'
+  made-fits l = omega (arith, stood .fits)
+
+  -- the frame was made, and its text is what is written
+  pub typed-done : (f : Form) (out out' : List ℕ) (r : Wrote) → Written 0 (bytes (textOf f (take (n - 0) (drop 0 room')))) out out' r
+      → Written 0 (typed f v) out out' r
+  typed-done f out out' r t =
+      let bs = stood .what in
+      let l : 0 + length bs ≤ length room = omega (arith, stood .fits, stood .count) in
+      let z : n - 0 ≡ length bs = omega (arith, stood .count) in
+      let e : take (n - 0) (drop 0 room') ≡ bs =
+      ap (λ (k : ℕ). take k (drop 0 room')) z ∙ ap (λ (x : List ℕ). take (length bs) (drop 0 x)) (stood .stands) ∙ read-over 0 bs room l in
+      rw (stood .meant) (rw e at t)
 
 -- it was refused, and so is the text
-pub typed-refused : (f : Form) (c : List ℕ) (size number : ℕ) (room room' : List ℕ) (e : ℕ) (out : List ℕ) → 500 ≤ length room
-    → Written 0 (pageVerdict c size number) room room' (Refused e) → Written 0 (typed f (pageVerdict c size number)) out out (Refused e)
-typed-refused f c size number room room' e out h w =
-    ⊎-elim (λ q. rw q (denied 0 out e)) (λ q. absurd (omega (arith, q .2, frame-short c size number (q .0) (q .1), h)))
-    (refused-why 0 (pageVerdict c size number) room room' e w)
+pub typed-refused : (c : List ℕ) (size number : ℕ) (room room' : List ℕ) (made : Wrote) (e : ℕ) → Written 0 (pageVerdict c size number) room room' made → made ≡ Refused e
+    → 500 ≤ length room → (f : Form) (out : List ℕ) → Written 0 (typed f (pageVerdict c size number)) out out made
+typed-refused c size number room room' made e w k h f out =
+    rw k
+    (⊎-elim (λ q. rw q (denied 0 out e)) (λ q. absurd (omega (arith, q .2, frame-short c size number (q .0) (q .1), h)))
+    (refused-why 0 (pageVerdict c size number) room room' e (rw k at w)))

@@ -1,5 +1,5 @@
 -- The pages of a document: document 01, "Frames", the paragraph "Printing"; source document 002, sections 6 and 7.
-use Prim.Native.Nat.{ℕ, zero, suc, _+_, _-_, _*_, _/_}
+use Prim.Native.Nat.{ℕ, zero, suc, _+_, _-_, _*_, _/_, _<_, _≤_}
 use mathlib.Core.Bool.{Bool, _&&_}
 use mathlib.Core.List.{List, [], _++_}
 use lib.Dec.{ltb, leb}
@@ -38,6 +38,13 @@ pub data Counted : Type 0 where
 unfoldable pub countOf : ℕ → ℕ → Counted
 countOf n size =
     choose (printable n size) (choose (leb (pageCount n size) 96) (pages (pageCount n size)) (unprintable 9)) (unprintable 19)
+
+-- so a document that can be printed with this page size
+pub record Printed (c : List ℕ) (size : ℕ) : Type 0 where
+  pub some : 0 < length c
+  pub least : 0 < size
+  pub most : size ≤ 480
+  pub fits : pageCount (length c) size ≤ 96
 
 -- then page number not below the total 8
 abbrev pub pageOf : List ℕ → ℕ → ℕ → Counted → Verdict

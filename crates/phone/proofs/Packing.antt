@@ -1,5 +1,5 @@
 -- A call's answer as one number, over plain values. Assumes nothing.
-use Prim.Native.Nat.{ℕ, _+_, _*_, _≤_}
+use Prim.Native.Nat.{ℕ, _≤_}
 use mathlib.Core.Path.{_≡_, refl, sym, ap, _∙_}
 use mathlib.Core.Bool.{Bool, true, false}
 use mathlib.Core.List.{List}
@@ -13,7 +13,7 @@ use Rattle.state.specs.Finish.{Finish, whole, lacking, finishBook}
 use Rattle.state.proofs.Finished.{finish-short}
 use Rattle.book.specs.Read.{idOf, readBook, okBook}
 use Rattle.book.proofs.Decode.{decoded-valid}
-use Rattle.collection.specs.Collection.{Decision, leaves, refuses, Answer, done, failed, answerOf, bytesAfter, Kept}
+use Rattle.collection.specs.Collection.{Decision, answerOf, Kept}
 use Rattle.collection.specs.Answer.{told, toldKind}
 use Rattle.collection.specs.declared.Answered.{Answered}
 use Rattle.collection.specs.declared.Answered.the-variants as A

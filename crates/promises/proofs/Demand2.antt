@@ -1,27 +1,26 @@
 -- The second demand holds (specs/Demand2.antt). Assumes nothing.
-use Prim.Native.Nat.{ℕ, _<_}
-use mathlib.Core.Path.{_≡_, refl, sym, ap, _∙_, subst}
+use Prim.Native.Nat.{ℕ}
+use mathlib.Core.Path.{_≡_, refl, sym, ap, _∙_}
 use mathlib.Core.Logic.{inl, inr}
 use mathlib.Core.List.{List}
-use lib.ListN.{length}
 use Rattle.wire.specs.Answer.{Got}
 use Rattle.wire.specs.Number.{Bytes}
-use Rattle.wire.specs.Writing.{Verdict, bytes}
+use Rattle.wire.specs.Writing.{bytes}
 use Rattle.wire.proofs.Writes.{bytes-injective}
 use Rattle.text.specs.Text.{Form, base64, zbase32, readText, textOf}
 use Rattle.text.proofs.Forms.{Lawful, base64-lawful, zbase32-lawful}
-use Rattle.frame.proofs.Allowed.{Kind}
+use Rattle.frame.specs.Allowed.{Kind}
 use Rattle.frame.proofs.ReadsBack.{ReadsAs}
-use Rattle.page.specs.Page.{documentId, pageCount, pageData, pageFrame, pageVerdict, typed}
+use Rattle.page.specs.Page.{pageFrame, Printed, typed}
 use Rattle.page.proofs.Pages.{pages-join}
-use Rattle.page.proofs.Round.{Printed, page-written, page-reads, page-typed}
+use Rattle.page.proofs.Round.{page-written, page-reads, page-typed}
 use Rattle.auth.specs.Auth.{authAt}
 use Rattle.shard.specs.Shard.{shardAt}
 use Rattle.slip.specs.Slip.{slip, keyFrame, authFrame}
 use Rattle.slip.proofs.Round.{slip-carried, slip-reads}
 use Rattle.envelope.specs.Placed.{fine, unplaced}
-use Rattle.promises.specs.Formats.{Frame, frames, textRead, texts, auths, shards}
-use Rattle.promises.specs.Demand2.{ReadAs, pageOf, ThroughText, Pages, slipOf, Carries, Demand2}
+use Rattle.promises.specs.Formats.{frames, textRead, auths, shards}
+use Rattle.promises.specs.Demand2.{ReadAs, ThroughText, Pages, slipOf, Carries, Demand2}
 use Rattle.promises.proofs.Formats.{got-unplaced, frames-exact, texts-exact}
 use Rattle.promises.proofs.Payloads.{envelopes-exact, manifests-exact, auths-exact, shards-exact}
 

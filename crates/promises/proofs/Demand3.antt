@@ -1,18 +1,16 @@
 -- The third demand holds (specs/Demand3.antt), for every document id of 8 bytes. Assumes nothing.
-use mathlib.Core.Path.{_≡_, refl, sym, ap, ap₂, _∙_, subst}
+use mathlib.Core.Path.{_≡_, sym, ap, ap₂, _∙_, subst}
 use mathlib.Core.Logic.{_⊎_, inl, inr}
 use mathlib.Core.Bool.{true}
 use mathlib.Core.List.{List}
 use Prim.Native.Nat.{ℕ}
 use lib.ListN.{length}
 use Rattle.wire.specs.Answer.{refused}
-use Rattle.state.specs.Take.{Page}
 use Rattle.state.specs.Meaning.{BookIs}
 use Rattle.book.specs.Read.{idOf, readBook, okBook}
-use Rattle.collection.specs.Collection.{goodPage, opening, offering, joining, bytesAfter, Kept}
-use Rattle.collection.specs.Answer.{told, toldKind}
+use Rattle.collection.specs.Collection.{goodPage, offering, joining, bytesAfter, Kept}
+use Rattle.collection.specs.Answer.{toldKind}
 use Rattle.collection.specs.Built.{Built, opened, offered, joined, bytesOf, In, Lent}
-use Rattle.collection.specs.declared.Answered.{Answered}
 use Rattle.collection.specs.declared.Offered.{Offered}
 use Rattle.collection.proofs.Demand as D
 use Rattle.closing.specs.Finish.{finished, Closed}

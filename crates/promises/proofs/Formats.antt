@@ -1,13 +1,11 @@
 -- Each format of document 01 is read and written exactly: the theorems of its crate, in the words of specs/Formats.antt. Assumes nothing.
-use Prim.Native.Nat.{ℕ, _+_, _<_, _≤_, _^_}
-use mathlib.Core.Path.{_≡_, refl, sym, ap, _∙_, subst}
+use Prim.Native.Nat.{ℕ}
+use mathlib.Core.Path.{_≡_, refl, sym, ap, _∙_}
 use mathlib.Core.List.{List}
 use native.Mathlib.Omega.{arith}
-use lib.ListN.{length}
 use Rattle.wire.specs.Answer.{Got, got, refused}
-use Rattle.wire.specs.Number.{Bytes}
 use Rattle.wire.specs.Writing.{Verdict, bytes, fault}
-use Rattle.text.specs.Text.{Form, readText, textOf, kept}
+use Rattle.text.specs.Text.{Form, readText, kept}
 use Rattle.text.proofs.Forms.{Lawful}
 use Rattle.text.proofs.Round.{read-written, written-read}
 use Rattle.frame.specs.Frame as F

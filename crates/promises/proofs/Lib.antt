@@ -3,6 +3,7 @@ pub mod Payloads
 pub mod Demand2
 pub mod Demand3
 pub mod Examples
+pub mod Printed
 pub mod Lasts
 pub mod OnceBytes
 pub mod OnceItems

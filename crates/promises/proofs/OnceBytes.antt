@@ -4,14 +4,20 @@ use Rattle.promises.specs.Once.{Once}
 use Rattle.promises.proofs.Lasts.{here, past}
 use Rattle.wire.proofs.Writes.{written-once}
 use Rattle.varint.proofs.Answers as varint
+use Rattle.mark.proofs.Answers as mark
 use Rattle.lend.proofs.put as lend-put
 use Rattle.lend.proofs.copy as lend-copy
 use Rattle.lend.proofs.fill as lend-fill
 use Rattle.lend.proofs.clear as lend-clear
 use Rattle.lend.proofs.equal as lend-equal
+use Rattle.lend.proofs.give as lend-give
 use Rattle.varint.proofs.read as varint-read
 use Rattle.varint.proofs.size as varint-size
 use Rattle.varint.proofs.write as varint-write
+use Rattle.varint.proofs.varint_no as varint-varint-no
+use Rattle.mark.proofs.mark_no as mark-mark-no
+use Rattle.mark.proofs.read as mark-read
+use Rattle.mark.proofs.lay as mark-lay
 use Rattle.path.proofs.sized as path-sized
 use Rattle.path.proofs.allowed as path-allowed
 use Rattle.path.proofs.ascends as path-ascends
@@ -20,6 +26,7 @@ use Rattle.text.proofs.base64_write as text-base64-write
 use Rattle.text.proofs.zbase32_read as text-zbase32-read
 use Rattle.text.proofs.zbase32_write as text-zbase32-write
 use Rattle.crc.proofs.crc32 as crc-crc32
+use Rattle.crc.proofs.sum as crc-sum
 use Rattle.sha256.proofs.sha256 as sha256-sha256
 use Rattle.blake2b.proofs.blake2b as blake2b-blake2b
 
@@ -38,6 +45,9 @@ lend-clear-once κs args x y u v p q = (refl, here (p ∙ sym q))
 pub lend-equal-once : Once lend-equal.Kinds.ps lend-equal.Kinds.r lend-equal.Reads.Learnt
 lend-equal-once κs args x y u v p q = (p ∙ sym q, refl)
 
+pub lend-give-once : Once lend-give.Kinds.ps lend-give.Kinds.r lend-give.Reads.Learnt
+lend-give-once κs args x y u v p q = let e = written-once p q in (e .0, past (here (e .1)))
+
 pub varint-read-once : Once varint-read.Kinds.ps varint-read.Kinds.r varint-read.Reads.Learnt
 varint-read-once κs args x y u v p q = (varint.told-injective x y (p ∙ sym q), refl)
 
@@ -46,6 +56,18 @@ varint-size-once κs args x y u v p q = (p ∙ sym q, refl)
 
 pub varint-write-once : Once varint-write.Kinds.ps varint-write.Kinds.r varint-write.Reads.Learnt
 varint-write-once κs args x y u v p q = let e = written-once p q in (e .0, past (here (e .1)))
+
+pub varint-varint-no-once : Once varint-varint-no.Kinds.ps varint-varint-no.Kinds.r varint-varint-no.Reads.Learnt
+varint-varint-no-once κs args x y u v p q = (p ∙ sym q, refl)
+
+pub mark-mark-no-once : Once mark-mark-no.Kinds.ps mark-mark-no.Kinds.r mark-mark-no.Reads.Learnt
+mark-mark-no-once κs args x y u v p q = (p ∙ sym q, refl)
+
+pub mark-read-once : Once mark-read.Kinds.ps mark-read.Kinds.r mark-read.Reads.Learnt
+mark-read-once κs args x y u v p q = (mark.told-injective x y (p ∙ sym q), refl)
+
+pub mark-lay-once : Once mark-lay.Kinds.ps mark-lay.Kinds.r mark-lay.Reads.Learnt
+mark-lay-once κs args x y u v p q = (refl, past (here (p ∙ sym q)))
 
 pub path-sized-once : Once path-sized.Kinds.ps path-sized.Kinds.r path-sized.Reads.Learnt
 path-sized-once κs args x y u v p q = (p ∙ sym q, refl)
@@ -70,6 +92,9 @@ text-zbase32-write-once κs args x y u v p q = let e = written-once p q in (e .0
 
 pub crc-crc32-once : Once crc-crc32.Kinds.ps crc-crc32.Kinds.r crc-crc32.Reads.Learnt
 crc-crc32-once κs args x y u v p q = (p ∙ sym q, refl)
+
+pub crc-sum-once : Once crc-sum.Kinds.ps crc-sum.Kinds.r crc-sum.Reads.Learnt
+crc-sum-once κs args x y u v p q = (p ∙ sym q, refl)
 
 pub sha256-sha256-once : Once sha256-sha256.Kinds.ps sha256-sha256.Kinds.r sha256-sha256.Reads.Learnt
 sha256-sha256-once κs args x y u v p q = (p ∙ sym q, refl)

@@ -1,10 +1,11 @@
--- One answer, by each contract itself: what the small program, the phone and the bench call. Assumes nothing.
+-- One answer, by each contract itself: what the programs, the phone and the bench call. Assumes nothing.
 use mathlib.Core.Path.{_≡_, refl, sym, ap, _∙_}
 use mathlib.Core.List.{List}
 use Prim.Native.Nat.{ℕ}
 use Rattle.promises.specs.Once.{Once}
 use Rattle.promises.proofs.Lasts.{both, here, past}
 use Rattle.wire.proofs.Writes.{written-once}
+use Rattle.collection.proofs.Answers.{told-injective, kept-once}
 use Rattle.scan.specs.Session.{At, at}
 use Rattle.scan.specs.declared.session.Session.{Session}
 use Rattle.scan.proofs.id as scan-id
@@ -12,6 +13,13 @@ use Rattle.scan.proofs.session.scan as scan-session-scan
 use Rattle.scan.proofs.session.feed as scan-session-feed
 use Rattle.scan.proofs.session.close as scan-session-close
 use Rattle.scan.proofs.session.report as scan-session-report
+use Rattle.sheet.proofs.scans as sheet-scans
+use Rattle.sheet.proofs.typed as sheet-typed
+use Rattle.sheet.proofs.typed_page as sheet-typed-page
+use Rattle.sheet.proofs.page_asked as sheet-page-asked
+use Rattle.shelf.proofs.resume as shelf-resume
+use Rattle.shelf.proofs.refused_line as shelf-refused-line
+use Rattle.shelf.proofs.answer as shelf-answer
 use Rattle.phone.proofs.stilt_open as phone-stilt-open
 use Rattle.phone.proofs.stilt_offer as phone-stilt-offer
 use Rattle.phone.proofs.stilt_join as phone-stilt-join
@@ -19,6 +27,8 @@ use Rattle.phone.proofs.stilt_finish as phone-stilt-finish
 use Rattle.speed.proofs.speed_crc32 as speed-speed-crc32
 use Rattle.speed.proofs.speed_sha256 as speed-speed-sha256
 use Rattle.speed.proofs.speed_blake2b as speed-speed-blake2b
+use Rattle.speed.proofs.speed_base64_read as speed-speed-base64-read
+use Rattle.speed.proofs.speed_base64_write as speed-speed-base64-write
 
 -- where a session is says all of it
 at-injective : (r q : Session) {l m c d : List ℕ} → at r l c ≡ at q m d → (r ≡ q) × (l ≡ m) × (c ≡ d)
@@ -42,6 +52,27 @@ scan-session-close-once κs args x y u v p q = let e = at-injective x y (p ∙ s
 pub scan-session-report-once : Once scan-session-report.Kinds.ps scan-session-report.Kinds.r scan-session-report.Reads.Learnt
 scan-session-report-once κs args x y u v p q = let e = written-once p q in (e .0, past (past (here (e .1))))
 
+pub sheet-scans-once : Once sheet-scans.Kinds.ps sheet-scans.Kinds.r sheet-scans.Reads.Learnt
+sheet-scans-once κs args x y u v p q = let e = written-once p q in (e .0, past (here (e .1)))
+
+pub sheet-typed-once : Once sheet-typed.Kinds.ps sheet-typed.Kinds.r sheet-typed.Reads.Learnt
+sheet-typed-once κs args x y u v p q = let e = written-once p q in (e .0, past (here (e .1)))
+
+pub sheet-typed-page-once : Once sheet-typed-page.Kinds.ps sheet-typed-page.Kinds.r sheet-typed-page.Reads.Learnt
+sheet-typed-page-once κs args x y u v p q = let e = written-once p q in (e .0, past (past (here (e .1))))
+
+pub sheet-page-asked-once : Once sheet-page-asked.Kinds.ps sheet-page-asked.Kinds.r sheet-page-asked.Reads.Learnt
+sheet-page-asked-once κs args x y u v p q = (p ∙ sym q, refl)
+
+pub shelf-resume-once : Once shelf-resume.Kinds.ps shelf-resume.Kinds.r shelf-resume.Reads.Learnt
+shelf-resume-once κs args x y u v p q = let e = kept-once p q in (told-injective x y (e .0), past (past (here (e .1))))
+
+pub shelf-refused-line-once : Once shelf-refused-line.Kinds.ps shelf-refused-line.Kinds.r shelf-refused-line.Reads.Learnt
+shelf-refused-line-once κs args x y u v p q = let e = written-once p q in (e .0, past (past (here (e .1))))
+
+pub shelf-answer-once : Once shelf-answer.Kinds.ps shelf-answer.Kinds.r shelf-answer.Reads.Learnt
+shelf-answer-once κs args x y u v p q = let e = written-once p q in (e .0, past (past (here (e .1))))
+
 pub phone-stilt-open-once : Once phone-stilt-open.Kinds.ps phone-stilt-open.Kinds.r phone-stilt-open.Reads.Learnt
 phone-stilt-open-once κs args x y u v p q = (p .0 ∙ sym (q .0), past (here (p .1 ∙ sym (q .1))))
 
@@ -62,3 +93,9 @@ speed-speed-sha256-once κs args x y u v p q = (refl, past (here (p ∙ sym q)))
 
 pub speed-speed-blake2b-once : Once speed-speed-blake2b.Kinds.ps speed-speed-blake2b.Kinds.r speed-speed-blake2b.Reads.Learnt
 speed-speed-blake2b-once κs args x y u v p q = (refl, past (here (p ∙ sym q)))
+
+pub speed-speed-base64-read-once : Once speed-speed-base64-read.Kinds.ps speed-speed-base64-read.Kinds.r speed-speed-base64-read.Reads.Learnt
+speed-speed-base64-read-once κs args x y u v p q = (p .0 ∙ sym (q .0), past (here (p .1 ∙ sym (q .1))))
+
+pub speed-speed-base64-write-once : Once speed-speed-base64-write.Kinds.ps speed-speed-base64-write.Kinds.r speed-speed-base64-write.Reads.Learnt
+speed-speed-base64-write-once κs args x y u v p q = (p .0 ∙ sym (q .0), past (here (p .1 ∙ sym (q .1))))

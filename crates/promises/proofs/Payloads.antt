@@ -1,14 +1,12 @@
 -- The payloads of document 01 are read and written exactly: the theorems of their crates, in the words of specs/Formats.antt. Assumes nothing.
 use Prim.Native.Nat.{ℕ, _-_, _≤_}
 use mathlib.Core.Path.{_≡_, refl, sym, ap, _∙_, subst}
-use mathlib.Core.Bool.{true}
 use mathlib.Core.List.{List}
 use native.Mathlib.Omega.{arith}
 use native.Mathlib.Nat.{min-le-right}
 use borrow.Author.Tests.{eqb-true, eq-eqb, le-leb}
 use lib.Dec.{eqb, leb}
-use lib.ListN.{length, take, drop, replicate, length-take, length-drop, length-append, length-replicate}
-use Rattle.wire.specs.Answer.{got}
+use lib.ListN.{length, take, drop, length-take, length-drop}
 use Rattle.wire.specs.Writing.{bytes}
 use Rattle.wire.proofs.Writes.{passed, bytes-injective}
 use Rattle.cover.specs.Cover.{Cover, coverOf}
@@ -16,17 +14,17 @@ use Rattle.envelope.specs.Placed.{Placed, fine, faulty, on}
 use Rattle.envelope.specs.Envelope.{judged, envelopeAt, verdict}
 use Rattle.envelope.proofs.Rounds.{Accepted, envelope-back, envelope-only}
 use Rattle.manifest.specs.Manifest.{Listing, manifestAt}
-use Rattle.entry.specs.declared.File.{File}
-use Rattle.manifest.specs.Answer.{answerFor, padded, blankFile}
-use Rattle.manifest.specs.Writing.{Said, saidIn, saidOf, manifestOf, listed, manifestVerdict}
+use Rattle.manifest.specs.Answer.{answerFor, padded}
+use Rattle.manifest.specs.Writing.{Said, saidIn, saidOf, manifestOf, manifestVerdict, Typed}
 use Rattle.manifest.specs.declared.Manifest.{Manifest}
-use Rattle.manifest.proofs.Rounds.{Typed, manifest-back, manifest-only, manifest-within, manifest-steps, listed-value}
+use Rattle.manifest.proofs.Rounds.{manifest-back, manifest-only, manifest-within, manifest-steps, listed-value}
+use Rattle.manifest.proofs.Answers.{padded-long}
 use Rattle.manifest.proofs.Parts.{created-only}
 use Rattle.manifest.proofs.Lengths.{verdict-fit}
 use Rattle.auth.specs.Auth.{Claim, authAt, authOf, authVerdict}
 use Rattle.auth.proofs.Lengths.{auth-length}
 use Rattle.auth.proofs.Rounds.{auth-back, auth-only}
-use Rattle.shard.specs.Shard.{Shard, shardAt, shardVerdict}
+use Rattle.shard.specs.Shard.{Shard, shardAt}
 use Rattle.shard.proofs.Rounds.{shard-written-back, shard-again}
 use Rattle.promises.specs.Formats.{Slice, Exact, Enclosed, envelopes, manifests, Auth, auths, Share, shards}
 use Rattle.promises.proofs.Formats.{unplaced-got, got-unplaced, refuses}
@@ -72,17 +70,13 @@ envelopes-exact = record {
 listed-back : (v : Said) (s : List ℕ) → manifests .Writes v s → (p : Listing) × (manifests .read s ≡ fine p) × (saidIn s p ≡ v)
 listed-back v s (pool, m, typed, said, e) = let r = manifest-back pool m typed e in (r .0, got-unplaced (r .1), r .2 ∙ said)
 
-padded-length : (fs : List File) → length fs ≤ 64 → length (padded fs) ≡ 64
-unfolding padded
-padded-length fs h = omega (arith, length-append fs (replicate (64 - length fs) blankFile), length-replicate (64 - length fs) blankFile)
-
 -- the value that was read, with the input as its pool, is what is written
 listed-only : (s : List ℕ) (p : Listing) → Slice s → manifests .read s ≡ fine p → manifests .Writes (saidIn s p) s
 listed-only s p y e =
     let g = unplaced-got (manifestAt s) p e in
     let w = manifest-within s (g .1) in
     let d = created-only (y .0) (manifest-steps s (g .1) .ended .created-read) in
-    let typed : Typed (valueOf p) = record { array = padded-length (p .files) (w .1); bits = d .2 } in
+    let typed : Typed (valueOf p) = record { array = padded-long (p .files) (w .1); bits = d .2 } in
     (s, valueOf p, typed, ap (saidIn s) (listed-value p), sym (ap (λ (m : Manifest). manifestVerdict s m) (ap (λ r. answerFor r .value) (g .1))) ∙ manifest-only (y .0) (g .1) .2)
   where
     valueOf : Listing → Manifest

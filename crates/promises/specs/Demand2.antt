@@ -8,8 +8,7 @@ use lib.ListN.{length}
 use Rattle.wire.specs.Number.{Bytes}
 use Rattle.wire.specs.Writing.{Verdict, bytes}
 use Rattle.text.specs.Text.{Form, base64, zbase32}
-use Rattle.page.specs.Page.{documentId, pageCount, pageData, pageVerdict, typed, joined}
-use Rattle.page.proofs.Round.{Printed}
+use Rattle.page.specs.Page.{documentId, pageCount, pageData, pageVerdict, Printed, typed, joined}
 use Rattle.slip.specs.Slip.{keyFrame, authFrame}
 use Rattle.envelope.specs.Placed.{fine}
 use Rattle.promises.specs.Formats.{Format, Exact, Frame, frames, texts, envelopes, manifests, auths, shards}

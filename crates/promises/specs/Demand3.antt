@@ -8,7 +8,6 @@
 use mathlib.Core.Path.{_≡_}
 use mathlib.Core.List.{List}
 use Prim.Native.Nat.{ℕ}
-use lib.ListN.{length}
 use Rattle.wire.specs.Answer.{refused}
 use Rattle.state.specs.State.{Book}
 use Rattle.state.specs.Take.{Page}

@@ -8,7 +8,7 @@ use Rattle.wire.specs.Writing.{bytes, fault}
 use Rattle.varint.specs.Varint.{varint, varintAt}
 use Rattle.text.specs.Text.{Form, base64, zbase32, readText, textOf}
 use Rattle.frame.specs.Layout.{layout}
-use Rattle.frame.proofs.Allowed.{Allowed}
+use Rattle.frame.specs.Allowed.{Allowed}
 
 pub data Example : Type 0 where
   -- a number is these bytes; these bytes are refused

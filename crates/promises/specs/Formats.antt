@@ -9,14 +9,13 @@ use Rattle.wire.specs.Writing.{Verdict, bytes, fault}
 use Rattle.text.specs.Text.{Form, readText, textOf, kept}
 use Rattle.frame.specs.Frame as F
 use Rattle.frame.specs.Layout.{layout}
-use Rattle.frame.proofs.Allowed.{Allowed}
+use Rattle.frame.specs.Allowed.{Allowed}
 use Rattle.cover.specs.Cover.{Cover, manifestOf, payloadOf}
 use Rattle.envelope.specs.Placed.{Placed, fine, faulty, unplaced}
 use Rattle.envelope.specs.Envelope.{envelopeAt, verdict}
 use Rattle.manifest.specs.Manifest.{Listing, manifestAt}
-use Rattle.manifest.specs.Writing.{Said, saidIn, listed, manifestVerdict}
+use Rattle.manifest.specs.Writing.{Said, saidIn, listed, manifestVerdict, Typed}
 use Rattle.manifest.specs.declared.Manifest.{Manifest}
-use Rattle.manifest.proofs.Rounds.{Typed}
 use Rattle.auth.specs.Auth.{Claim, authAt, authVerdict}
 use Rattle.shard.specs.Shard.{Shard, shardAt, shardVerdict}
 use Rattle.shard.specs.declared.Quorum.{Quorum}

@@ -1,23 +1,22 @@
 -- Hex digits, one by one and in a line. Assumes nothing.
 use Prim.Native.Nat.{ℕ, zero, suc, _+_, _-_, _*_, _≤_, _<_}
 use mathlib.Core.Path.{_≡_, refl, sym, _∙_}
-use mathlib.Core.Bool.{Bool, true, false, not, _&&_}
+use mathlib.Core.Bool.{Bool, true, false, not}
 use mathlib.Core.List.{List, [], _∷_}
 use native.Mathlib.Numerals.{add-one}
 use native.Mathlib.Omega.{arith}
 use borrow.Author.Tests.{le-leb, lt-leb, lt-ltb, le-ltb, ltb-true, eq-eqb, ne-eqb, not-true, not-false}
 use mir.Syntax.{w8}
 use mir.Val.{Fits}
-use lib.Dec.{ltb, leb, eqb}
+use lib.Dec.{ltb}
 use lib.ListN.{length, drop, getD, drop-of-length-le}
 use lib.Seq.{drop-cons}
-use Rattle.wire.specs.Answer.{choose}
 use Rattle.wire.specs.Over.{over}
-use Rattle.wire.specs.Writing.{Verdict, bytes, fault, Written}
+use Rattle.wire.specs.Writing.{bytes, Written}
 use Rattle.wire.specs.declared.Wrote.the-variants.{Done, Refused}
 use Rattle.wire.proofs.Cases.{both-hold}
 use Rattle.wire.proofs.Writes.{written, no-room, denied}
-use Rattle.scan.specs.Id.{hexValue, allHex, pairAt, eightOf, idVerdict}
+use Rattle.scan.specs.Id.{hexValue, allHex, eightOf, idVerdict}
 
 module _ (b : ℕ) where
   pub below-figures : b < 0x30 → (_≡_ {A = ℕ} 16 (hexValue b)) × (_≤_ 16 16)

@@ -1,25 +1,24 @@
 -- One line: a scan, or the document id. Assumes nothing.
-use Prim.Native.Nat.{ℕ, _+_, _-_, _*_, _/_, _%_, _^_, _≤_, _<_}
-use mathlib.Core.Path.{_≡_, refl, sym, ap, _∙_}
-use mathlib.Core.Logic.{_⊎_, inl, inr, ⊎-elim}
-use mathlib.Core.Bool.{Bool, true, false, _&&_}
-use mathlib.Core.List.{List, []}
+use Prim.Native.Nat.{ℕ, _-_, _*_, _/_, _%_, _^_, _≤_, _<_}
+use mathlib.Core.Path.{_≡_, sym, ap, _∙_}
+use mathlib.Core.Logic.{_⊎_, ⊎-elim}
+use mathlib.Core.Bool.{_&&_}
+use mathlib.Core.List.{List}
 use native.Mathlib.Nat.{sub-zero}
 use native.Mathlib.Omega.{arith}
 use borrow.Author.Tests.{le-leb, lt-leb}
-use lib.Dec.{eqb, leb}
-use lib.ListN.{length, take, drop}
-use Rattle.wire.specs.Number.{digits, number}
-use Rattle.wire.specs.Over.{over}
+use lib.Dec.{eqb}
+use lib.ListN.{length, take}
+use Rattle.wire.specs.Number.{number}
 use Rattle.wire.specs.Writing.{Verdict, bytes, fault, Written}
 use Rattle.wire.specs.declared.Wrote.{Wrote}
 use Rattle.wire.specs.declared.Wrote.the-variants.{Done, Refused}
 use Rattle.wire.proofs.Digits.{length-digits}
 use Rattle.wire.proofs.Overs.{over-all, read-over}
-use Rattle.wire.proofs.Writes.{passed, escaped, bytes-injective, Stood, done-stood, refused-why}
+use Rattle.wire.proofs.Writes.{passed, escaped, bytes-injective, done-stood, refused-why}
 use Rattle.text.specs.Text.{base64, values, below, readValues, readText, leftover}
 use Rattle.text.proofs.Characters.{length-values}
-use Rattle.collection.specs.Collection.{Answer, bytesAfter, opening, offering, Kept}
+use Rattle.collection.specs.Collection.{Answer, bytesAfter, offering, Kept}
 use Rattle.scan.specs.Id.{allHex, eightOf, idVerdict}
 use Rattle.scan.specs.Session.{offered, scanned}
 use Rattle.scan.proofs.Hex.{length-eight}

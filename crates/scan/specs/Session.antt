@@ -1,6 +1,5 @@
 -- What the small program does with the bytes that it reads: document 01, "What crosses the pier".
 use Prim.Native.Nat.{ℕ, _+_}
-use mathlib.Core.Path.{_≡_}
 use mathlib.Core.List.{List, [], _∷_}
 use lib.Dec.{eqb, ltb, leb}
 use lib.ListN.{length, take}

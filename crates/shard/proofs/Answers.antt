@@ -1,12 +1,11 @@
--- What `read` answers is fixed by its contract, and how a chain of items goes on from a shard's parts. Assumes nothing.
+-- The answer of `read` says no more than 01, and how a chain of items goes on from a shard's parts. Assumes nothing.
 use Prim.Native.Nat.{ℕ}
-use mathlib.Core.Path.{_≡_, refl, sym, ap, _∙_}
-use mathlib.Core.List.{List}
+use mathlib.Core.Path.{_≡_, refl, ap}
 use Rattle.wire.specs.Answer.{Got, refused, then, numberOf}
-use Rattle.wire.proofs.Stands.{got-value, got-next}
-use Rattle.cbor.proofs.Answers.{go, stop}
+use Rattle.wire.proofs.Branch.{go, stop}
+use Rattle.wire.proofs.Cases.{got-value, got-next}
 use Rattle.auth.proofs.Answers.{claims}
-use Rattle.shard.specs.Shard.{Shard, shardAt}
+use Rattle.shard.specs.Shard.{Shard}
 use Rattle.shard.specs.Answer.{shardTold, contentTold, quorumTold}
 use Rattle.shard.specs.declared.Content.{Content}
 use Rattle.shard.specs.declared.Quorum.{Quorum}
@@ -31,10 +30,6 @@ shard-injective (shard.Value a b c d e i) (shard.Value u v w x y j) h =
 shard-injective (shard.Value a b c d e i) (shard.Refused n) h = cc
 shard-injective (shard.Refused m) (shard.Value u v w x y j) h = cc
 shard-injective (shard.Refused m) (shard.Refused n) h = cc
-
--- two answers that keep the contract of `read` are equal
-pub read-once : (s : List ℕ) (r q : ShardRead) → shardTold r ≡ shardAt s → shardTold q ≡ shardAt s → r ≡ q
-read-once s r q a b = shard-injective r q (a ∙ sym b)
 
 -- for `search`: a part of a shard in a chain of items
 module _ {B : Type 0} (g : Got Content) (f : Content → ℕ → Got B) where

@@ -12,10 +12,10 @@ use Rattle.wire.specs.Answer.{got}
 use Rattle.wire.specs.Number.{Bytes}
 use Rattle.wire.specs.Writing.{bytes}
 use Rattle.wire.proofs.Cases.{passed, escaped, then-passed}
+use Rattle.wire.proofs.Standing.{Stands, stands-whole, stands-all, stands-first, stands-second, stands-join, stands-as}
 use Rattle.cbor.specs.Form.{stringFieldOf, numberFieldOf}
 use Rattle.cbor.specs.Item.{Place, partAt, oneAt, keyAt, numberAt, contentsAt, stringAt, stringFieldAt, numberFieldAt}
 use Rattle.cbor.specs.Names.{pubKey, sigKey, hashKey, typeKey, shareKey, lengthKey, versionKey, thresholdKey, shareCountKey, shareIndexKey}
-use Rattle.cbor.proofs.Standing.{Stands, stands-whole, stands-all, stands-first, stands-second, stands-join, stands-as}
 use Rattle.cbor.proofs.Within.{contents-within, string-field-within, number-field-within}
 use Rattle.cbor.proofs.Written.{Found, kind-bytes, kind-text, one-back, string-field-back, number-field-back}
 use Rattle.cbor.proofs.Only.{one-only, string-field-only, number-field-only}

@@ -1,27 +1,13 @@
--- For `search`: which case of a test the code's branches pick, and the tests of a share's size. Assumes nothing.
+-- For `search`: the tests of a share's size. Assumes nothing.
 use Prim.Native.Nat.{ℕ, _-_, _%_, _<_, _≤_}
 use mathlib.Core.Path.{_≡_, sym, _∙_}
 use mathlib.Core.Logic.{⊎-elim}
-use mathlib.Core.Bool.{Bool, true, false, _&&_, _||_}
+use mathlib.Core.Bool.{false}
 use native.Mathlib.Omega.{arith}
-use borrow.Author.Tests.{le-leb, lt-leb, eq-eqb, ne-eqb, not-true, not-false}
+use borrow.Author.Tests.{eq-eqb, ne-eqb}
 use lib.Dec.{eqb}
-use Rattle.wire.proofs.Cases.{flag, eq-or-ne}
+use Rattle.wire.proofs.Cases.{eq-or-ne}
 use Rattle.shard.specs.Shard.{padded}
-
-pub and-on : (t u r : Bool) → t ≡ true → r ≡ u → r ≡ (t && u)
-and-on t u r e h = rw e h
-
-pub and-off : (t u : Bool) → t ≡ false → false ≡ (t && u)
-and-off t u e = rw e
-
-pub or-on : (t u : Bool) → t ≡ true → true ≡ (t || u)
-or-on t u e = rw e
-
-pub or-off : (t u r : Bool) → t ≡ false → r ≡ u → r ≡ (t || u)
-or-off t u r e h = rw e h
-
-pub ruleset tests = (and-on, and-off, or-on, or-off, flag, not-true, not-false, le-leb, lt-leb, eq-eqb, ne-eqb)
 
 -- a share is the whole blocks of 16 that hold len
 module _ (share len : ℕ) where

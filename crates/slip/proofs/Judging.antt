@@ -5,9 +5,9 @@ use mathlib.Core.List.{List}
 use borrow.Author.Tests.{eq-eqb, ne-eqb, le-leb, lt-leb}
 use lib.ListN.{length}
 use Rattle.wire.specs.Answer.{Got, got, refused, numberOf}
-use Rattle.wire.specs.Writing.{Verdict, bytes, fault, Written}
+use Rattle.wire.specs.Writing.{bytes, Written}
 use Rattle.wire.specs.declared.Wrote.{Wrote}
-use Rattle.wire.specs.declared.Wrote.the-variants.{Done, Refused}
+use Rattle.wire.specs.declared.Wrote.the-variants.{Refused}
 use Rattle.wire.proofs.Writes.{denied}
 use Rattle.frame.specs.Layout.{layout}
 use Rattle.wire.specs.Over.{over}

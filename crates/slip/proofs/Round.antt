@@ -1,17 +1,17 @@
 -- What such a frame carries reads back, and only what the payload's reader accepts is carried. Assumes nothing.
 use Prim.Native.Nat.{ℕ, _≤_}
-use mathlib.Core.Path.{_≡_, refl, sym, _∙_}
-use mathlib.Core.Logic.{inl, inr}
+use mathlib.Core.Path.{_≡_, refl, sym}
+use mathlib.Core.Logic.{inr}
 use mathlib.Core.List.{List}
 use native.Mathlib.Omega.{arith}
 use borrow.Author.Tests.{eqb-true, leb-true}
 use lib.Dec.{eqb, leb}
 use lib.ListN.{length}
 use Rattle.wire.specs.Answer.{Got, got, refused}
-use Rattle.wire.specs.Writing.{Verdict, bytes, fault}
+use Rattle.wire.specs.Writing.{bytes}
 use Rattle.wire.proofs.Writes.{passed, bytes-injective}
 use Rattle.frame.specs.Layout.{layout}
-use Rattle.frame.proofs.Allowed.{Kind, Allowed}
+use Rattle.frame.specs.Allowed.{Kind, Allowed}
 use Rattle.frame.proofs.ReadsBack.{ReadsAs, reads-back}
 use Rattle.slip.specs.Slip.{carried, slip}
 

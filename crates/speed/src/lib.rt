@@ -1,9 +1,13 @@
-// The checksum and the digests for a C program to call: what bench/run measures. Nothing of the product stands on this crate.
+// The checksum, the digests and base64 for a C program to call: what bench/run measures. Nothing of the product stands on this crate.
 ghost use mathlib.Core.Path.{_≡_};
 ghost use Rattle.wire.specs.Over.{over};
+ghost use Rattle.wire.specs.Writing.{bytes, roomed, outcome, after, told};
+ghost use Rattle.text.specs.Text.{base64, textOf, readText};
 ghost use Rattle.crc.specs.Crc as C;
 ghost use Rattle.sha256.specs.Sha as S;
 ghost use Rattle.blake2b.specs.Blake2b as B;
+ghost use Rattle.speed.specs.Count as N;
+use wire::Wrote;
 
 #[no_mangle]
 pub extern "C" fn speed_crc32(s: &[u8]) -> u32
@@ -26,4 +30,30 @@ pub extern "C" fn speed_blake2b(s: &[u8], out: &mut [u8])
 {
     let hash = blake2b::blake2b(s);
     lend::copy(out, 0, &hash);
+}
+
+// How many bytes stand in the output: none where the call was refused.
+fn count(r: Wrote) -> usize
+    ensures { λ n. ⌜ n ≡ N.count (told r) ⌝ }
+{
+    match r {
+        Wrote::Done { len } => len,
+        Wrote::Refused { no: _ } => 0,
+    }
+}
+
+#[no_mangle]
+pub extern "C" fn speed_base64_read(text: &[u8], out: &mut [u8]) -> usize
+    ensures { λ r. ⌜ r ≡ N.count (outcome (roomed 0 (now (out .entry)) (readText base64 (now (text .entry))))) ⌝ }
+    ensures { λ _. ⌜ now (out .exit) ≡ after 0 (now (out .entry)) (roomed 0 (now (out .entry)) (readText base64 (now (text .entry)))) ⌝ }
+{
+    count(text::base64_read(text, out))
+}
+
+#[no_mangle]
+pub extern "C" fn speed_base64_write(s: &[u8], out: &mut [u8]) -> usize
+    ensures { λ r. ⌜ r ≡ N.count (outcome (roomed 0 (now (out .entry)) (bytes (textOf base64 (now (s .entry)))))) ⌝ }
+    ensures { λ _. ⌜ now (out .exit) ≡ after 0 (now (out .entry)) (roomed 0 (now (out .entry)) (bytes (textOf base64 (now (s .entry))))) ⌝ }
+{
+    count(text::base64_write(s, out))
 }

@@ -14,8 +14,8 @@ use Rattle.wire.proofs.Cases.{lt-or-le}
 use Rattle.state.specs.State.{Slot, absent, held, disputed, dataOf, Book, empty, collecting, disagree}
 use Rattle.state.specs.Take.{Page}
 use Rattle.state.specs.Meaning.{SlotIs, BookIs}
-use Rattle.state.specs.Complete.{TwoTotals, OneVersion, TwoVersions, Present, Missing, Complete, FirstDisputed, FirstMissing, FinishIs}
-use Rattle.state.specs.Finish.{isAbsent, isDisputed, lowest, joined, Finish, whole, lacking, finishPages, finishBook}
+use Rattle.state.specs.Complete.{OneVersion, TwoVersions, Present, Missing, Complete, FirstDisputed, FirstMissing, FinishIs}
+use Rattle.state.specs.Finish.{isAbsent, isDisputed, lowest, joined, whole, lacking, finishPages, finishBook}
 use Rattle.state.proofs.Valid.{ValidPages, Valid}
 use Rattle.state.proofs.Counts.{lowest-has, lowest-lacks}
 

@@ -10,7 +10,7 @@ use lib.ListN.{length, take, drop, getD, set, length-append, replicate}
 use lib.Seq.{take-suc, drop-cons, length-take-le}
 use Rattle.wire.specs.Answer.{choose}
 use Rattle.wire.specs.Number.{Bytes}
-use Rattle.wire.proofs.Stands.{bytes-none, bytes-append}
+use Rattle.wire.proofs.Digits.{bytes-none, bytes-append}
 use Rattle.state.specs.State.{Slot, absent, held, disputed, dataOf}
 use Rattle.state.specs.Finish.{isAbsent, isHeld, isDisputed, lowest, count, joined}
 use Rattle.state.proofs.Valid.{EachData, Short}

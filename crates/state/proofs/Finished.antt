@@ -9,7 +9,7 @@ use lib.Seq.{ext-getD, length-take-le}
 use borrow.Author.Tests.{lt-ltb, le-ltb}
 use Rattle.wire.specs.Number.{Bytes}
 use Rattle.wire.proofs.Cases.{lt-or-le}
-use Rattle.wire.proofs.Stands.{bytes-none}
+use Rattle.wire.proofs.Digits.{bytes-none}
 use Rattle.state.specs.State.{Slot, dataOf, Book, empty, collecting, disagree, noPages}
 use Rattle.state.specs.Take.{Page, takePage}
 use Rattle.state.specs.Meaning.{BookIs}

@@ -11,11 +11,11 @@ use lib.Dec.{eqb}
 use borrow.Author.Tests.{eqb-true, eqb-false}
 use Rattle.wire.specs.Answer.{choose}
 use Rattle.lend.specs.Same.{same}
-use Rattle.lend.proofs.Sames.{same-eq}
+use Rattle.lend.proofs.Sames.{same-eq, same-false}
 use Rattle.state.specs.State.{Slot, absent, held, disputed, Book, empty, collecting, disagree, noPages}
 use Rattle.state.specs.Take.{Page, joinSlot, joinSlots, takePage, joinBook}
 use Rattle.state.specs.Meaning.{SlotIs, BookIs}
-use Rattle.state.proofs.Slots.{same-false, getD-none, length-none, getD-joins, length-joins, set-joins}
+use Rattle.state.proofs.Slots.{getD-none, length-none, getD-joins, length-joins, set-joins}
 
 -- the pages of one set or the other
 abbrev pub either : (Page → Type 0) → (Page → Type 0) → Page → Type 0

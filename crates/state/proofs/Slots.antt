@@ -1,6 +1,6 @@
 -- Slots and lists of slots: joining two, and no slot held.
 use mathlib.Core.Path.{_≡_, refl, sym, ap, ap₂, _∙_}
-use mathlib.Core.Bool.{Bool, true, false, false≢true}
+use mathlib.Core.Bool.{Bool, true, false}
 use mathlib.Core.List.{List, [], _∷_}
 use Prim.Native.Nat.{ℕ, zero, suc, _<_}
 use native.Mathlib.Omega.{arith}
@@ -8,22 +8,9 @@ use lib.ListN.{length, getD, set, length-set, replicate, length-replicate}
 use lib.Seq.{ext-getD, getD-set-same, getD-set-other}
 use lib.Dec.{eqb}
 use borrow.Author.Tests.{eqb-true, eqb-false}
-use Rattle.lend.specs.Same.{same}
-use Rattle.lend.proofs.Sames.{same-eq, same-refl}
+use Rattle.lend.proofs.Sames.{same-refl, same-ne}
 use Rattle.state.specs.State.{Slot, absent, held, disputed, noPages}
 use Rattle.state.specs.Take.{joinSlot, joinSlots}
-
--- lists that `same` tells apart differ
-pub same-false : (d e : List ℕ) → same d e ≡ false → d ≡ e → ⊥
-same-false d e f g = false≢true (sym f ∙ ap (same d) (sym g) ∙ same-refl d)
-
--- lists that differ are told apart by `same`
-pub same-ne : (d e : List ℕ) → (d ≡ e → ⊥) → same d e ≡ false
-same-ne d e n = go (same d e) refl
-  where
-    go : (w : Bool) → same d e ≡ w → same d e ≡ false
-    go true f = absurd (n (same-eq d e f))
-    go false f = f
 
 -- ---- one slot joined to another
 

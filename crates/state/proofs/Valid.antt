@@ -10,7 +10,7 @@ use lib.Dec.{eqb}
 use borrow.Author.Tests.{eqb-true}
 use Rattle.wire.specs.Answer.{choose}
 use Rattle.wire.specs.Number.{Bytes}
-use Rattle.wire.proofs.Stands.{bytes-none}
+use Rattle.wire.proofs.Digits.{bytes-none}
 use Rattle.lend.specs.Same.{same}
 use Rattle.state.specs.State.{Slot, absent, held, disputed, dataOf, Book, empty, collecting, disagree, noPages}
 use Rattle.state.specs.Take.{Page, joinSlot, joinSlots, takePage, joinBook}

@@ -1,6 +1,5 @@
 -- What a collection says of a SET of pages: the mission's third demand. No order and no count stands here: S is any set of pages.
 use mathlib.Core.Path.{_≡_}
-use mathlib.Core.List.{List}
 use Prim.Native.Nat.{ℕ}
 use lib.ListN.{length, getD}
 use Rattle.state.specs.State.{Slot, absent, held, disputed, Book, empty, collecting, disagree}

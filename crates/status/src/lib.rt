@@ -52,17 +52,6 @@ fn first(out: &mut [u8], at: usize, lowest: u8, total: u8) -> usize
     at + 8
 }
 
-// A whole line at the front of out.
-fn line(text: &[u8], out: &mut [u8]) -> Wrote
-    ensures { λ r. ⌜ Written 0 (bytes (now (text .entry))) (now (out .entry)) (now (out .exit)) r ⌝ }
-{
-    if out.len() < text.len() {
-        return Wrote::Refused { no: wire::NO_ROOM };
-    }
-    lend::copy(out, 0, text);
-    Wrote::Done { len: text.len() }
-}
-
 // The line of a collection that has pages.
 fn pages_line(c: &[u8], total: u8, out: &mut [u8]) -> Wrote
     ensures { λ r. ⌜ Written 0 (bytes (pagesLine total (readPages 0 total (now (c .entry))))) (now (out .entry)) (now (out .exit)) r ⌝ }
@@ -79,7 +68,7 @@ fn pages_line(c: &[u8], total: u8, out: &mut [u8]) -> Wrote
     let f = first(&mut room, e, lowest, total);
     lend::put(&mut room, f, b'\n');
     let end = f + 1;
-    line(&room[0..end], out)
+    lend::give(&room[0..end], out)
 }
 
 // The line of a refusal: of a collection that is not well formed, and of a program that refuses its input.
@@ -90,7 +79,7 @@ pub fn refused_line(no: u8, out: &mut [u8]) -> Wrote
     let at = named(&mut room, 0, b"refused ", no);
     lend::put(&mut room, at, b'\n');
     let end = at + 1;
-    line(&room[0..end], out)
+    lend::give(&room[0..end], out)
 }
 
 // The status line at the front of out.
@@ -102,10 +91,10 @@ pub fn status(c: &[u8], out: &mut [u8]) -> Wrote
     }
     let state = c[3];
     if state == book::EMPTY {
-        return line(b"empty\n", out);
+        return lend::give(b"empty\n", out);
     }
     if state != book::COLLECTING {
-        return line(b"totals disagree\n", out);
+        return lend::give(b"totals disagree\n", out);
     }
     pages_line(c, c[12], out)
 }

@@ -1,21 +1,21 @@
 -- Writing character by character: what has been written of bytes, and one character more. Assumes nothing.
 use Prim.Native.Nat.{ℕ, zero, suc, _+_, _-_, _*_, _/_, _%_, _^_, _≤_, _<_}
 use mathlib.Core.Path.{_≡_, refl, sym, ap, _∙_}
-use mathlib.Core.Logic.{_⊎_, inl, inr, ⊎-elim}
+use mathlib.Core.Logic.{_⊎_, ⊎-elim}
 use mathlib.Core.Bool.{Bool, true, false}
 use mathlib.Core.List.{List, [], _∷_, _++_, map}
-use native.Mathlib.Nat.{mul-le-mul-left, mul-assoc, add-zero, div-one, pow-zero, mul-one, mul-suc}
+use native.Mathlib.Nat.{mul-le-mul-left, mul-assoc, add-zero, div-one, mul-one, mul-suc}
 use native.Mathlib.Numerals.{add-one}
 use native.Mathlib.Omega.{arith}
-use borrow.Author.Tests.{leb-true, leb-false, le-leb, lt-leb}
-use lib.Dec.{leb, lit<}
+use borrow.Author.Tests.{leb-true, leb-false}
+use lib.Dec.{leb}
 use lib.ListN.{length, take, getD, length-append, List·getD-append, List·getD-eq-default}
 use lib.Pow.{pow-add, shl-shr}
 use lib.Seq.{take-all, take-suc, take-append-seam, length-take-le, getD-append-add}
 use Rattle.wire.specs.Answer.{choose}
-use Rattle.wire.specs.Number.{digits, number, Digits, Bytes}
+use Rattle.wire.specs.Number.{digits, number, Bytes}
 use Rattle.wire.proofs.Cases.{lt-or-le}
-use Rattle.wire.proofs.Digits.{number-snoc, small-snoc}
+use Rattle.wire.proofs.Digits.{number-snoc}
 use Rattle.text.specs.Text.{characters, filling, letter, textOf}
 use Rattle.text.specs.Parts.{Narrow, formOf, refilled}
 use Rattle.text.specs.declared.write.Source.{Source}

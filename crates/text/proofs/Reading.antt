@@ -1,18 +1,18 @@
 -- Reading character by character: what has been read of a text, and one character more. Assumes nothing.
-use Prim.Native.Nat.{ℕ, suc, _+_, _-_, _*_, _/_, _%_, _^_, _≤_, _<_}
+use Prim.Native.Nat.{ℕ, suc, _+_, _-_, _*_, _/_, _^_, _≤_, _<_}
 use mathlib.Core.Path.{_≡_, refl, sym, ap, _∙_}
 use mathlib.Core.Bool.{Bool, true, false}
-use mathlib.Core.List.{List, [], _∷_, _++_, append-nil, append-assoc}
+use mathlib.Core.List.{List, [], _∷_, _++_, append-nil}
 use native.Mathlib.Nat.{mul-le-mul-left, mul-le-mul-right}
 use native.Mathlib.Numerals.{add-one}
 use native.Mathlib.Omega.{arith}
-use borrow.Author.Tests.{ltb-true, ltb-false, lt-ltb, le-ltb}
+use borrow.Author.Tests.{ltb-true, ltb-false}
 use lib.Dec.{ltb}
 use lib.ListN.{length, take, drop, getD, length-append, length-take, take-append-drop}
 use lib.Pow.{pow-pos}
 use lib.Seq.{take-all, take-suc, split-at}
 use Rattle.wire.specs.Answer.{choose}
-use Rattle.wire.specs.Number.{digits, number, Digits}
+use Rattle.wire.specs.Number.{Digits}
 use Rattle.wire.proofs.Digits.{length-digits, small-snoc}
 use Rattle.text.specs.Text.{skipped, kept, value, values, below, leftover}
 use Rattle.text.specs.Parts.{Narrow, formOf, fed, stepped, emitted, decoded, judged}

@@ -1,17 +1,16 @@
 -- What is written is read, and what is read was written. Assumes nothing.
 use Prim.Native.Nat.{ℕ, _+_, _*_, _/_, _%_, _^_, _<_}
 use mathlib.Core.Path.{_≡_, refl, sym, ap, _∙_}
-use mathlib.Core.Bool.{Bool, true, false}
 use mathlib.Core.List.{List, map}
 use native.Mathlib.Nat.{add-zero, mul-mod-left}
 use native.Mathlib.Omega.{arith}
 use borrow.Author.Tests.{lt-leb, leb-false, eq-eqb, eqb-true}
-use lib.Dec.{leb, eqb, lit<}
+use lib.Dec.{eqb, lit<}
 use lib.ListN.{length}
 use lib.Pow.{pow-pos, shl-lt, shr-lt, shl-shr, split}
 use Rattle.wire.specs.Answer.{choose}
 use Rattle.wire.specs.Number.{digits, number, Digits, Bytes}
-use Rattle.wire.specs.Writing.{Verdict, bytes, fault}
+use Rattle.wire.specs.Writing.{bytes, fault}
 use Rattle.wire.proofs.Digits.{length-digits, digits-small, number-digits, digits-number, number-lt}
 use Rattle.wire.proofs.Writes.{passed, escaped, bytes-injective}
 use Rattle.text.specs.Text.{Form, kept, value, values, below, leftover, characters, filling, letter, textOf, readValues, readText}

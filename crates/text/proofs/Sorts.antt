@@ -1,13 +1,13 @@
 -- What a table's entry says of a character. Assumes nothing.
-use Prim.Native.Nat.{ℕ, _+_, _^_, _≤_, _<_}
-use mathlib.Core.Path.{_≡_, refl, sym, ap, _∙_}
-use mathlib.Core.Logic.{_⊎_, inl, inr}
+use Prim.Native.Nat.{ℕ, _^_, _≤_, _<_}
+use mathlib.Core.Path.{_≡_, refl, _∙_}
+use mathlib.Core.Logic.{inl, inr}
 use mathlib.Core.Bool.{Bool, true, false}
 use native.Mathlib.Omega.{arith}
 use borrow.Author.Tests.{ltb-true}
 use lib.Dec.{ltb}
 use Rattle.wire.specs.Answer.{choose}
-use Rattle.text.specs.Text.{Form, base64, zbase32, skipped, value}
+use Rattle.text.specs.Text.{base64, zbase32, skipped, value}
 use Rattle.text.specs.Parts.{Narrow, formOf, sort, fed, stepped}
 use Rattle.text.specs.declared.read.Seen.{Seen}
 use Rattle.text.specs.declared.read.Step.the-variants.{On, Bad}

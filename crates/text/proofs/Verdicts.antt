@@ -1,5 +1,5 @@
 -- What was judged of a text, as 01's answer. Assumes nothing.
-use Prim.Native.Nat.{ℕ, suc, _+_, _*_, _/_, _%_, _^_, _≤_, _<_}
+use Prim.Native.Nat.{ℕ, _*_, _/_, _%_, _^_, _≤_, _<_}
 use mathlib.Core.Path.{_≡_, refl, sym, ap, _∙_}
 use mathlib.Core.Bool.{Bool, true, false}
 use mathlib.Core.List.{List}
@@ -9,8 +9,11 @@ use lib.Dec.{leb, eqb}
 use lib.ListN.{length}
 use Rattle.wire.specs.Answer.{choose}
 use Rattle.wire.specs.Number.{digits, number}
-use Rattle.wire.specs.Writing.{Verdict, bytes, fault}
+use Rattle.wire.specs.Over.{over}
+use Rattle.wire.specs.Writing.{bytes, fault, Written}
+use Rattle.wire.specs.declared.Wrote.the-variants.{Done, Refused}
 use Rattle.wire.proofs.Digits.{length-digits}
+use Rattle.wire.proofs.Writes.{written, no-room, denied}
 use Rattle.text.specs.Text.{values, below, leftover, readValues, readText}
 use Rattle.text.specs.Parts.{Narrow, formOf, decoded, judged}
 use Rattle.text.specs.declared.read.Judged.{Judged}
@@ -47,7 +50,7 @@ module _ (w : ℕ) (narrow : Narrow w) (cs : List ℕ) where
       go true p h = (p, cc, cc, cc)
       go false p h = let z : _≡_ {A = ℕ} 0 1 = cc in absurd (omega arith)
 
-  pub verdict-bad : Bad ≡ judged w cs → readText (formOf w) cs ≡ fault 1
+  verdict-bad : Bad ≡ judged w cs → readText (formOf w) cs ≡ fault 1
   unfolding judged
   verdict-bad e = answer ∙ go (below (2 ^ w) (values (formOf w) cs)) e
     where
@@ -57,22 +60,50 @@ module _ (w : ℕ) (narrow : Narrow w) (cs : List ℕ) where
       go false h = refl
 
   module _ (b c m : ℕ) (e : Good b c m ≡ judged w cs) where
-    pub verdict-count : w ≤ c → readText (formOf w) cs ≡ fault 2
+    verdict-count : w ≤ c → readText (formOf w) cs ≡ fault 2
     verdict-count h = let g = good-is b c m e in answer ∙ rw (g .0, le-leb w k (omega (arith, g .2)))
 
-    pub verdict-bits : c < w → (b ≡ 0 → ⊥) → readText (formOf w) cs ≡ fault 2
+    verdict-bits : c < w → (b ≡ 0 → ⊥) → readText (formOf w) cs ≡ fault 2
     verdict-bits h z =
         let g = good-is b c m e in
         answer ∙ rw (g .0, lt-leb w k (omega (arith, g .2)), ne-eqb (v % 2 ^ k) 0 (λ (q : v % 2 ^ k ≡ 0). z (g .1 ∙ q)))
 
-    pub verdict-good : c < w → b ≡ 0 → readText (formOf w) cs ≡ bytes (decoded w cs)
+    verdict-good : c < w → b ≡ 0 → readText (formOf w) cs ≡ bytes (decoded w cs)
     verdict-good h z =
         let g = good-is b c m e in
         answer ∙ rw (g .0, lt-leb w k (omega (arith, g .2)), eq-eqb (v % 2 ^ k) 0 (sym (g .1) ∙ z))
 
-    pub verdict-below : below (2 ^ w) (values (formOf w) cs) ≡ true
+    verdict-below : below (2 ^ w) (values (formOf w) cs) ≡ true
     verdict-below = good-is b c m e .0
 
-    pub verdict-length : m ≡ length (decoded w cs)
+    verdict-length : m ≡ length (decoded w cs)
     unfolding decoded n
     verdict-length = good-is b c m e .3 ∙ sym (length-digits 256 _ _)
+
+-- for `search`: what `read` answers, r being what was judged of the text cs
+module _ (w : ℕ) (narrow : Narrow w) (cs out : List ℕ) (r : Judged) (e : r ≡ judged w cs) where
+  pub read-bad : r ≡ Bad → Written 0 (readText (formOf w) cs) out out (Refused 1)
+  read-bad q = rw (verdict-bad w narrow cs (sym q ∙ e)) (denied 0 out 1)
+
+  module _ (b c m : ℕ) (q : r ≡ Good b c m) where
+    pub read-count : w ≤ c → Written 0 (readText (formOf w) cs) out out (Refused 2)
+    read-count h = rw (verdict-count w narrow cs b c m (sym q ∙ e) h) (denied 0 out 2)
+
+    pub read-below : below (2 ^ w) (values (formOf w) cs) ≡ true
+    read-below = verdict-below w narrow cs b c m (sym q ∙ e)
+
+    pub read-fits : m ≤ length out → length (decoded w cs) ≤ length out
+    read-fits l = omega (arith, verdict-length w narrow cs b c m (sym q ∙ e))
+
+    module _ (h : c < w) where
+      pub read-bits : (b ≡ 0 → ⊥) → Written 0 (readText (formOf w) cs) out out (Refused 2)
+      read-bits z = rw (verdict-bits w narrow cs b c m (sym q ∙ e) h z) (denied 0 out 2)
+
+      pub read-short : b ≡ 0 → length out < m → Written 0 (readText (formOf w) cs) out out (Refused 11)
+      read-short z l =
+          rw (verdict-good w narrow cs b c m (sym q ∙ e) h z) (no-room 0 out (decoded w cs) (omega (arith, verdict-length w narrow cs b c m (sym q ∙ e))))
+
+      pub read-done : (out' : List ℕ) → b ≡ 0 → m ≤ length out → out' ≡ over 0 (decoded w cs) out → Written 0 (readText (formOf w) cs) out out' (Done m)
+      read-done out' z l o =
+          rw (verdict-good w narrow cs b c m (sym q ∙ e) h z)
+          (written 0 out (decoded w cs) out' m (omega (arith, read-fits l)) (verdict-length w narrow cs b c m (sym q ∙ e)) o)

@@ -8,11 +8,12 @@ use native.Mathlib.Nat.{pow-suc, one-le-pow}
 use native.Mathlib.Omega.{arith}
 use borrow.Author.Tests.{lt-ltb, le-ltb, ne-eqb, ltb-true, ltb-false, eqb-false}
 use lib.Dec.{ltb, eqb, lit<}
-use lib.ListN.{length, take, drop, length-append, length-drop}
-use lib.Seq.{take-at, drop-at, drop-drop, getD-drop}
+use lib.ListN.{length, drop, length-append, length-drop}
+use lib.Seq.{drop-at, getD-drop}
 use Rattle.wire.specs.Answer.{choose, Got, got, refused}
 use Rattle.wire.specs.Number.{Bytes}
 use Rattle.wire.proofs.Cases.{lt-or-le, not-got, escaped}
+use Rattle.wire.proofs.Standing.{Stands, stands-at, stands-as}
 use Rattle.varint.specs.Varint.{sevens, varint, onto, ending, tenth, laterFrom, varintFrom, varintAt}
 use Rattle.varint.proofs.Sevens.{sevens-last, sevens-more, sevens-ind}
 use Rattle.varint.proofs.Lengths.{varint-length}
@@ -148,34 +149,15 @@ from-was i (b ∷ bs) n next y h = go (ltb b 128) refl h
         let r = later-was 8 (i + 1) bs (t .0) next (λ (j : ℕ). y (suc j)) (t .1) in
         (starts-more 8 i b n next bs (t .0) l (y 0) (t .2) (r .1) (r .0), omega (arith, t .2, r .2))
 
--- the number v stands in s from position at to before position next, in its one form
-pub record Stands (s : List ℕ) (at v next : ℕ) : Type 0 where
-  pub below : v < 2 ^ 64
-  pub ends : next ≡ at + length (varint v)
-  pub within : next ≤ length s
-  pub form : take (length (varint v)) (drop at s) ≡ varint v
-  pub split : drop at s ≡ varint v ++ drop next s
-
 -- what is read is the written form of its value
-pub read-stands : (s : List ℕ) (at v next : ℕ) → Bytes s → varintAt s at ≡ got v next → Stands s at v next
+pub read-stands : (s : List ℕ) (at v next : ℕ) → Bytes s → varintAt s at ≡ got v next → Stands s at (varint v) next × (v < 2 ^ 64)
 unfolding varintAt
 read-stands s at v next y h =
     let t = from-was at (drop at s) v next (λ (j : ℕ). rw (getD-drop at s j 0) (y (at + j))) h in
     let f = t .0 in
-    let e : f .rest ≡ drop next s =
-    sym (drop-at (varint v) (f .rest) (length (varint v)) refl)
-    ∙ ap (drop (length (varint v))) (sym (f .front))
-    ∙ drop-drop (length (varint v)) at s
-    ∙ ap (λ (k : ℕ). drop k s) (sym (f .ends)) in
     let k : length s - at ≡ length (varint v) + length (f .rest) = sym (length-drop at s) ∙ ap length (f .front) ∙ length-append (varint v) (f .rest) in
-    record {
-      below = t .1;
-      ends = f .ends;
-      within = omega (arith, f .ends, varint-length v);
-      form = rw (f .front) (take-at (varint v) (f .rest) (length (varint v)) refl);
-      split = f .front ∙ ap (λ (r : List ℕ). varint v ++ r) e;
-    }
+    (stands-as refl (sym (f .ends)) (stands-at s at (varint v) (f .rest) (omega (arith, varint-length v)) (f .front)), t .1)
 
 -- and what stands there in that form is read
-pub stands-read : (s : List ℕ) (at v next : ℕ) → Stands s at v next → varintAt s at ≡ got v next
-stands-read s at v next h = reads-at s (drop next s) at v (h .below) (h .split) ∙ ap (got v) (sym (h .ends))
+pub stands-read : (s : List ℕ) (at v next : ℕ) → Stands s at (varint v) next → v < 2 ^ 64 → varintAt s at ≡ got v next
+stands-read s at v next h l = reads-at s (drop next s) at v l (h .split) ∙ ap (got v) (sym (h .ends))

@@ -3,6 +3,7 @@ use wire::Wrote;
 ghost use mathlib.Core.Path.{_≡_};
 ghost use Prim.Native.Nat.{_+_, _*_, _^_, _<_, _≤_};
 ghost use lib.ListN.{length, drop};
+ghost use Rattle.wire.specs.Answer.{numberOf};
 ghost use Rattle.wire.specs.Over.{over};
 ghost use Rattle.wire.specs.Writing.{bytes, Written};
 ghost use Rattle.varint.specs.Varint.{varint, onto, ending, tenth, laterFrom, varintAt};
@@ -13,6 +14,16 @@ pub enum VarintRead {
     Value { n: u64, next: usize },
     // 01's number of the refusal.
     Refused { no: u8 },
+}
+
+// The number of a refusal, for a caller's `else`.
+pub fn varint_no(r: VarintRead) -> u8
+    ensures { λ n. ⌜ n ≡ numberOf (told r) ⌝ }
+{
+    match r {
+        VarintRead::Value { n: _, next: _ } => 0,
+        VarintRead::Refused { no } => no,
+    }
 }
 
 fn wide(x: u8) -> u64

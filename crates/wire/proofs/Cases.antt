@@ -1,11 +1,11 @@
 -- Cases of a test, and what a reader that succeeded passed.
 use Prim.Native.Nat.{ℕ, _<_, _≤_}
-use mathlib.Core.Path.{_≡_, refl, sym, _∙_}
+use mathlib.Core.Path.{_≡_, refl, sym, ap₂, _∙_}
 use mathlib.Core.Logic.{_⊎_, inl, inr}
-use mathlib.Core.Bool.{Bool, true, false, _&&_, false≢true}
+use mathlib.Core.Bool.{Bool, true, false, not, _&&_, false≢true}
 use native.Mathlib.Omega.{arith}
-use lib.Dec.{ltb, leb, eqb}
-use borrow.Author.Tests.{ltb-true, ltb-false, eqb-true, eqb-false}
+use lib.Dec.{ltb, eqb}
+use borrow.Author.Tests.{ltb-true, ltb-false, eqb-true, eqb-false, not-true, not-false}
 use Rattle.wire.specs.Answer.{choose, Got, got, refused, then}
 
 pub lt-or-le : (a b : ℕ) → (a < b) ⊎ (b ≤ a)
@@ -43,9 +43,25 @@ module _ {A : Type 0} where
   then-passed (got b next) f h = (b, next, refl, h)
   then-passed (refused e) f h = not-got h
 
+-- the value and the position of what was read
+pub got-value : {A : Type 0} {x y : A} {m n : ℕ} → got x m ≡ got y n → x ≡ y
+got-value e = cc
+
+pub got-next : {A : Type 0} {x y : A} {m n : ℕ} → got x m ≡ got y n → m ≡ n
+got-next e = cc
+
+pub got-as : {A : Type 0} {g : Got A} {x y : A} {m n : ℕ} → g ≡ got x m → x ≡ y → m ≡ n → g ≡ got y n
+got-as e p q = e ∙ ap₂ got p q
+
 -- what a call answered, and what a test said of the answer
 pub flag : (r t b : Bool) → r ≡ t → r ≡ b → t ≡ b
 flag r t b p q = sym p ∙ q
+
+pub said-yes : (r t : Bool) → r ≡ t → not r ≡ false → t ≡ true
+said-yes r t e h = sym e ∙ not-false r h
+
+pub said-no : (r t : Bool) → r ≡ t → not r ≡ true → t ≡ false
+said-no r t e h = sym e ∙ not-true r h
 
 -- both tests of a conjunction held
 pub both-hold : (a b : Bool) → (a && b) ≡ true → (a ≡ true) × (b ≡ true)

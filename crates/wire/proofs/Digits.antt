@@ -11,7 +11,7 @@ use lib.Pow.{shr-shr}
 use lib.ListN.{length, take, drop, getD, length-append, List·getD-append, List·getD-eq-default}
 use lib.Seq.{getD-at, take-all, take-suc, length-take-le, getD-take, getD-drop}
 use lib.Dec.{lit<}
-use Rattle.wire.specs.Number.{digits, numberFrom, number, littleEndian, Digits}
+use Rattle.wire.specs.Number.{digits, numberFrom, number, littleEndian, Digits, Bytes}
 use Rattle.wire.proofs.Cases.{lt-or-le}
 
 pub length-digits : (base k n : ℕ) → length (digits base k n) ≡ k
@@ -136,3 +136,17 @@ small-take base zero ds all i = omega (arith, all 0)
 small-take base (suc k) [] all i = all i
 small-take base (suc k) (d ∷ ds) all zero = all 0
 small-take base (suc k) (d ∷ ds) all (suc i) = small-take base k ds (λ j. all (suc j)) i
+
+-- ---- bytes put together
+
+pub bytes-none : Bytes []
+bytes-none i = omega arith
+
+pub bytes-cons : (b : ℕ) (bs : List ℕ) → b < 256 → Bytes bs → Bytes (b ∷ bs)
+bytes-cons b bs h t zero = h
+bytes-cons b bs h t (suc i) = t i
+
+pub bytes-append : (xs ys : List ℕ) → Bytes xs → Bytes ys → Bytes (xs ++ ys)
+bytes-append [] ys x y i = y i
+bytes-append (b ∷ xs) ys x y zero = x 0
+bytes-append (b ∷ xs) ys x y (suc i) = bytes-append xs ys (λ (j : ℕ). x (suc j)) y i

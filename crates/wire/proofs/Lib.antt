@@ -2,5 +2,5 @@ pub mod Branch
 pub mod Cases
 pub mod Digits
 pub mod Overs
-pub mod Stands
+pub mod Standing
 pub mod Writes

@@ -10,9 +10,11 @@ use lib.Dec.{leb}
 use lib.ListN.{length}
 use Rattle.wire.specs.Answer.{choose}
 use Rattle.wire.specs.Over.{over}
-use Rattle.wire.specs.Writing.{Verdict, bytes, fault, Outcome, wrote, failed, told, outcome, roomed, after, Written}
+use Rattle.wire.specs.Writing.{Verdict, bytes, fault, wrote, failed, told, outcome, roomed, after, Written}
 use Rattle.wire.specs.declared.Wrote.{Wrote}
 use Rattle.wire.specs.declared.Wrote.the-variants.{Done, Refused}
+use Rattle.wire.proofs.Cases.{lt-or-le}
+use Rattle.wire.proofs.Overs.{over-out}
 
 -- the enum says no more than 01's answer does
 pub told-injective : (r q : Wrote) → told r ≡ told q → r ≡ q
@@ -38,6 +40,14 @@ module _ (at : ℕ) (out : List ℕ) where
   -- a refusal that comes before the output is looked at
   pub denied : (e : ℕ) → Written at (fault e) out out (Refused e)
   denied e = record { answer = refl; output = refl }
+
+-- a writer's promise for given bytes is one write, whether they fit or not
+pub written-over : (at : ℕ) (bs out out' : List ℕ) (r : Wrote) → Written at (bytes bs) out out' r → out' ≡ over at bs out
+written-over at bs out out' r w = w .output ∙ go (lt-or-le (length out) (at + length bs))
+  where
+    go : (length out < at + length bs) ⊎ (at + length bs ≤ length out) → after at out (roomed at out (bytes bs)) ≡ over at bs out
+    go (inl o) = rw (lt-leb (at + length bs) (length out) o) (sym (over-out at bs out o))
+    go (inr f) = rw (le-leb (at + length bs) (length out) f)
 
 -- a verdict that gives bytes passed its tests
 bytes-not-fault : {P : Type 0} {bs : List ℕ} {e : ℕ} → fault e ≡ bytes bs → P

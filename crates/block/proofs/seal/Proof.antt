@@ -17,20 +17,17 @@ returns-2 c = sum-out _ _ (omega arith)
 add-end : tie.Need-add-end
 add-end c = search needs
 
-sub-crc32 : tie.Need-sub-crc32
-sub-crc32 c = search needs
+sub-sum : tie.Need-sub-sum
+sub-sum c = search needs
 
-part-crc32-start : tie.Need-part-crc32-start
-part-crc32-start c = search needs
+part-sum-start : tie.Need-part-sum-start
+part-sum-start c = search needs
 
-part-crc32-end : tie.Need-part-crc32-end
-part-crc32-end c = search needs
+part-sum-end : tie.Need-part-sum-end
+part-sum-end c = search needs
 
-crc32-requires : tie.Need-crc32-requires
-crc32-requires c κs = search needs
-
-big-endian-requires : tie.Need-big-endian-requires
-big-endian-requires c κs = search needs
+sum-requires : tie.Need-sum-requires
+sum-requires c κs = search needs
 
 slice-aggregate-copy : tie.Need-slice-aggregate-copy
 slice-aggregate-copy c = search needs
@@ -52,11 +49,10 @@ seal-spec =
     sub-if2
     returns-2
     add-end
-    sub-crc32
-    part-crc32-start
-    part-crc32-end
-    crc32-requires
-    big-endian-requires
+    sub-sum
+    part-sum-start
+    part-sum-end
+    sum-requires
     slice-aggregate-copy
     copy-requires
     same-length

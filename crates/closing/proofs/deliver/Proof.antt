@@ -17,7 +17,9 @@ refusal-requires : tie.Need-refusal-requires
 refusal-requires c κs = search needs
 
 returns : tie.Need-returns
-returns c = no-room _ _ _ _ _ (c .before .before .before .before .before .before .before .pre .1) (c .before .before .before .gather .ensures) _ (c .refusal .ensures) (c .before .if1 .taken)
+returns c =
+    let gathered = c .before .before .before in
+    no-room _ _ _ _ _ (gathered .before .before .before .before .pre .1) (gathered .gather .ensures) _ (c .refusal .ensures) (c .before .if1 .taken)
 
 sub-document-id : tie.Need-sub-document-id
 sub-document-id c = search needs
@@ -27,8 +29,8 @@ part-document-id-start c = search needs
 
 part-document-id-end : tie.Need-part-document-id-end
 part-document-id-end c =
-    let g = c .before .before .before .gather in
-    omega (arith, aside-most _ [] _ _ _ (c .before .before .before .before .before .before .before .pre .1) (g .ensures), g .kept)
+    let gathered = c .before .before .before in
+    omega (arith, aside-most _ [] _ _ _ (gathered .before .before .before .before .pre .1) (gathered .gather .ensures), gathered .gather .kept)
 
 document-id-requires : tie.Need-document-id-requires
 document-id-requires c κs = search needs
@@ -53,10 +55,11 @@ refusal-requires-2 c κs = search needs
 
 returns-2 : tie.Need-returns-2
 returns-2 c =
-    let d = c .before .before .before .before .before in
-    let f = d .before .before .before in
-    let g = f .before .before in
-    other-id _ _ _ _ _ (g .before .before .before .before .pre .1) (g .gather .ensures) (f .if1 .left) _ _ (d .document-id .ensures) (c .before .before .equal .ensures) _ (c .refusal2 .ensures) (not-true _ (c .before .if2 .taken))
+    let compared = c .before .before in
+    let named = compared .before .before .before in
+    let fits = named .before .before .before in
+    let gathered = fits .before .before in
+    other-id _ _ _ _ _ (gathered .before .before .before .before .pre .1) (gathered .gather .ensures) (fits .if1 .left) _ _ (named .document-id .ensures) (compared .equal .ensures) _ (c .refusal2 .ensures) (not-true _ (c .before .if2 .taken))
 
 sub-copy : tie.Need-sub-copy
 sub-copy c = search needs
@@ -66,8 +69,8 @@ part-copy-start c = search needs
 
 part-copy-end : tie.Need-part-copy-end
 part-copy-end c =
-    let g = c .before .before .before .before .before .before .before .before .before .before .before .gather in
-    omega (arith, aside-most _ [] _ _ _ (c .before .before .before .before .before .before .before .before .before .before .before .before .before .before .before .pre .1) (g .ensures), g .kept)
+    let gathered = c .before .before .before .before .before .before .before .before .before .before .before in
+    omega (arith, aside-most _ [] _ _ _ (gathered .before .before .before .before .pre .1) (gathered .gather .ensures), gathered .gather .kept)
 
 copy-requires : tie.Need-copy-requires
 copy-requires c κs = search needs
@@ -77,10 +80,13 @@ same-length c = search needs
 
 returns-3 : tie.Need-returns-3
 returns-3 c =
-    let d = c .before .before .before .before .before .before .before .before .before .before in
-    let f = d .before .before .before in
-    let g = f .before .before in
-    delivered _ _ _ _ _ (g .before .before .before .before .pre .1) (g .gather .ensures) (f .if1 .left) _ _ (d .document-id .ensures) (c .before .before .before .before .before .before .before .equal .ensures) _ (not-false _ (c .before .before .before .before .before .before .if2 .left)) (c .before .before .copy .ensures)
+    let copied = c .before .before in
+    let same = copied .before .before .before .before in
+    let compared = same .before in
+    let named = compared .before .before .before in
+    let fits = named .before .before .before in
+    let gathered = fits .before .before in
+    delivered _ _ _ _ _ (gathered .before .before .before .before .pre .1) (gathered .gather .ensures) (fits .if1 .left) _ _ (named .document-id .ensures) (compared .equal .ensures) _ (not-false _ (same .if2 .left)) (copied .copy .ensures)
 
 pub deliver-spec : {M : Type 1} → statement M
 deliver-spec =

@@ -6,8 +6,11 @@ use borrow.Author.Needs.{needs}
 use Rattle.cover.proofs.read.Statement.{statement}
 use Rattle.cover.proofs.read.Tie as tie
 
-magic-requires : tie.Need-magic-requires
-magic-requires c κs = search needs
+slice-aggregate-read : tie.Need-slice-aggregate-read
+slice-aggregate-read c = search needs
+
+read-requires : tie.Need-read-requires
+read-requires c κs = search needs
 
 enum-known-r1 : tie.Need-enum-known-r1
 enum-known-r1 c = search needs
@@ -15,15 +18,15 @@ enum-known-r1 c = search needs
 enum-told : tie.Need-enum-told
 enum-told c = search needs
 
-step-no-requires : tie.Need-step-no-requires
-step-no-requires c κs = search needs
+mark-no-requires : tie.Need-mark-no-requires
+mark-no-requires c κs = search needs
 
 returns : tie.Need-returns
 unfolding coverAt
 returns c = search chain depth 40
 
-version-requires : tie.Need-version-requires
-version-requires c κs = search needs
+chunk-requires : tie.Need-chunk-requires
+chunk-requires c κs = search needs
 
 enum-known-r2 : tie.Need-enum-known-r2
 enum-known-r2 c = search needs
@@ -31,15 +34,18 @@ enum-known-r2 c = search needs
 enum-told-2 : tie.Need-enum-told-2
 enum-told-2 c = search needs
 
-step-no-requires-2 : tie.Need-step-no-requires-2
-step-no-requires-2 c κs = search needs
+chunk-no-requires : tie.Need-chunk-no-requires
+chunk-no-requires c κs = search needs
 
 returns-2 : tie.Need-returns-2
 unfolding coverAt
 returns-2 c = search chain depth 40
 
-chunk-requires : tie.Need-chunk-requires
-chunk-requires c κs = search needs
+add-chunk : tie.Need-add-chunk
+add-chunk c = omega (arith, chunk-within _ _ _ _ _ (c .before .before .before .chunk .ensures) (c .before .r2 .given .1))
+
+chunk-requires-2 : tie.Need-chunk-requires-2
+chunk-requires-2 c κs = search needs
 
 enum-known-r3 : tie.Need-enum-known-r3
 enum-known-r3 c = search needs
@@ -47,68 +53,45 @@ enum-known-r3 c = search needs
 enum-told-3 : tie.Need-enum-told-3
 enum-told-3 c = search needs
 
-chunk-no-requires : tie.Need-chunk-no-requires
-chunk-no-requires c κs = search needs
+chunk-no-requires-2 : tie.Need-chunk-no-requires-2
+chunk-no-requires-2 c κs = search needs
 
 returns-3 : tie.Need-returns-3
 unfolding coverAt
 returns-3 c = search chain depth 40
 
-add-chunk : tie.Need-add-chunk
-add-chunk c = omega (arith, chunk-within _ _ _ _ _ (c .before .before .before .chunk .ensures) (c .before .r3 .given .1))
-
-chunk-requires-2 : tie.Need-chunk-requires-2
-chunk-requires-2 c κs = search needs
-
-enum-known-r4 : tie.Need-enum-known-r4
-enum-known-r4 c = search needs
-
-enum-told-4 : tie.Need-enum-told-4
-enum-told-4 c = search needs
-
-chunk-no-requires-2 : tie.Need-chunk-no-requires-2
-chunk-no-requires-2 c κs = search needs
+add-if1 : tie.Need-add-if1
+add-if1 c = omega (arith, chunk-within _ _ _ _ _ (c .before .before .before .chunk2 .ensures) (c .before .r3 .given .1))
 
 returns-4 : tie.Need-returns-4
 unfolding coverAt
 returns-4 c = search chain depth 40
 
-add-if1 : tie.Need-add-if1
-add-if1 c = omega (arith, chunk-within _ _ _ _ _ (c .before .before .before .chunk2 .ensures) (c .before .r4 .given .1))
-
 returns-5 : tie.Need-returns-5
 unfolding coverAt
 returns-5 c = search chain depth 40
-
-returns-6 : tie.Need-returns-6
-unfolding coverAt
-returns-6 c = search chain depth 40
 
 pub read-spec : {M : Type 1} → statement M
 read-spec =
     tie.close
     (tie.spec
-    magic-requires
+    slice-aggregate-read
+    read-requires
     enum-known-r1
     enum-told
-    step-no-requires
+    mark-no-requires
     returns
-    version-requires
+    chunk-requires
     enum-known-r2
     enum-told-2
-    step-no-requires-2
-    returns-2
-    chunk-requires
-    enum-known-r3
-    enum-told-3
     chunk-no-requires
-    returns-3
+    returns-2
     add-chunk
     chunk-requires-2
-    enum-known-r4
-    enum-told-4
+    enum-known-r3
+    enum-told-3
     chunk-no-requires-2
-    returns-4
+    returns-3
     add-if1
-    returns-5
-    returns-6)
+    returns-4
+    returns-5)

@@ -1,18 +1,20 @@
--- `lend::equal` meets its contract. The loop's invariant: the answer is that of what is left. Assumes nothing.
+-- `lend::equal` meets its contract. The loop's invariant: the answer is that of what was seen and of what is left. Assumes nothing.
 use Prim.Native.Nat.{_≤_, _-_}
 use native.Mathlib.Omega.{arith}
 use mathlib.Core.Path.{_≡_, refl, sym, _∙_}
+use mathlib.Core.Bool.{_&&_}
+use mathlib.Core.Logic.{⊎-elim}
 use lib.ListN.{length, drop}
 use Rattle.lend.specs.Same.{same}
-use Rattle.lend.proofs.Sames.{same-lengths, same-step, same-stop, same-end}
+use Rattle.lend.proofs.Sames.{same-lengths, alike-stop, alike-step, alike-end}
 use Rattle.lend.proofs.equal.Statement.{statement}
 use Rattle.lend.proofs.equal.Tie as tie
 
 abbrev Inv-loop : tie.InvT-loop
-Inv-loop a b i₀ i = (i ≤ length a) × (same a b ≡ same (drop i a) (drop i b))
+Inv-loop a b alike₀ i₀ alike i = (i ≤ length a) × (same a b ≡ (alike && same (drop i a) (drop i b)))
 
 abbrev μ-loop : tie.MeasureT-loop
-μ-loop a b i₀ i = length a - i
+μ-loop a b alike₀ i₀ alike i = length a - i
 
 returns : tie.Need-returns Inv-loop μ-loop
 returns c =
@@ -28,12 +30,6 @@ shared-slice-read-if2 c = omega arith
 shared-slice-read-if2-2 : tie.Need-shared-slice-read-if2-2 Inv-loop μ-loop
 shared-slice-read-if2-2 c = omega arith
 
-returns-2 : tie.Need-returns-2 Inv-loop μ-loop
-returns-2 c =
-    let l = c .before .before .before .before .loop in
-    let g = c .before .before .before .before .before .before .args in
-    sym (l .inv .1 ∙ same-stop (g .a .now) (g .b .now) (l .i) (omega arith) (omega arith) (c .if2 .taken))
-
 add-i : tie.Need-add-i Inv-loop μ-loop
 add-i c = omega arith
 
@@ -43,14 +39,19 @@ loop-less c = omega arith
 loop-again : tie.Need-loop-again Inv-loop μ-loop
 loop-again c =
     let l = c .before .before .before .before .loop in
-    let g = c .before .before .before .before .before .before .args in
-    (omega arith, l .inv .1 ∙ same-step (g .a .now) (g .b .now) (l .i) (omega arith) (omega arith) (c .if2 .left))
+    let g = c .before .before .before .before .before .before .args in (
+      omega arith,
+      ⊎-elim
+          (λ w. rw (w .1) (alike-stop (g .a .now) (g .b .now) (l .i) (l .alike) (omega arith) (omega arith) (w .0 .taken) (l .inv .1)))
+          (λ w. rw (w .1) (alike-step (g .a .now) (g .b .now) (l .i) (l .alike) (omega arith) (omega arith) (w .0 .left) (l .inv .1)))
+          (c .if2 .came),
+    )
 
-returns-3 : tie.Need-returns-3 Inv-loop μ-loop
-returns-3 c =
+returns-2 : tie.Need-returns-2 Inv-loop μ-loop
+returns-2 c =
     let l = c .before .loop in
     let g = c .before .before .before .args in
-    sym (l .inv .1 ∙ same-end (g .a .now) (g .b .now) (l .i) (omega arith) (omega arith))
+    alike-end (g .a .now) (g .b .now) (l .i) (l .alike) (omega arith) (omega arith) (l .inv .1)
 
 pub equal-spec : {M : Type 1} → statement M
 equal-spec =
@@ -62,8 +63,7 @@ equal-spec =
     loop-holds
     shared-slice-read-if2
     shared-slice-read-if2-2
-    returns-2
     add-i
     loop-less
     loop-again
-    returns-3)
+    returns-2)

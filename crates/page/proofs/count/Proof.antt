@@ -4,8 +4,6 @@ use borrow.Author.Needs.{needs}
 use Rattle.page.proofs.Counts.{nothing, no-size, large-size, too-many, few-enough}
 use Rattle.page.proofs.count.Statement.{statement}
 use Rattle.page.proofs.count.Tie as tie
-use Rattle.page.proofs.count.Reads as reads
-use Rattle.page.proofs.count.Lts as lts
 
 returns : tie.Need-returns
 returns c = let a = c .before .args in nothing (a .n) (a .size) (c .if1 .taken)

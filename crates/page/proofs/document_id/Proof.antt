@@ -8,9 +8,6 @@ use Rattle.page.specs.Page.{documentId}
 use Rattle.page.proofs.Counts.{first-eight}
 use Rattle.page.proofs.document_id.Statement.{statement}
 use Rattle.page.proofs.document_id.Tie as tie
-use Rattle.page.proofs.document_id.Reads as reads
-use Rattle.page.proofs.document_id.Lts as lts
-use Rattle.blake2b.proofs.blake2b.Reads as blake2b-reads
 
 blake2b-requires : tie.Need-blake2b-requires
 blake2b-requires c κs = search needs

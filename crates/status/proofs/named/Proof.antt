@@ -17,7 +17,10 @@ same-length : tie.Need-same-length
 same-length c = search needs
 
 returns : tie.Need-returns
-returns c = name-put _ _ _ _ _ _ _ (c .before .before .before .before .before .before .before .before .before .before .pre) (c .before .before .before .before .before .before .copy .ensures) (c .before .before .number .ensures)
+returns c =
+    let second = c .before .before in
+    let first = second .before .before .before .before in
+    name-put _ _ _ _ _ _ _ (first .before .before .before .before .pre) (first .copy .ensures) (second .number .ensures)
 
 pub named-spec : {M : Type 1} → statement M
 named-spec = tie.close (tie.spec copy-requires add-number number-requires same-length returns)

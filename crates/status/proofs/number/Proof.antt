@@ -18,7 +18,9 @@ same-length : tie.Need-same-length
 same-length c = search needs
 
 returns : tie.Need-returns
-returns c = one-put _ _ _ (c .before .before .before .before .before .before .pre) _ (omega arith) (c .before .before .put .ensures)
+returns c =
+    let first = c .before .before in
+    one-put _ _ _ (first .before .before .before .before .pre) _ (omega arith) (first .put .ensures)
 
 add-put-2 : tie.Need-add-put-2
 add-put-2 c = search needs
@@ -42,7 +44,10 @@ same-length-2 : tie.Need-same-length-2
 same-length-2 c = search needs
 
 returns-2 : tie.Need-returns-2
-returns-2 c = two-put _ _ _ (c .before .before .before .before .before .before .before .before .before .before .before .pre) _ _ (omega arith) (omega arith) (c .before .before .before .before .before .before .put2 .ensures) (c .before .before .put3 .ensures)
+returns-2 c =
+    let second = c .before .before in
+    let first = second .before .before .before .before in
+    two-put _ _ _ (first .before .before .before .before .before .pre) _ _ (omega arith) (omega arith) (first .put2 .ensures) (second .put3 .ensures)
 
 add-put-5 : tie.Need-add-put-5
 add-put-5 c = search needs
@@ -75,7 +80,11 @@ same-length-3 : tie.Need-same-length-3
 same-length-3 c = search needs
 
 returns-3 : tie.Need-returns-3
-returns-3 c = three-put _ _ _ (c .before .before .before .before .before .before .before .before .before .before .before .before .before .before .before .pre) _ _ _ (omega arith) (c .before .before .before .before .before .before .before .before .before .before .put4 .ensures) (c .before .before .before .before .before .before .put5 .ensures) (c .before .before .put6 .ensures)
+returns-3 c =
+    let third = c .before .before in
+    let second = third .before .before .before .before in
+    let first = second .before .before .before .before in
+    three-put _ _ _ (first .before .before .before .before .before .pre) _ _ _ (omega arith) (first .put4 .ensures) (second .put5 .ensures) (third .put6 .ensures)
 
 pub number-spec : {M : Type 1} → statement M
 number-spec =

@@ -68,32 +68,34 @@ put-requires c κs = search needs
 add-end : tie.Need-add-end
 add-end c = search needs
 
-sub-line : tie.Need-sub-line
-sub-line c = search needs
+sub-give : tie.Need-sub-give
+sub-give c = search needs
 
-part-line-start : tie.Need-part-line-start
-part-line-start c = search needs
+part-give-start : tie.Need-part-give-start
+part-give-start c = search needs
 
-part-line-end : tie.Need-part-line-end
-part-line-end c = search needs
+part-give-end : tie.Need-part-give-end
+part-give-end c = search needs
 
-line-requires : tie.Need-line-requires
-line-requires c κs = search needs
+give-requires : tie.Need-give-requires
+give-requires c κs = search needs
 
 same-length : tie.Need-same-length
 same-length c = search needs
 
 returns : tie.Need-returns
 returns c =
-    let f = c .before .before .before .before .before .before .before .before .before .before in
-    let j = f .before .before .before in
-    let i = j .before .before .before .before in
-    let h = i .before .before .before .before in
-    let p = h .before .before .before .before in
-    let n = p .before .before .before in
-    let laid = pages-laid _ _ _ _ _ _ _ _ _ _ _ _ _ _ _ _ (p .named .ensures) (h .named2 .ensures) (i .named3 .ensures) (j .named4 .ensures) (f .first .ensures) (c .before .before .before .before .before .before .before .put .ensures) in
+    let written = c .before .before in
+    let ended = written .before .before .before .before .before in
+    let first = ended .before .before .before in
+    let disputed = first .before .before .before in
+    let missing = disputed .before .before .before .before in
+    let held = missing .before .before .before .before in
+    let total = held .before .before .before .before in
+    let n = total .before .before .before in
+    let laid = pages-laid _ _ _ _ _ _ _ _ _ _ _ _ _ _ _ _ (total .named .ensures) (held .named2 .ensures) (missing .named3 .ensures) (disputed .named4 .ensures) (first .first .ensures) (ended .put .ensures) in
     let said = counted _ _ _ _ _ _ (n .before .before .before .count .ensures) (n .before .before .count2 .ensures) (n .before .count3 .ensures) (n .lowest .ensures) in
-    written-as _ _ _ _ _ (sym (laid ∙ said)) (c .before .before .line .ensures)
+    written-as _ _ _ _ _ (sym (laid ∙ said)) (written .give .ensures)
 
 pub pages-line-spec : {M : Type 1} → statement M
 pages-line-spec =
@@ -120,9 +122,9 @@ pages-line-spec =
     slice-aggregate-put
     put-requires
     add-end
-    sub-line
-    part-line-start
-    part-line-end
-    line-requires
+    sub-give
+    part-give-start
+    part-give-end
+    give-requires
     same-length
     returns)

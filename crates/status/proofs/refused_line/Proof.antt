@@ -23,24 +23,27 @@ put-requires c κs = search needs
 add-end : tie.Need-add-end
 add-end c = search needs
 
-sub-line : tie.Need-sub-line
-sub-line c = search needs
+sub-give : tie.Need-sub-give
+sub-give c = search needs
 
-part-line-start : tie.Need-part-line-start
-part-line-start c = search needs
+part-give-start : tie.Need-part-give-start
+part-give-start c = search needs
 
-part-line-end : tie.Need-part-line-end
-part-line-end c = search needs
+part-give-end : tie.Need-part-give-end
+part-give-end c = search needs
 
-line-requires : tie.Need-line-requires
-line-requires c κs = search needs
+give-requires : tie.Need-give-requires
+give-requires c κs = search needs
 
 same-length : tie.Need-same-length
 same-length c = search needs
 
 returns : tie.Need-returns
 returns c =
-    written-as _ _ _ _ _ (sym (refused-laid _ _ _ _ (c .before .before .before .before .before .before .before .before .before .before .named .ensures) (c .before .before .before .before .before .before .before .put .ensures))) (c .before .before .line .ensures)
+    let written = c .before .before in
+    let ended = written .before .before .before .before .before in
+    let said = ended .before .before .before in
+    written-as _ _ _ _ _ (sym (refused-laid _ _ _ _ (said .named .ensures) (ended .put .ensures))) (written .give .ensures)
 
 pub refused-line-spec : {M : Type 1} → statement M
 refused-line-spec =
@@ -52,9 +55,9 @@ refused-line-spec =
     slice-aggregate-put
     put-requires
     add-end
-    sub-line
-    part-line-start
-    part-line-end
-    line-requires
+    sub-give
+    part-give-start
+    part-give-end
+    give-requires
     same-length
     returns)

@@ -16,34 +16,34 @@ same-length : tie.Need-same-length
 same-length c = search needs
 
 returns : tie.Need-returns
-returns c = written-as _ _ _ _ _ (line-refused _ _ (c .before .before .before .before .before .well-formed .ensures) (not-true _ (c .before .before .before .before .if1 .taken))) (c .before .before .refused-line .ensures)
+returns c = search (written-as, line-refused, not-true)
 
 shared-slice-read-state : tie.Need-shared-slice-read-state
 shared-slice-read-state c = omega (arith, size-known _ _ (c .before .before .well-formed .ensures) (not-false _ (c .before .if1 .left)))
 
-slice-aggregate-line : tie.Need-slice-aggregate-line
-slice-aggregate-line c = search needs
+slice-aggregate-give : tie.Need-slice-aggregate-give
+slice-aggregate-give c = search needs
 
-line-requires : tie.Need-line-requires
-line-requires c κs = search needs
+give-requires : tie.Need-give-requires
+give-requires c κs = search needs
 
 same-length-2 : tie.Need-same-length-2
 same-length-2 c = search needs
 
 returns-2 : tie.Need-returns-2
-returns-2 c = written-as _ _ _ _ _ (line-empty _ _ (c .before .before .before .before .before .before .before .before .well-formed .ensures) (not-false _ (c .before .before .before .before .before .before .before .if1 .left)) (c .before .before .before .before .before .if2 .taken)) (c .before .before .line .ensures)
+returns-2 c = search (written-as, line-empty, not-false)
 
-slice-aggregate-line-2 : tie.Need-slice-aggregate-line-2
-slice-aggregate-line-2 c = search needs
+slice-aggregate-give-2 : tie.Need-slice-aggregate-give-2
+slice-aggregate-give-2 c = search needs
 
-line-requires-2 : tie.Need-line-requires-2
-line-requires-2 c κs = search needs
+give-requires-2 : tie.Need-give-requires-2
+give-requires-2 c κs = search needs
 
 same-length-3 : tie.Need-same-length-3
 same-length-3 c = search needs
 
 returns-3 : tie.Need-returns-3
-returns-3 c = written-as _ _ _ _ _ (line-disagree _ _ (c .before .before .before .before .before .before .before .before .before .well-formed .ensures) (not-false _ (c .before .before .before .before .before .before .before .before .if1 .left)) (c .before .before .before .before .before .before .if2 .left) (c .before .before .before .before .before .if3 .taken)) (c .before .before .line2 .ensures)
+returns-3 c = search (written-as, line-disagree, not-false)
 
 shared-slice-read-pages-line : tie.Need-shared-slice-read-pages-line
 shared-slice-read-pages-line c = omega (arith, size-known _ _ (c .before .before .before .before .before .well-formed .ensures) (not-false _ (c .before .before .before .before .if1 .left)))
@@ -55,7 +55,7 @@ same-length-4 : tie.Need-same-length-4
 same-length-4 c = search needs
 
 returns-4 : tie.Need-returns-4
-returns-4 c = written-as _ _ _ _ _ (line-pages _ _ (c .before .before .before .before .before .before .before .before .before .well-formed .ensures) (not-false _ (c .before .before .before .before .before .before .before .before .if1 .left)) (c .before .before .before .before .before .if3 .left)) (c .before .before .pages-line .ensures)
+returns-4 c = search (written-as, line-pages, not-false)
 
 pub status-spec : {M : Type 1} → statement M
 status-spec =
@@ -66,12 +66,12 @@ status-spec =
     same-length
     returns
     shared-slice-read-state
-    slice-aggregate-line
-    line-requires
+    slice-aggregate-give
+    give-requires
     same-length-2
     returns-2
-    slice-aggregate-line-2
-    line-requires-2
+    slice-aggregate-give-2
+    give-requires-2
     same-length-3
     returns-3
     shared-slice-read-pages-line

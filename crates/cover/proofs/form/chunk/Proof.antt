@@ -24,7 +24,11 @@ same-length : tie.Need-same-length
 same-length c = search needs
 
 returns : tie.Need-returns
-returns c = let s = c .before .before .before .before .before .before .before .before .before .before .before in chunk-laid _ _ _ _ _ _ _ (s .pre) (c .before .before .before .before .before .before .before .write .ensures) (c .before .before .before .before .size .ensures) (c .before .before .copy .ensures)
+returns c =
+    let copied = c .before .before in
+    let sized = copied .before .before in
+    let wrote = sized .before .before .before in
+    chunk-laid _ _ _ _ _ _ _ (wrote .before .before .before .before .pre) (wrote .write .ensures) (sized .size .ensures) (copied .copy .ensures)
 
 pub chunk-spec : {M : Type 1} → statement M
 chunk-spec =

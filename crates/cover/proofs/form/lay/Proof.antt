@@ -35,13 +35,18 @@ returns-3 : tie.Need-returns-3
 returns-3 c = lay-short _ _ _ _ _ (c .before .before .before .before .size .ensures) (c .before .before .before .size2 .ensures) (omega arith)
 
 lay-fitting-requires : tie.Need-lay-fitting-requires
-lay-fitting-requires c κs = lay-fits _ _ (c .before .before .before .before .before .before .before .before .before .args .out .now) _ _ (c .before .before .before .before .before .size .ensures) (c .before .before .before .before .size2 .ensures) (omega arith)
+lay-fitting-requires c κs =
+    let sized = c .before .before .before .before in
+    lay-fits _ _ (sized .before .before .before .before .before .args .out .now) _ _ (sized .before .size .ensures) (sized .size2 .ensures) (omega arith)
 
 same-length : tie.Need-same-length
 same-length c = search needs
 
 returns-4 : tie.Need-returns-4
-returns-4 c = lay-done _ _ _ _ _ (c .before .before .before .before .before .before .before .before .size .ensures) (c .before .before .before .before .before .before .before .size2 .ensures) (omega arith) _ _ (c .before .before .lay-fitting .ensures)
+returns-4 c =
+    let laid = c .before .before in
+    let sized = laid .before .before .before .before .before in
+    lay-done _ _ _ _ _ (sized .before .size .ensures) (sized .size2 .ensures) (omega arith) _ _ (laid .lay-fitting .ensures)
 
 pub lay-spec : {M : Type 1} → statement M
 lay-spec =

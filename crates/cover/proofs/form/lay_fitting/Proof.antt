@@ -5,21 +5,29 @@ use borrow.Author.Needs.{needs}
 use Rattle.cover.proofs.form.lay_fitting.Statement.{statement}
 use Rattle.cover.proofs.form.lay_fitting.Tie as tie
 
-opening-requires : tie.Need-opening-requires
-opening-requires c κs = let a = c .before .before .before .before .args in omega (arith, cover-length (a .manifest .now) (a .payload .now))
+slice-aggregate-lay : tie.Need-slice-aggregate-lay
+slice-aggregate-lay c = search needs
+
+lay-requires : tie.Need-lay-requires
+lay-requires c κs = search needs
 
 chunk-requires : tie.Need-chunk-requires
-chunk-requires c κs = let a = c .before .before .before .before .before .before .before .before .args in omega (arith, cover-length (a .manifest .now) (a .payload .now))
+chunk-requires c κs = let a = c .before .before .before .before .before .before .before .before .before .args in omega (arith, cover-length (a .manifest .now) (a .payload .now))
 
 chunk-requires-2 : tie.Need-chunk-requires-2
-chunk-requires-2 c κs = let a = c .before .before .before .before .before .before .before .before .before .before .before .before .args in omega (arith, cover-length (a .manifest .now) (a .payload .now))
+chunk-requires-2 c κs = let a = c .before .before .before .before .before .before .before .before .before .before .before .before .before .args in omega (arith, cover-length (a .manifest .now) (a .payload .now))
 
 same-length : tie.Need-same-length
 same-length c = search needs
 
 returns : tie.Need-returns
-returns c = let s = c .before .before .before .before .before .before .before .before .before .before .before .before .before .before .before in cover-laid _ _ _ (s .pre) _ _ _ _ _ (c .before .before .before .before .before .before .before .before .before .before .opening .ensures) (c .before .before .before .before .before .before .chunk .ensures) (c .before .before .chunk2 .ensures)
+returns c =
+    let third = c .before .before in
+    let second = third .before .before .before .before in
+    let first = second .before .before .before .before in
+    cover-laid _ _ _ (first .before .before .before .before .before .before .pre) _ _ _ _ _ (first .lay .ensures) (second .chunk .ensures) (third .chunk2 .ensures)
 
 pub lay-fitting-spec : {M : Type 1} → statement M
 lay-fitting-spec =
-    tie.close (tie.spec opening-requires chunk-requires chunk-requires-2 same-length returns)
+    tie.close
+    (tie.spec slice-aggregate-lay lay-requires chunk-requires chunk-requires-2 same-length returns)

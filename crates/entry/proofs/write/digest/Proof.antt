@@ -1,6 +1,7 @@
 -- `entry::write::digest` meets its contract: the place, then its length. Assumes nothing.
+use Rattle.wire.proofs.Branch.{and-off, and-on}
+use Rattle.wire.proofs.Cases.{said-no, said-yes}
 use Rattle.entry.specs.Writing.{digestIn}
-use Rattle.entry.proofs.Verdicts.{said-no, said-yes, and-no, and-on}
 use borrow.Author.Needs.{needs}
 use Rattle.entry.proofs.write.digest.Statement.{statement}
 use Rattle.entry.proofs.write.digest.Tie as tie
@@ -10,7 +11,7 @@ holds-requires c κs = search needs
 
 returns : tie.Need-returns
 unfolding digestIn
-returns c = search (and-no, said-no)
+returns c = search (and-off, said-no)
 
 returns-2 : tie.Need-returns-2
 unfolding digestIn

@@ -1,6 +1,7 @@
 -- `entry::write::path_fits` meets its contract: the place, the rule, the order. Assumes nothing.
+use Rattle.wire.proofs.Branch.{and-off}
+use Rattle.wire.proofs.Cases.{said-no}
 use Rattle.entry.specs.Writing.{pathIn}
-use Rattle.entry.proofs.Verdicts.{said-no, and-no}
 use Rattle.entry.proofs.Writers.{path-bad, path-decides}
 use borrow.Author.Needs.{needs}
 use Rattle.entry.proofs.write.path_fits.Statement.{statement}
@@ -11,7 +12,7 @@ holds-requires c κs = search needs
 
 returns : tie.Need-returns
 unfolding pathIn
-returns c = search (and-no, said-no)
+returns c = search (and-off, said-no)
 
 part-requires : tie.Need-part-requires
 part-requires c κs = search needs

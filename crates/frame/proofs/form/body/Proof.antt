@@ -21,8 +21,11 @@ same-length c = search needs
 
 returns : tie.Need-returns
 returns c =
-    let s = c .before .before .before .before .before .before .before .before .before .before .before .before .before .before .before in
-    body-laid (s .args .kind) (s .args .id .now) (s .args .index) (s .args .total) (s .args .contents .now) (s .args .out .now) (s .pre .0) _ _ _ _ (s .pre .1) (c .before .before .before .before .before .before .before .before .before .before .start .ensures) (c .before .before .before .before .before .before .numbers .ensures) (c .before .before .copy .ensures)
+    let third = c .before .before in
+    let second = third .before .before .before .before in
+    let first = second .before .before .before .before in
+    let pre = first .before .before .before .before .before .pre in
+    body-laid _ _ _ _ _ _ (pre .0) _ _ _ _ (pre .1) (first .start .ensures) (second .numbers .ensures) (third .copy .ensures)
 
 pub body-spec : {M : Type 1} → statement M
 body-spec =

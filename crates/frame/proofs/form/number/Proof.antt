@@ -1,7 +1,7 @@
 -- `frame::form::number` meets its contract: a varint that fits is one write. Assumes nothing.
 use native.Mathlib.Omega.{arith}
 use borrow.Author.Needs.{needs}
-use Rattle.wire.proofs.Stands.{written-over}
+use Rattle.wire.proofs.Writes.{written-over}
 use Rattle.frame.proofs.form.number.Statement.{statement}
 use Rattle.frame.proofs.form.number.Tie as tie
 

@@ -26,8 +26,10 @@ same-length c = search needs
 
 returns : tie.Need-returns
 returns c =
-    let s = c .before .before .before .before .before .before .before .before .before .before .before .before .before in
-    numbers-laid (s .args .index) (s .args .total) (s .args .len) (s .args .at) (s .args .out .now) _ _ _ _ _ _ (s .pre) (c .before .before .before .before .before .before .before .before .before .before .number .ensures) (c .before .before .before .before .before .before .number2 .ensures) (c .before .before .number3 .ensures)
+    let third = c .before .before in
+    let second = third .before .before .before .before in
+    let first = second .before .before .before .before in
+    numbers-laid _ _ _ _ _ _ _ _ _ _ _ (first .before .before .before .pre) (first .number .ensures) (second .number2 .ensures) (third .number3 .ensures)
 
 pub numbers-spec : {M : Type 1} → statement M
 numbers-spec =

@@ -6,14 +6,14 @@ use lib.Seq.{length-take-le}
 use Rattle.frame.proofs.form.seal.Statement.{statement}
 use Rattle.frame.proofs.form.seal.Tie as tie
 
-slice-reshare-prefix-of : tie.Need-slice-reshare-prefix-of
-slice-reshare-prefix-of c = search needs
+slice-reshare-prefix-sum : tie.Need-slice-reshare-prefix-sum
+slice-reshare-prefix-sum c = search needs
 
-slice-aggregate-of : tie.Need-slice-aggregate-of
-slice-aggregate-of c = sym (length-take-le _ _ (omega arith))
+slice-aggregate-sum : tie.Need-slice-aggregate-sum
+slice-aggregate-sum c = sym (length-take-le _ _ (omega arith))
 
-of-requires : tie.Need-of-requires
-of-requires c κs = search needs
+sum-requires : tie.Need-sum-requires
+sum-requires c κs = search needs
 
 slice-aggregate-copy : tie.Need-slice-aggregate-copy
 slice-aggregate-copy c = search needs
@@ -31,9 +31,9 @@ pub seal-spec : {M : Type 1} → statement M
 seal-spec =
     tie.close
     (tie.spec
-    slice-reshare-prefix-of
-    slice-aggregate-of
-    of-requires
+    slice-reshare-prefix-sum
+    slice-aggregate-sum
+    sum-requires
     slice-aggregate-copy
     copy-requires
     same-length

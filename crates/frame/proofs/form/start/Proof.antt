@@ -1,11 +1,14 @@
 -- `frame::form::start` meets its contract: writes in a row are one. Assumes nothing.
-use borrow.Author.Needs.{needs}
 use Rattle.frame.proofs.Laying.{start-laid}
+use borrow.Author.Needs.{needs}
 use Rattle.frame.proofs.form.start.Statement.{statement}
 use Rattle.frame.proofs.form.start.Tie as tie
 
-opening-requires : tie.Need-opening-requires
-opening-requires c κs = search needs
+slice-aggregate-lay : tie.Need-slice-aggregate-lay
+slice-aggregate-lay c = search needs
+
+lay-requires : tie.Need-lay-requires
+lay-requires c κs = search needs
 
 put-requires : tie.Need-put-requires
 put-requires c κs = search needs
@@ -20,4 +23,6 @@ returns : tie.Need-returns
 returns c = search start-laid
 
 pub start-spec : {M : Type 1} → statement M
-start-spec = tie.close (tie.spec opening-requires put-requires copy-requires same-length returns)
+start-spec =
+    tie.close
+    (tie.spec slice-aggregate-lay lay-requires put-requires copy-requires same-length returns)

@@ -18,19 +18,19 @@ returns-2 c = data-cut _ _ _ (λ e. omega arith)
 add-end : tie.Need-add-end
 add-end c = search needs
 
-stands-requires : tie.Need-stands-requires
-stands-requires c κs = search needs
+sum-stands-requires : tie.Need-sum-stands-requires
+sum-stands-requires c κs = search needs
 
 add-t10 : tie.Need-add-t10
 add-t10 c = search needs
 
 returns-3 : tie.Need-returns-3
-returns-3 c = data-stands _ _ _ (omega arith) (flag _ _ _ (c .before .stands .ensures) (c .if3 .taken))
+returns-3 c = data-stands _ _ _ (omega arith) (flag _ _ _ (c .before .sum-stands .ensures) (c .if3 .taken))
 
 returns-4 : tie.Need-returns-4
-returns-4 c = data-differs _ _ _ (omega arith) (flag _ _ _ (c .before .stands .ensures) (c .if3 .left))
+returns-4 c = data-differs _ _ _ (omega arith) (flag _ _ _ (c .before .sum-stands .ensures) (c .if3 .left))
 
 pub data-and-sum-spec : {M : Type 1} → statement M
 data-and-sum-spec =
     tie.close
-    (tie.spec sub-left returns returns-2 add-end stands-requires add-t10 returns-3 returns-4)
+    (tie.spec sub-left returns returns-2 add-end sum-stands-requires add-t10 returns-3 returns-4)

@@ -1,7 +1,7 @@
 -- `manifest::fields::finite_double` meets its contract. Assumes nothing.
+use Rattle.wire.proofs.Cases.{said-no, said-yes}
 use Rattle.manifest.specs.Manifest.{finiteAt}
 use Rattle.cbor.proofs.Answers.{chain}
-use Rattle.entry.proofs.Verdicts.{said-no, said-yes}
 use borrow.Author.Needs.{needs}
 use Rattle.manifest.proofs.fields.finite_double.Statement.{statement}
 use Rattle.manifest.proofs.fields.finite_double.Tie as tie

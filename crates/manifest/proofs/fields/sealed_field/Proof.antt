@@ -1,7 +1,7 @@
 -- `manifest::fields::sealed_field` meets its contract: the key, the byte, and that it agrees with the seed. Assumes nothing.
+use Rattle.wire.proofs.Cases.{said-no, said-yes}
 use Rattle.manifest.specs.Manifest.{sealedAt}
 use Rattle.cbor.proofs.Answers.{chain}
-use Rattle.entry.proofs.Verdicts.{said-no, said-yes}
 use borrow.Author.Needs.{needs}
 use Rattle.manifest.proofs.fields.sealed_field.Statement.{statement}
 use Rattle.manifest.proofs.fields.sealed_field.Tie as tie

@@ -1,5 +1,5 @@
 -- `shard::rule::content_fits` meets its contract: each test picks its case. Assumes nothing.
-use Rattle.shard.proofs.Tests.{tests}
+use Rattle.wire.proofs.Branch.{tests}
 use Rattle.shard.specs.Shard.{contentFits}
 use borrow.Author.Needs.{needs}
 use Rattle.shard.proofs.rule.content_fits.Statement.{statement}

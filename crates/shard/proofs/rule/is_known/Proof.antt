@@ -1,5 +1,5 @@
 -- `shard::rule::is_known` meets its contract: each comparison picks its case. Assumes nothing.
-use Rattle.shard.proofs.Tests.{tests}
+use Rattle.wire.proofs.Branch.{tests}
 use Rattle.shard.specs.Shard.{known}
 use borrow.Author.Needs.{needs}
 use Rattle.shard.proofs.rule.is_known.Statement.{statement}

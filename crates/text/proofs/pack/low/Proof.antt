@@ -1,7 +1,6 @@
 -- `text::pack::low` meets its contract. Assumes nothing.
 use mathlib.Core.Path.{ap}
 use Prim.Native.Nat.{ℕ, _%_}
-use native.Mathlib.Omega.{arith}
 use borrow.Author.Needs.{needs}
 use lib.Pow.{pow-pos}
 use Rattle.text.proofs.Packing.{one-shifted}

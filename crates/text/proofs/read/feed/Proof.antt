@@ -1,11 +1,11 @@
 -- `text::read::feed` meets its contract. Assumes nothing.
-use mathlib.Core.Path.{_≡_, refl}
+use mathlib.Core.Path.{_≡_}
 use mathlib.Core.Bool.{true, false}
 use Prim.Native.Nat.{ℕ, _+_, _-_, _*_, _/_, _%_, _^_, _≤_, _<_}
 use native.Mathlib.Omega.{arith}
 use borrow.Author.Needs.{needs}
 use borrow.Author.Tests.{lt-ltb, le-ltb}
-use Rattle.text.specs.Parts.{Narrow, fed}
+use Rattle.text.specs.Parts.{fed}
 use Rattle.text.specs.declared.read.Seen.{Seen}
 use Rattle.text.proofs.Counts.{narrow-bounds}
 use Rattle.text.proofs.Packing.{few, joined-lt, top-lt}

@@ -1,12 +1,10 @@
 -- `text::write::length_of` meets its contract: the groups come out whole. Assumes nothing.
-use mathlib.Core.Path.{_≡_, sym, ap, _∙_}
-use mathlib.Core.Logic.{_⊎_, inl, inr}
-use Prim.Native.Nat.{ℕ, _+_, _-_, _*_, _/_, _%_, _^_, _≤_, _<_}
+use mathlib.Core.Path.{_≡_}
+use mathlib.Core.Logic.{inl, inr}
+use Prim.Native.Nat.{ℕ, _+_, _-_, _*_, _/_, _%_, _^_, _<_}
 use native.Mathlib.Omega.{arith}
-use mir.Val.{Fits}
-use mir.Syntax.{w64}
 use Rattle.text.specs.Text.{characters}
-use Rattle.text.specs.Parts.{Narrow, formOf}
+use Rattle.text.specs.Parts.{Narrow}
 use Rattle.text.proofs.Counts.{narrow-bounds}
 use Rattle.text.proofs.Sorts.{form-width}
 use Rattle.text.proofs.write.length_of.Statement.{statement}

@@ -1,0 +1,23 @@
+-- What a frame and an envelope begin with, read and laid out: document 01, "Frames" (`41 50`, version 1) and, of the envelope, "CBOR payloads" (`41 59`, version).
+-- "Fields are read left to right and the first fault decides: 4, 5 or 7, .. and 3 wherever the input ends inside a field, before that field is judged."
+use Prim.Native.Nat.{ℕ}
+use mathlib.Core.List.{List, _++_}
+use lib.Dec.{ltb, eqb}
+use lib.ListN.{length, take}
+use Rattle.wire.specs.Answer.{choose, Got, got, refused, then}
+use Rattle.lend.specs.Same.{same}
+use Rattle.varint.specs.Varint.{varint, varintAt}
+
+-- version 1, else 5
+unfoldable pub versionAt : List ℕ → ℕ → Got Unit
+versionAt s at = then (varintAt s at) (λ version next. choose (eqb version 1) (got tt next) (refused 5))
+
+-- the magic, else 4, and the version behind it
+unfoldable pub markOf : List ℕ → List ℕ → Got Unit
+markOf magic s =
+    choose (ltb (length s) (length magic)) (refused 3)
+    (choose (same (take (length magic) s) magic) (versionAt s (length magic)) (refused 4))
+
+-- the same, laid out
+unfoldable pub marked : List ℕ → List ℕ
+marked magic = magic ++ varint 1

@@ -1,0 +1,127 @@
+// The pantry: it reads the document id and then scans, a line each, from standard input, and writes the ciphertext once every page is
+// there; until then it prints where the collection stands. With the name of a file as its argument it keeps the collection there between
+// runs. The work is done by `scan` and `shelf`; here are only the reading and the writing.
+mod file;
+
+use libc::STDIN_FILENO;
+use libc::STDOUT_FILENO;
+use scan::session;
+use scan::session::Session;
+use wire::Wrote;
+
+// How much one read asks for.
+const CHUNK: usize = 65_536;
+
+// Whether the input may go on, and where the session is.
+struct Turned {
+    more: bool,
+    session: Session,
+}
+
+// Reads once, and takes what came into the session. At the end of the input nothing comes.
+fn turn(s: Session, input: &mut [u8], line: &mut [u8], c: &mut [u8]) -> Turned {
+    let got = libc::read(STDIN_FILENO, input);
+    let n = io::count(got, input);
+    if n < 1 {
+        return Turned {
+            more: false,
+            session: s,
+        };
+    }
+    if n > input.len() {
+        return Turned {
+            more: false,
+            session: s,
+        };
+    }
+    let session = session::feed(&input[0..n], s, line, c);
+    Turned {
+        more: true,
+        session,
+    }
+}
+
+// A proved loop has to end, and nothing says that the input does: it counts down from a number that no run uses up.
+fn collect(input: &mut [u8], line: &mut [u8], c: &mut [u8]) -> Session {
+    let mut s = Session {
+        phase: session::WAITING,
+        len: 0,
+    };
+    let mut turns = u64::MAX;
+    while turns > 0 {
+        let t = turn(s, input, line, c);
+        s = t.session;
+        if !t.more {
+            return s;
+        }
+        turns -= 1;
+    }
+    s
+}
+
+// The session at the end of the input.
+fn scanned(c: &mut [u8]) -> Session {
+    let mut input = [0u8; CHUNK];
+    let mut line = [0u8; session::LINE_BUFFER];
+    let s = collect(&mut input, &mut line, c);
+    session::close(s, &line, c)
+}
+
+// Writes out what was laid in front of out.
+fn write(r: Wrote, out: &[u8]) {
+    let Wrote::Done { len } = r else {
+        return;
+    };
+    if len <= out.len() {
+        io::write_all(STDOUT_FILENO, &out[0..len]);
+    }
+}
+
+fn print(s: Session, c: &[u8]) {
+    let mut out = [0u8; shelf::MOST];
+    let r = shelf::answer(s, c, &mut out);
+    write(r, &out);
+}
+
+fn refuse(no: u8) {
+    let mut out = [0u8; 64];
+    let r = shelf::refused_line(no, 0, &mut out);
+    write(r, &out);
+}
+
+// The file is written before anything is printed: a ciphertext that came out is kept. Where the first line was no document id, the
+// file is not looked at.
+fn keep(name: &[u8], c: &mut [u8]) {
+    let s = scanned(c);
+    if s.phase != session::COLLECTING {
+        print(s, c);
+        return;
+    }
+    let no = file::keep(name, s, c);
+    if no != 0 {
+        refuse(no);
+        return;
+    }
+    print(s, c);
+}
+
+fn main() {
+    let mut c = [0u8; book::SIZE];
+    let words = os::arg_count();
+    if words < 2 {
+        let s = scanned(&mut c);
+        print(s, &c);
+        return;
+    }
+    let mut name = [0u8; libc::PATH_MAX];
+    let len = os::arg(1, &mut name);
+    if os::errno() != 0 {
+        refuse(wire::OUT_OF_RANGE);
+        return;
+    }
+    if 2 < words {
+        refuse(wire::OUT_OF_RANGE);
+        return;
+    }
+    keep(&name[..len], &mut c);
+}

@@ -1,0 +1,117 @@
+-- How long a sheet is at most, so that the room that the program lends always suffices: 11 is never its answer. Assumes nothing.
+use mathlib.Core.Path.{_≡_, refl, sym}
+use mathlib.Core.Logic.{⊎-elim}
+use mathlib.Core.Bool.{Bool, true, false}
+use mathlib.Core.List.{List}
+use Prim.Native.Nat.{ℕ, zero, suc, _+_, _*_, _≤_, _<_}
+use native.Mathlib.Nat.{suc-mul}
+use native.Mathlib.Omega.{arith}
+use borrow.Author.Tests.{le-leb, ltb-true}
+use lib.Dec.{ltb}
+use lib.ListN.{length, length-append}
+use Rattle.wire.specs.Answer.{choose}
+use Rattle.wire.specs.Writing.{bytes, fault, roomed}
+use Rattle.wire.proofs.Cases.{lt-or-le}
+use Rattle.text.specs.Text.{base64, zbase32, textOf}
+use Rattle.text.proofs.Forms.{base64-lawful, zbase32-lawful}
+use Rattle.text.proofs.Counts.{filled, filling-lt}
+use Rattle.page.specs.Page.{pageCount, pageFrame, Counted, pages, unprintable, countOf, joined}
+use Rattle.page.proofs.Typing.{frame-short}
+use Rattle.status.specs.Line.{decimal, lineFeed}
+use Rattle.status.proofs.Numbers.{decimal-one, decimal-two}
+use Rattle.sheet.specs.Sheet.{idLine, textLine, scanLine, placeLine, typedLines, scanSheet, typedSheet, printed, scanVerdict, typedVerdict, oneVerdict, placeVerdict}
+use Rattle.sheet.specs.Parts.{There}
+use Rattle.sheet.proofs.Ids.{id-line-length}
+use Rattle.sheet.proofs.Texts.{text-length, frame-there, page-short}
+use Rattle.sheet.proofs.Sheets.{total-is, total-most, page-there}
+
+decimal-short : (n : ℕ) → n < 100 → length (decimal n) ≤ 2
+decimal-short n h = ⊎-elim (λ a. rw (decimal-one n a) (omega arith)) (λ a. rw (decimal-two n a h) (omega arith)) (lt-or-le n 10)
+
+pub place-short : (k n : ℕ) → k < 100 → n < 100 → length (placeLine k n) ≤ 14
+unfolding placeLine
+place-short k n h l =
+    simp length-append (omega (arith, decimal-short k h, decimal-short n l))
+
+-- ---- the lines of a page that there is
+
+module _ (c : List ℕ) (k : ℕ) (t : There c k) where
+  -- the text of a code square: a line of at most 667 bytes, so never above 1,024
+  pub scan-text-short : length (textOf base64 (pageFrame c 480 k)) ≤ 667
+  unfolding base64
+  scan-text-short =
+      let n : ℕ = length (pageFrame c 480 k) in
+      let s : n ≤ 500 = frame-short c 480 k (pageFrame c 480 k) (frame-there c k t) in
+      rw (text-length base64 (pageFrame c 480 k)) (omega (arith, filled base64 base64-lawful n, filling-lt base64 base64-lawful n))
+
+  pub scan-line-short : length (scanLine c k) ≤ 668
+  unfolding scanLine textLine
+  scan-line-short = omega (arith, length-append (textOf base64 (pageFrame c 480 k)) lineFeed, scan-text-short)
+
+  pub typed-lines-short : pageCount (length c) 480 ≤ 96 → length (typedLines c k) ≤ 815
+  unfolding typedLines textLine
+  typed-lines-short m =
+      let p = place-short k (pageCount (length c) 480) (omega (arith, t .below)) (omega arith) in
+      simp length-append (omega (arith, page-short c k t zbase32 zbase32-lawful))
+
+-- ---- a sheet
+
+joined-short : (n b : ℕ) (g : ℕ → List ℕ) → ((k : ℕ) → k < n → length (g k) ≤ b) → length (joined n g) ≤ n * b
+unfolding joined
+joined-short zero b g h = omega arith
+joined-short (suc n) b g h =
+    omega (arith, length-append (joined n g) (g n), joined-short n b g (λ k l. h k (omega arith)), h n (omega arith), suc-mul n b)
+
+module _ (c : List ℕ) (n : ℕ) (h : pages n ≡ countOf (length c) 480) where
+  here : (k : ℕ) → k < pageCount (length c) 480 → There c k
+  here k l = page-there c n h k (omega (arith, total-is c n h))
+
+  few : pageCount (length c) 480 ≤ 96
+  few = omega (arith, total-is c n h, total-most c n h)
+
+  pub scan-sheet-short : length (scanSheet c) ≤ 64145
+  unfolding scanSheet
+  scan-sheet-short =
+      omega (arith, length-append (idLine c) (joined (pageCount (length c) 480) (scanLine c)), id-line-length c, joined-short (pageCount (length c) 480) 668 (scanLine c) (λ k l. scan-line-short c k (here k l)), few)
+
+  pub typed-sheet-short : length (typedSheet c) ≤ 78257
+  unfolding typedSheet
+  typed-sheet-short =
+      omega (arith, length-append (idLine c) (joined (pageCount (length c) 480) (typedLines c)), id-line-length c, joined-short (pageCount (length c) 480) 815 (typedLines c) (λ k l. typed-lines-short c k (here k l) few), few)
+
+-- ---- so the room of the program suffices
+
+module _ (c out : List ℕ) (room : 78257 ≤ length out) where
+  fits : (bs : List ℕ) → length bs ≤ 78257 → roomed 0 out (bytes bs) ≡ bytes bs
+  fits bs h = rw (le-leb (0 + length bs) (length out) (omega arith))
+
+  pub scan-room : roomed 0 out (scanVerdict c) ≡ scanVerdict c
+  unfolding scanVerdict
+  scan-room = go (countOf (length c) 480) refl
+    where
+      go : (k : Counted) → countOf (length c) 480 ≡ k → roomed 0 out (printed (scanSheet c) k) ≡ printed (scanSheet c) k
+      go (pages n) e = fits (scanSheet c) (omega (arith, scan-sheet-short c n (sym e)))
+      go (unprintable f) e = refl
+
+  pub typed-room : roomed 0 out (typedVerdict c) ≡ typedVerdict c
+  unfolding typedVerdict
+  typed-room = go (countOf (length c) 480) refl
+    where
+      go : (k : Counted) → countOf (length c) 480 ≡ k → roomed 0 out (printed (typedSheet c) k) ≡ printed (typedSheet c) k
+      go (pages n) e = fits (typedSheet c) (typed-sheet-short c n (sym e))
+      go (unprintable f) e = refl
+
+  pub place-room : (k : ℕ) → roomed 0 out (placeVerdict c k) ≡ placeVerdict c k
+  unfolding placeVerdict
+  place-room k = go (countOf (length c) 480) refl
+    where
+      one : (n : ℕ) → pages n ≡ countOf (length c) 480 → (t : Bool) → ltb k n ≡ t
+          → roomed 0 out (choose t (bytes (typedLines c k)) (fault 8)) ≡ choose t (bytes (typedLines c k)) (fault 8)
+      one n h true q =
+          let l : k < n = ltb-true k n q in
+          fits (typedLines c k) (omega (arith, typed-lines-short c k (page-there c n h k l) (few c n h)))
+      one n h false q = refl
+
+      go : (j : Counted) → countOf (length c) 480 ≡ j → roomed 0 out (oneVerdict c k j) ≡ oneVerdict c k j
+      go (pages n) e = one n (sym e) (ltb k n) refl
+      go (unprintable f) e = refl

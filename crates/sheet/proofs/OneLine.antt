@@ -1,0 +1,121 @@
+-- What is read back: each line of a sheet is one line, and a scan's text is its page's frame. Assumes nothing.
+use mathlib.Core.Path.{_≡_, refl, sym, ap, _∙_}
+use mathlib.Core.Bool.{Bool, true, false}
+use mathlib.Core.List.{List, [], _∷_, _++_, map}
+use Prim.Native.Nat.{ℕ, zero, suc, _+_, _*_, _/_, _%_, _^_, _<_}
+use lib.Pow.{pow-pos}
+use native.Mathlib.Omega.{arith}
+use borrow.Author.Tests.{ltb-false}
+use lib.Dec.{ltb}
+use lib.ListN.{length, getD}
+use Rattle.wire.specs.Answer.{choose}
+use Rattle.wire.specs.Number.{Bytes, Digits, digits, number}
+use Rattle.wire.specs.Writing.{bytes}
+use Rattle.wire.proofs.Digits.{digits-small}
+use Rattle.text.specs.Text.{Form, base64, zbase32, skipped, letter, characters, filling, textOf, readText}
+use Rattle.text.proofs.Forms.{Lawful, base64-lawful, zbase32-lawful}
+use Rattle.page.specs.Page.{pageCount, pageFrame, Printed}
+use Rattle.page.proofs.Cutting.{counted-facts}
+use Rattle.page.proofs.Round.{page-typed}
+use Rattle.status.specs.Line.{digit, decimal}
+use Rattle.sheet.specs.Sheet.{hexDigit, hexOf, pageWord, ofWord}
+use Rattle.sheet.specs.Parts.{There}
+
+-- ---- no line feed inside a line
+
+abbrev pub Single : List ℕ → Type 0
+Single bs = (i : ℕ) → getD bs i 0 ≡ 10 → ⊥
+
+one-none : Single []
+one-none i e = omega (arith, e)
+
+one-cons : (b : ℕ) (bs : List ℕ) → (b ≡ 10 → ⊥) → Single bs → Single (b ∷ bs)
+one-cons b bs h t zero e = h e
+one-cons b bs h t (suc i) e = t i e
+
+one-append : (xs ys : List ℕ) → Single xs → Single ys → Single (xs ++ ys)
+one-append [] ys x y i e = y i e
+one-append (b ∷ xs) ys x y zero e = x 0 e
+one-append (b ∷ xs) ys x y (suc i) e = one-append xs ys (λ (j : ℕ). x (suc j)) y i e
+
+-- the characters of a text
+module _ (f : Form) (law : Lawful f) where
+  feed-skipped : skipped f 10 ≡ true
+  unfolding skipped
+  feed-skipped = refl
+
+  letter-no-feed : (v : ℕ) → v < 2 ^ f .width → letter f v ≡ 10 → ⊥
+  letter-no-feed v h e =
+      let p : skipped f 10 ≡ false = ap (skipped f) (sym e) ∙ law .plain v h in
+      let q : true ≡ false = sym feed-skipped ∙ p in
+      let z : _≡_ {A = ℕ} 0 1 = cc in omega arith
+
+  letters-one : (vs : List ℕ) → Digits (2 ^ f .width) vs → Single (map (letter f) vs)
+  letters-one [] all = one-none
+  letters-one (v ∷ vs) all = one-cons (letter f v) (map (letter f) vs) (letter-no-feed v (all 0)) (letters-one vs (λ i. all (suc i)))
+
+  pub text-one : (bs : List ℕ) → Single (textOf f bs)
+  unfolding textOf
+  text-one bs =
+      letters-one (digits (2 ^ f .width) (characters f (length bs)) (number 256 bs * 2 ^ filling f (length bs)))
+      (digits-small (2 ^ f .width) (characters f (length bs)) (number 256 bs * 2 ^ filling f (length bs)) (pow-pos (f .width)))
+
+-- the digits of the id
+hex-no-feed : (d : ℕ) → hexDigit d ≡ 10 → ⊥
+unfolding hexDigit
+hex-no-feed d e = go (ltb d 10) e
+  where
+    go : (t : Bool) → choose t (0x30 + d) (0x57 + d) ≡ 10 → ⊥
+    go true q = omega (arith, q)
+    go false q = omega (arith, q)
+
+pub hex-one : (bs : List ℕ) → Single (hexOf bs)
+unfolding hexOf
+hex-one [] = one-none
+hex-one (b ∷ bs) =
+    one-cons (hexDigit (b / 16)) (hexDigit (b % 16) ∷ hexOf bs) (hex-no-feed (b / 16)) (one-cons (hexDigit (b % 16)) (hexOf bs) (hex-no-feed (b % 16)) (hex-one bs))
+
+-- a number, and the line of a place in front of its line feed
+digit-one : (d : ℕ) (bs : List ℕ) → Single bs → Single (digit d ∷ bs)
+digit-one d bs t = one-cons (digit d) bs (λ e. omega (arith, e)) t
+
+decimal-one-line : (n : ℕ) → Single (decimal n)
+unfolding decimal
+decimal-one-line n = go (ltb n 10) (ltb n 100)
+  where
+    go : (v w : Bool) → Single (choose v (digit n ∷ []) (choose w (digit (n / 10) ∷ digit (n % 10) ∷ []) (digit (n / 100) ∷ digit (n / 10 % 10) ∷ digit (n % 10) ∷ [])))
+    go true w = digit-one n [] one-none
+    go false true = digit-one (n / 10) (digit (n % 10) ∷ []) (digit-one (n % 10) [] one-none)
+    go false false = digit-one (n / 100) (digit (n / 10 % 10) ∷ digit (n % 10) ∷ []) (digit-one (n / 10 % 10) (digit (n % 10) ∷ []) (digit-one (n % 10) [] one-none))
+
+-- above the control characters
+abbrev clear : List ℕ → Bool
+clear [] = true
+clear (b ∷ bs) = choose (ltb b 32) false (clear bs)
+
+clear-one : (bs : List ℕ) → clear bs ≡ true → Single bs
+clear-one [] h = one-none
+clear-one (b ∷ bs) h = go (ltb b 32) refl h (clear-one bs)
+  where
+    go : (t : Bool) → ltb b 32 ≡ t → choose t false (clear bs) ≡ true → (clear bs ≡ true → Single bs) → Single (b ∷ bs)
+    go true e q rest = let z : _≡_ {A = ℕ} 0 1 = cc in absurd (omega arith)
+    go false e q rest = one-cons b bs (λ p. omega (arith, p, ltb-false b 32 e)) (rest q)
+
+pub place-one : (k n : ℕ) → Single (pageWord ++ decimal k ++ ofWord ++ decimal n)
+place-one k n =
+    one-append (pageWord ++ decimal k ++ ofWord) (decimal n)
+    (one-append (pageWord ++ decimal k) ofWord (one-append pageWord (decimal k) (clear-one pageWord refl) (decimal-one-line k)) (clear-one ofWord refl)) (decimal-one-line n)
+
+-- ---- a page's text is read as its frame, in either form
+
+module _ (c : List ℕ) (k : ℕ) (t : There c k) (all : Bytes c) where
+  can-print : Printed c 480
+  can-print =
+      let f = counted-facts (length c) 480 (pageCount (length c) 480) (t .counted) in
+      record { some = f .0; least = f .1; most = f .2; fits = f .4 }
+
+  pub scan-reads : readText base64 (textOf base64 (pageFrame c 480 k)) ≡ bytes (pageFrame c 480 k)
+  scan-reads = page-typed c 480 can-print k (t .below) all base64 base64-lawful
+
+  pub typed-reads : readText zbase32 (textOf zbase32 (pageFrame c 480 k)) ≡ bytes (pageFrame c 480 k)
+  typed-reads = page-typed c 480 can-print k (t .below) all zbase32 zbase32-lawful

@@ -1,0 +1,128 @@
+-- The lines of all pages one after another, and what is answered. Assumes nothing.
+use mathlib.Core.Path.{_≡_, refl, sym, ap, _∙_}
+use mathlib.Core.List.{List, [], _++_}
+use Prim.Native.Nat.{ℕ, _+_, _-_, _*_, _≤_, _<_}
+use native.Mathlib.Numerals.{add-one}
+use native.Mathlib.Omega.{arith}
+use borrow.Author.Tests.{lt-ltb, le-ltb}
+use lib.ListN.{length, take, drop}
+use Rattle.wire.specs.Over.{over}
+use Rattle.wire.specs.Writing.{Written, bytes}
+use Rattle.wire.specs.declared.Wrote.{Wrote}
+use Rattle.wire.specs.declared.Wrote.the-variants.{Refused}
+use Rattle.wire.proofs.Overs.{over-none}
+use Rattle.wire.proofs.Writes.{denied}
+use Rattle.text.specs.Text.{base64, zbase32}
+use Rattle.page.specs.Page.{pageCount, Counted, pages, unprintable, countOf, joined}
+use Rattle.page.specs.Answer.{told}
+use Rattle.page.specs.declared.PageCount.{PageCount}
+use Rattle.page.specs.declared.PageCount.the-variants.{Pages}
+use Rattle.page.specs.declared.PageCount.the-variants as page
+use Rattle.page.proofs.Cutting.{counted-facts}
+use Rattle.sheet.specs.Sheet.{idLine, placeLine, textLine, scanLine, typedLines, placeVerdict, oneVerdict}
+use Rattle.sheet.specs.Parts.{There, textForm, linesOf, sheetOf, sheetVerdict, Laid}
+use Rattle.sheet.specs.declared.Form.{Form}
+use Rattle.sheet.specs.declared.Form.the-variants.{Square, Below}
+use Rattle.sheet.proofs.Ids.{id-line-length}
+use Rattle.sheet.proofs.Laying.{laid-one, laid-then, laid-as, laid-part}
+
+-- ---- the lines of one page
+
+module _ (c : List ℕ) (n : ℕ) (h : pages n ≡ countOf (length c) 480) where
+  pub total-is : n ≡ pageCount (length c) 480
+  total-is = counted-facts (length c) 480 n h .3
+
+  pub total-most : n ≤ 96
+  total-most = counted-facts (length c) 480 n h .4
+
+  pub page-there : (k : ℕ) → k < n → There c k
+  page-there k l = record { counted = ap pages (sym total-is) ∙ h; below = omega (arith, total-is) }
+
+  module _ (k at : ℕ) (l : List ℕ) where
+    pub scan-laid : (f : Form) (x : List ℕ) (r : ℕ) → f ≡ Square → Laid at 801 (textLine (textForm f) c k) l x r → Laid at 815 (linesOf f c k) l x r
+    unfolding scanLine
+    scan-laid f x r e p = rw e (laid-as at 801 815 r (textLine base64 c k) (linesOf Square c k) l x (rw e at p) refl (omega arith))
+
+    pub typed-laid : (f : Form) (x y : List ℕ) (m r : ℕ) → f ≡ Below → at + 815 ≤ length l → Laid at 14 (placeLine k n) l x m
+        → Laid m 801 (textLine (textForm f) c k) x y r → Laid at 815 (linesOf f c k) l y r
+    unfolding typedLines
+    typed-laid f x y m r e room p q =
+        rw e
+        (laid-as at 815 815 r (placeLine k n ++ textLine zbase32 c k) (linesOf Below c k) l y
+        (laid-then at 14 m 801 r (placeLine k n) (textLine zbase32 c k) l x y p (rw e at q) (omega (arith, p .next, p .short)))
+        (ap (λ (i : ℕ). placeLine k i ++ textLine zbase32 c k) total-is) (omega arith))
+
+-- ---- the loop
+
+-- the lines of the first k pages stand in x behind the id
+pub record Stacked (f : Form) (c : List ℕ) (n : ℕ) (l : List ℕ) (at k : ℕ) (x : List ℕ) : Type 0 where
+  pub most : k ≤ n
+  pub size : length x ≡ length l
+  pub laid : Laid 17 (k * 815) (joined k (linesOf f c)) l x at
+
+module _ (f : Form) (c : List ℕ) (n : ℕ) (l : List ℕ) where
+  pub stacked-none : Stacked f c n l 17 0 l
+  unfolding joined
+  stacked-none = record { most = omega arith; size = refl; laid = laid-one 17 0 [] l l 17 refl (omega arith) (sym (over-none 17 l)) }
+
+  pub stacked-on : (k at r : ℕ) (x y : List ℕ) → n ≤ 96 → 78257 ≤ length l → k < n → length y ≡ length x → Laid at 815 (linesOf f c k) x y r
+      → Stacked f c n l at k x → Stacked f c n l r (k + 1) y
+  unfolding joined
+  stacked-on k at r x y top room h s p g =
+      let b : at ≤ 17 + k * 815 = omega (arith, g .laid .next, g .laid .short) in
+      record {
+        most = omega arith;
+        size = s ∙ g .size;
+        laid = laid-as 17 (k * 815 + 815) ((k + 1) * 815) r (joined k (linesOf f c) ++ linesOf f c k) (joined (k + 1) (linesOf f c)) l y
+            (laid-then 17 (k * 815) at 815 r (joined k (linesOf f c)) (linesOf f c k) l x y (g .laid) p (omega arith)) (rw (add-one k)) (omega arith);
+      }
+
+  pub stacked-end : (l₀ : List ℕ) (k at : ℕ) (x : List ℕ) → pages n ≡ countOf (length c) 480 → 78257 ≤ length l₀ → l ≡ over 0 (idLine c) l₀ → n ≤ k
+      → Stacked f c n l at k x → Laid 0 78257 (sheetOf f c) l₀ x at
+  unfolding sheetOf
+  stacked-end l₀ k at x h room i o g =
+      let e : k ≡ pageCount (length c) 480 = omega (arith, g .most, total-is c n h) in
+      let m : k ≤ 96 = omega (arith, g .most, total-most c n h) in
+      let d = id-line-length c in
+      let first = laid-one 0 17 (idLine c) l₀ l 17 (omega arith) (omega arith) i in
+      laid-as 0 (17 + k * 815) 78257 at (idLine c ++ joined k (linesOf f c)) (idLine c ++ joined (pageCount (length c) 480) (linesOf f c)) l₀ x
+      (laid-then 0 17 17 (k * 815) at (idLine c) (joined k (linesOf f c)) l₀ l x first (g .laid) (omega arith))
+      (ap (λ (i : ℕ). idLine c ++ joined i (linesOf f c)) e) (omega arith)
+
+-- what was laid in front is what is given
+pub given : (m n : ℕ) (bs l x out out' : List ℕ) (r : Wrote) → m ≤ length l → Laid 0 m bs l x n → Written 0 (bytes (take (n - 0) (drop 0 x))) out out' r
+    → Written 0 (bytes bs) out out' r
+given m n bs l x out out' r room p w = rw (laid-part m n bs l x room p) at w
+
+-- ---- the answers
+
+pub told-pages : {r : PageCount} {n : ℕ} {k : Counted} → r ≡ Pages n → told r ≡ k → pages n ≡ k
+told-pages p q = rw (← q, p)
+
+pub told-none : {r : PageCount} {e : ℕ} {k : Counted} → r ≡ page.Refused e → told r ≡ k → unprintable e ≡ k
+told-none p q = rw (← q, p)
+
+module _ (c : List ℕ) (n : ℕ) where
+  module _ (out out' : List ℕ) (r : Wrote) where
+    pub all-printed : (f : Form) → pages n ≡ countOf (length c) 480 → Written 0 (bytes (sheetOf f c)) out out' r → Written 0 (sheetVerdict f c) out out' r
+    unfolding sheetVerdict
+    all-printed f h w = rw (← h) w
+
+    pub one-printed : (k : ℕ) → pages n ≡ countOf (length c) 480 → Written 0 (oneVerdict c k (pages n)) out out' r → Written 0 (placeVerdict c k) out out' r
+    unfolding placeVerdict
+    one-printed k h w = rw (← h) w
+
+    pub one-there : (k : ℕ) → k < n → Written 0 (bytes (typedLines c k)) out out' r → Written 0 (oneVerdict c k (pages n)) out out' r
+    one-there k l w = rw (lt-ltb k n l) w
+
+  pub one-past : (k : ℕ) (out : List ℕ) → n ≤ k → Written 0 (oneVerdict c k (pages n)) out out (Refused 8)
+  one-past k out l = rw (le-ltb k n l) (denied 0 out 8)
+
+module _ (c : List ℕ) (e : ℕ) (h : unprintable e ≡ countOf (length c) 480) (out : List ℕ) where
+  pub none-printed : (f : Form) → Written 0 (sheetVerdict f c) out out (Refused e)
+  unfolding sheetVerdict
+  none-printed f = rw (← h) (denied 0 out e)
+
+  pub no-one-printed : (k : ℕ) → Written 0 (placeVerdict c k) out out (Refused e)
+  unfolding placeVerdict
+  no-one-printed k = rw (← h) (denied 0 out e)

@@ -1,0 +1,97 @@
+-- A page's text: there is one for each page below the total, of at most 800 characters. Assumes nothing.
+use mathlib.Core.Path.{_≡_, refl, sym, ap, _∙_}
+use mathlib.Core.Logic.{_⊎_, inl, inr, ⊎-elim}
+use mathlib.Core.List.{List}
+use Prim.Native.Nat.{ℕ, _+_, _-_, _*_, _^_, _≤_, _<_}
+use native.Mathlib.Omega.{arith}
+use lib.ListN.{length, take, drop, length-map}
+use Rattle.wire.specs.Number.{digits, number}
+use Rattle.wire.specs.Over.{over}
+use Rattle.wire.specs.Writing.{Verdict, bytes, Written}
+use Rattle.wire.specs.declared.Wrote.{Wrote}
+use Rattle.wire.specs.declared.Wrote.the-variants.{Done, Refused}
+use Rattle.wire.proofs.Digits.{length-digits}
+use Rattle.wire.proofs.Writes.{bytes-injective, done-stood, refused-why}
+use Rattle.text.specs.Text.{Form, base64, zbase32, letter, characters, filling, textOf}
+use Rattle.text.proofs.Forms.{Lawful, base64-lawful, zbase32-lawful}
+use Rattle.text.proofs.Counts.{filled, filling-lt}
+use Rattle.page.specs.Page.{pageCount, pageFrame, pageVerdict, typed}
+use Rattle.page.proofs.Cutting.{page-is}
+use Rattle.page.proofs.Typing.{frame-short}
+use Rattle.status.specs.Line.{lineFeed}
+use Rattle.sheet.specs.Sheet.{textLine}
+use Rattle.sheet.specs.Parts.{There, textForm, Laid}
+use Rattle.sheet.specs.declared.Form as own
+use Rattle.sheet.specs.declared.Form.the-variants.{Square, Below}
+use Rattle.sheet.proofs.Laying.{laid-one, laid-then, laid-part}
+
+pub form-lawful : (f : own.Form) → Lawful (textForm f)
+form-lawful Square = base64-lawful
+form-lawful Below = zbase32-lawful
+
+module _ (f : own.Form) (v : Verdict) (x y : List ℕ) (r : Wrote) where
+  pub scan-text : f ≡ Square → Written 0 (typed base64 v) x y r → Written 0 (typed (textForm f) v) x y r
+  scan-text e w = rw e w
+
+  pub typed-text : f ≡ Below → Written 0 (typed zbase32 v) x y r → Written 0 (typed (textForm f) v) x y r
+  typed-text e w = rw e w
+
+-- ---- how long a text is
+
+pub text-length : (f : Form) (bs : List ℕ) → length (textOf f bs) ≡ characters f (length bs)
+unfolding textOf
+text-length f bs =
+    length-map (digits (2 ^ f .width) (characters f (length bs)) (number 256 bs * 2 ^ filling f (length bs))) (letter f)
+    ∙ length-digits (2 ^ f .width) (characters f (length bs)) (number 256 bs * 2 ^ filling f (length bs))
+
+few : (w n k c : ℕ) → (w ≡ 5) ⊎ (w ≡ 6) → w * c ≡ 8 * n + k → k < w → n ≤ 500 → c ≤ 800
+few w n k c (inl e) s h l = let t : 5 * c ≡ 8 * n + k = rw e at s in omega arith
+few w n k c (inr e) s h l = let t : 6 * c ≡ 8 * n + k = rw e at s in omega arith
+
+pub text-short : (f : Form) → Lawful f → (bs : List ℕ) → length bs ≤ 500 → length (textOf f bs) ≤ 800
+text-short f law bs h =
+    rw (text-length f bs) (few (f .width) (length bs) (filling f (length bs)) (characters f (length bs)) (law .narrow) (filled f law (length bs)) (filling-lt f law (length bs)) h)
+
+-- ---- a page that there is
+
+module _ (c : List ℕ) (k : ℕ) (t : There c k) where
+  pub frame-there : pageVerdict c 480 k ≡ bytes (pageFrame c 480 k)
+  unfolding pageFrame
+  frame-there = page-is c 480 k (pageCount (length c) 480) (t .counted) (t .below)
+
+  pub page-short : (f : Form) → Lawful f → length (textOf f (pageFrame c 480 k)) ≤ 800
+  page-short f law = text-short f law (pageFrame c 480 k) (frame-short c 480 k (pageFrame c 480 k) frame-there)
+
+  module _ (f : own.Form) where
+    abbrev here : List ℕ
+    here = textOf (textForm f) (pageFrame c 480 k)
+
+    here-short : length here ≤ 800
+    here-short = page-short (textForm f) (form-lawful f)
+
+    module _ (x y : List ℕ) (room : 800 ≤ length x) (r : Wrote) (w : Written 0 (typed (textForm f) (pageVerdict c 480 k)) x y r) where
+      written-here : Written 0 (bytes here) x y r
+      written-here = rw frame-there at w
+
+      -- it is not refused
+      pub text-never : {P : Type 0} (e : ℕ) → r ≡ Refused e → P
+      text-never e q =
+          ⊎-elim (λ o. let z : _≡_ {A = ℕ} 0 1 = cc in absurd (omega arith))
+          (λ o. absurd (omega (arith, o .2, ap length (bytes-injective (o .1)), here-short)))
+          (refused-why 0 (bytes here) x y e (rw q at written-here))
+
+      -- it stands in front
+      pub text-laid : (n : ℕ) → r ≡ Done n → Laid 0 800 here x y n
+      text-laid n q =
+          let s = done-stood 0 (bytes here) x y n (rw q at written-here) in
+          let e : s .what ≡ here = bytes-injective (sym (s .meant)) in
+          record { next = omega (arith, s .count, ap length e); short = here-short; stands = s .stands ∙ ap (λ (b : List ℕ). over 0 b x) e }
+
+    -- and with its line feed it is the line
+    pub line-laid : (n at : ℕ) (x y l u v : List ℕ) → 800 ≤ length x → Laid 0 800 here x y n → at + 801 ≤ length l → u ≡ over at (take (n - 0) (drop 0 y)) l → v ≡ over (at + n) lineFeed u
+        → Laid at 801 (textLine (textForm f) c k) l v (at + n + 1)
+    unfolding textLine
+    line-laid n at x y l u v room p fits a b =
+        laid-then at 800 (at + n) 1 (at + n + 1) here lineFeed l u v
+        (laid-one at 800 here l u (at + n) (omega (arith, p .next)) here-short (a ∙ rw (laid-part 800 n here x y room p)))
+        (laid-one (at + n) 1 lineFeed u v (at + n + 1) refl (omega arith) b) (omega (arith, p .next, p .short))

@@ -1,0 +1,62 @@
+-- `sheet::lines` meets its contract. Assumes nothing.
+use native.Mathlib.Omega.{arith}
+use borrow.Author.Needs.{needs}
+use Rattle.sheet.proofs.Sheets.{page-there, total-most, scan-laid, typed-laid}
+use Rattle.sheet.proofs.lines.Statement.{statement}
+use Rattle.sheet.proofs.lines.Tie as tie
+
+enum-told : tie.Need-enum-told
+enum-told c = search needs
+
+text-line-requires : tie.Need-text-line-requires
+text-line-requires c κs = (search page-there, search needs)
+
+enum-told-2 : tie.Need-enum-told-2
+enum-told-2 c = search needs
+
+cast-place : tie.Need-cast-place
+cast-place c =
+    let s = c .before .before .before .before .before in
+    omega (arith, total-most (s .args .c .now) (s .args .n) (s .pre .0))
+
+cast-place-2 : tie.Need-cast-place-2
+cast-place-2 c =
+    let s = c .before .before .before .before .before in
+    omega (arith, total-most (s .args .c .now) (s .args .n) (s .pre .0))
+
+place-requires : tie.Need-place-requires
+place-requires c κs =
+    let s = c .before .before .before .before .before in
+    let t = total-most (s .args .c .now) (s .args .n) (s .pre .0) in
+    (omega arith, omega arith, search needs)
+
+text-line-requires-2 : tie.Need-text-line-requires-2
+text-line-requires-2 c κs = (search page-there, search needs)
+
+same-length : tie.Need-same-length
+same-length c = search needs
+
+returns : tie.Need-returns
+returns c = search scan-laid
+
+same-length-2 : tie.Need-same-length-2
+same-length-2 c = search needs
+
+returns-2 : tie.Need-returns-2
+returns-2 c = search typed-laid
+
+pub lines-spec : {M : Type 1} → statement M
+lines-spec =
+    tie.close
+    (tie.spec
+    enum-told
+    text-line-requires
+    enum-told-2
+    cast-place
+    cast-place-2
+    place-requires
+    text-line-requires-2
+    same-length
+    returns
+    same-length-2
+    returns-2)

@@ -1,0 +1,60 @@
+-- `sheet::text_line` meets its contract. Assumes nothing.
+use borrow.Author.Needs.{needs}
+use Rattle.sheet.proofs.Texts.{line-laid}
+use Rattle.sheet.proofs.text_line.Statement.{statement}
+use Rattle.sheet.proofs.text_line.Tie as tie
+
+slice-aggregate-text : tie.Need-slice-aggregate-text
+slice-aggregate-text c = search needs
+
+text-requires : tie.Need-text-requires
+text-requires c κs = search needs
+
+sub-copy : tie.Need-sub-copy
+sub-copy c = search needs
+
+part-copy-start : tie.Need-part-copy-start
+part-copy-start c = search needs
+
+part-copy-end : tie.Need-part-copy-end
+part-copy-end c = search needs
+
+copy-requires : tie.Need-copy-requires
+copy-requires c κs = search needs
+
+add-put : tie.Need-add-put
+add-put c = search needs
+
+put-requires : tie.Need-put-requires
+put-requires c κs = search needs
+
+add-result : tie.Need-add-result
+add-result c = search needs
+
+add-result-2 : tie.Need-add-result-2
+add-result-2 c = search needs
+
+same-length : tie.Need-same-length
+same-length c = search needs
+
+returns : tie.Need-returns
+returns c =
+    let s = c .before .before .before .before .before .before .before .before .before .before .before .before .before .before .before in
+    line-laid _ _ (s .pre .0) (s .args .form) _ _ _ _ _ _ _ (search needs) (c .before .before .before .before .before .before .before .before .before .before .before .text .ensures) (s .pre .1) (c .before .before .before .before .before .before .copy .ensures) (c .before .before .put .ensures)
+
+pub text-line-spec : {M : Type 1} → statement M
+text-line-spec =
+    tie.close
+    (tie.spec
+    slice-aggregate-text
+    text-requires
+    sub-copy
+    part-copy-start
+    part-copy-end
+    copy-requires
+    add-put
+    put-requires
+    add-result
+    add-result-2
+    same-length
+    returns)

@@ -1,0 +1,72 @@
+-- A document as it is printed: document 01, "Frames", the paragraph "Printing". The page size is 480.
+use Prim.Native.Nat.{ℕ, _+_, _/_, _%_}
+use mathlib.Core.List.{List, [], _∷_, _++_}
+use lib.Dec.{ltb}
+use lib.ListN.{length}
+use Rattle.wire.specs.Answer.{choose}
+use Rattle.wire.specs.Writing.{Verdict, bytes, fault}
+use Rattle.text.specs.Text.{Form, base64, zbase32, textOf}
+use Rattle.page.specs.Page.{documentId, pageCount, pageFrame, Counted, pages, unprintable, countOf, joined}
+use Rattle.status.specs.Line.{decimal, lineFeed}
+
+-- a lower-case hex digit: 0 to 9 are 30 to 39 hex, 10 to 15 are 61 to 66 hex
+unfoldable pub hexDigit : ℕ → ℕ
+hexDigit d = choose (ltb d 10) (0x30 + d) (0x57 + d)
+
+-- two digits a byte, the higher first
+unfoldable pub hexOf : List ℕ → List ℕ
+hexOf [] = []
+hexOf (b ∷ bs) = hexDigit (b / 16) ∷ hexDigit (b % 16) ∷ hexOf bs
+
+-- "the first line is the document id in 16 lower-case hex digits"
+unfoldable pub idLine : List ℕ → List ℕ
+idLine c = hexOf (documentId c) ++ lineFeed
+
+-- page k through a text form: "Writers insert no spaces"
+unfoldable pub textLine : Form → List ℕ → ℕ → List ℕ
+textLine f c k = textOf f (pageFrame c 480 k) ++ lineFeed
+
+-- "each further line is one base64 scan"
+unfoldable pub scanLine : List ℕ → ℕ → List ℕ
+scanLine c k = textLine base64 c k
+
+-- `page `, ` of `: the words, with their spaces
+abbrev pub pageWord : List ℕ
+pageWord = 112 ∷ 97 ∷ 103 ∷ 101 ∷ 32 ∷ []
+
+abbrev pub ofWord : List ℕ
+ofWord = 32 ∷ 111 ∷ 102 ∷ 32 ∷ []
+
+-- `page K of N`: "Places count from 0"
+unfoldable pub placeLine : ℕ → ℕ → List ℕ
+placeLine k n = pageWord ++ decimal k ++ ofWord ++ decimal n ++ lineFeed
+
+-- the place, and the text to be typed
+unfoldable pub typedLines : List ℕ → ℕ → List ℕ
+typedLines c k = placeLine k (pageCount (length c) 480) ++ textLine zbase32 c k
+
+-- what is printed: the id and every page's line in order
+unfoldable pub scanSheet : List ℕ → List ℕ
+scanSheet c = idLine c ++ joined (pageCount (length c) 480) (scanLine c)
+
+unfoldable pub typedSheet : List ℕ → List ℕ
+typedSheet c = idLine c ++ joined (pageCount (length c) 480) (typedLines c)
+
+-- "Order: page size or empty ciphertext 19, more than 96 pages 9"
+abbrev pub printed : List ℕ → Counted → Verdict
+printed sheet (pages n) = bytes sheet
+printed sheet (unprintable e) = fault e
+
+unfoldable pub scanVerdict : List ℕ → Verdict
+scanVerdict c = printed (scanSheet c) (countOf (length c) 480)
+
+unfoldable pub typedVerdict : List ℕ → Verdict
+typedVerdict c = printed (typedSheet c) (countOf (length c) 480)
+
+-- of one page, "page number not below the total 8"
+abbrev pub oneVerdict : List ℕ → ℕ → Counted → Verdict
+oneVerdict c k (pages n) = choose (ltb k n) (bytes (typedLines c k)) (fault 8)
+oneVerdict c k (unprintable e) = fault e
+
+unfoldable pub placeVerdict : List ℕ → ℕ → Verdict
+placeVerdict c k = oneVerdict c k (countOf (length c) 480)

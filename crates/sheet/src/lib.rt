@@ -1,0 +1,258 @@
+// A document as it is printed: document 01, "Frames", the paragraph "Printing". One form is what the small program reads back, the
+// other the text that is typed where no square can be read.
+ghost use mathlib.Core.Path.{_≡_};
+ghost use Prim.Native.Nat.{_+_, _*_, _≤_, _<_, min};
+ghost use lib.ListN.{length};
+ghost use Rattle.wire.specs.Over.{over};
+ghost use Rattle.wire.specs.Writing.{Written, bytes};
+ghost use Rattle.status.specs.Line.{decimal};
+ghost use Rattle.text.specs.Text.{textOf};
+ghost use Rattle.page.specs.Page.{pages, countOf, pageFrame, pageVerdict};
+ghost use Rattle.page.specs.Page.{typed as textVerdict};
+ghost use Rattle.sheet.specs.Sheet.{hexDigit, hexOf, idLine, placeLine, textLine, scanVerdict, typedVerdict, placeVerdict, oneVerdict};
+ghost use Rattle.sheet.specs.Parts.{There, textForm, linesOf, sheetOf, sheetVerdict, Laid};
+ghost use Rattle.sheet.specs.Word.{askedOf};
+use page::PageCount;
+use wire::Wrote;
+
+const PAGE_SIZE: usize = 480;
+
+// The line of the document id: 16 digits and the line feed.
+const ID_LINE: usize = 17;
+
+// No text of a page has more characters.
+const TEXT_ROOM: usize = 800;
+
+// No page's lines have more bytes: `page 95 of 96`, the text, and two line feeds.
+const PAGE_ROOM: usize = TEXT_ROOM + 15;
+
+// Room for every sheet, of 96 pages too.
+pub const ROOM: usize = ID_LINE + 96 * PAGE_ROOM;
+
+// What is printed of a page.
+enum Form {
+    // The text of its code square, base64.
+    Square,
+    // The text that is typed below the square: its place, and z-base-32.
+    Below,
+}
+
+// The number of a page, as a word says it.
+pub enum Asked {
+    // It is 96 where the word says more: no document has such a page.
+    Page { k: usize },
+    // The word is no decimal number.
+    Nothing,
+}
+
+// ---- the parts of a line
+
+fn hex_digit(d: u8) -> u8
+    requires { ⌜ d < 16 ⌝ }
+    ensures { λ r. ⌜ r ≡ hexDigit d ⌝ }
+{
+    if d < 10 {
+        return b'0' + d;
+    }
+    d - 10 + b'a'
+}
+
+// Two hex digits for each byte of src, from the front of out on.
+fn hex(src: &[u8], out: &mut [u8])
+    requires { ⌜ 2 * length (now src) ≤ length (now out) ⌝ }
+    ensures { λ _. ⌜ now (out .exit) ≡ over 0 (hexOf (now (src .entry))) (now (out .entry)) ⌝ }
+{
+    let mut i = 0;
+    while i < src.len() {
+        lend::put(out, 2 * i, hex_digit(src[i] / 16));
+        lend::put(out, 2 * i + 1, hex_digit(src[i] % 16));
+        i += 1;
+    }
+}
+
+fn id_line(c: &[u8], out: &mut [u8])
+    requires { ⌜ 17 ≤ length (now out) ⌝ }
+    ensures { λ _. ⌜ now (out .exit) ≡ over 0 (idLine (now (c .entry))) (now (out .entry)) ⌝ }
+{
+    let id = page::document_id(c);
+    hex(&id, out);
+    lend::put(out, ID_LINE - 1, b'\n');
+}
+
+// The digits of n from index at on. Answers the index behind them, as all functions with an index do here.
+fn number(out: &mut [u8], at: usize, n: u8) -> usize
+    requires { ⌜ (n < 100) × (at + 3 ≤ length (now out)) ⌝ }
+    ensures { λ r. ⌜ Laid at 2 (decimal n) (now (out .entry)) (now (out .exit)) r ⌝ }
+{
+    if n < 10 {
+        lend::put(out, at, b'0' + n);
+        return at + 1;
+    }
+    lend::put(out, at, b'0' + n / 10);
+    lend::put(out, at + 1, b'0' + n % 10);
+    at + 2
+}
+
+fn place(out: &mut [u8], at: usize, k: u8, n: u8) -> usize
+    requires { ⌜ (k < 100) × (n < 100) × (at + 14 ≤ length (now out)) ⌝ }
+    ensures { λ r. ⌜ Laid at 14 (placeLine k n) (now (out .entry)) (now (out .exit)) r ⌝ }
+{
+    lend::copy(out, at, b"page ");
+    let after = number(out, at + 5, k);
+    lend::copy(out, after, b" of ");
+    let end = number(out, after + 4, n);
+    lend::put(out, end, b'\n');
+    end + 1
+}
+
+// ---- the lines of a page
+
+fn encode(form: Form, c: &[u8], k: usize, out: &mut [u8]) -> Wrote
+    ensures { λ r. ⌜ Written 0 (textVerdict (textForm form) (pageVerdict (now (c .entry)) 480 k)) (now (out .entry)) (now (out .exit)) r ⌝ }
+{
+    match form {
+        Form::Square => page::write_base64(c, PAGE_SIZE, k, out),
+        Form::Below => page::write_zbase32(c, PAGE_SIZE, k, out),
+    }
+}
+
+// The text of a page that there is, at the front of out, where there is room: so it is not refused.
+fn text(form: Form, c: &[u8], k: usize, out: &mut [u8]) -> usize
+    requires { ⌜ There (now c) k × (800 ≤ length (now out)) ⌝ }
+    ensures { λ r. ⌜ Laid 0 800 (textOf (textForm form) (pageFrame (now (c .entry)) 480 k)) (now (out .entry)) (now (out .exit)) r ⌝ }
+{
+    let made = encode(form, c, k, out);
+    let Wrote::Done { len } = made else {
+        return 0;
+    };
+    len
+}
+
+fn text_line(form: Form, c: &[u8], k: usize, out: &mut [u8], at: usize) -> usize
+    requires { ⌜ There (now c) k × (at + 801 ≤ length (now out)) ⌝ }
+    ensures { λ r. ⌜ Laid at 801 (textLine (textForm form) (now (c .entry)) k) (now (out .entry)) (now (out .exit)) r ⌝ }
+{
+    let mut line = [0u8; TEXT_ROOM];
+    let len = text(form, c, k, &mut line);
+    lend::copy(out, at, &line[0..len]);
+    lend::put(out, at + len, b'\n');
+    at + len + 1
+}
+
+fn lines(form: Form, c: &[u8], k: usize, n: usize, out: &mut [u8], at: usize) -> usize
+    requires { ⌜ (pages n ≡ countOf (length (now c)) 480) × (k < n) × (at + 815 ≤ length (now out)) ⌝ }
+    ensures { λ r. ⌜ Laid at 815 (linesOf form (now (c .entry)) k) (now (out .entry)) (now (out .exit)) r ⌝ }
+{
+    match form {
+        Form::Square => text_line(form, c, k, out, at),
+        Form::Below => {
+            let next = place(out, at, k as u8, n as u8);
+            text_line(form, c, k, out, next)
+        }
+    }
+}
+
+// ---- a whole sheet
+
+// The id and all pages, from the front of out on. Answers how many bytes they are.
+fn lay(form: Form, c: &[u8], n: usize, out: &mut [u8]) -> usize
+    requires { ⌜ (pages n ≡ countOf (length (now c)) 480) × (78257 ≤ length (now out)) ⌝ }
+    ensures { λ r. ⌜ Laid 0 78257 (sheetOf form (now (c .entry))) (now (out .entry)) (now (out .exit)) r ⌝ }
+{
+    id_line(c, out);
+    let mut at = ID_LINE;
+    let mut k = 0;
+    while k < n {
+        at = lines(form, c, k, n, out, at);
+        k += 1;
+    }
+    at
+}
+
+fn all(form: Form, c: &[u8], n: usize, out: &mut [u8]) -> Wrote
+    requires { ⌜ pages n ≡ countOf (length (now c)) 480 ⌝ }
+    ensures { λ r. ⌜ Written 0 (bytes (sheetOf form (now (c .entry)))) (now (out .entry)) (now (out .exit)) r ⌝ }
+{
+    let mut aside = [0u8; ROOM];
+    let len = lay(form, c, n, &mut aside);
+    lend::give(&aside[0..len], out)
+}
+
+fn sheet(form: Form, c: &[u8], out: &mut [u8]) -> Wrote
+    ensures { λ r. ⌜ Written 0 (sheetVerdict form (now (c .entry))) (now (out .entry)) (now (out .exit)) r ⌝ }
+{
+    match page::count(c.len(), PAGE_SIZE) {
+        PageCount::Refused { no } => Wrote::Refused { no },
+        PageCount::Pages { n } => all(form, c, n, out),
+    }
+}
+
+fn one(c: &[u8], k: usize, n: usize, out: &mut [u8]) -> Wrote
+    requires { ⌜ pages n ≡ countOf (length (now c)) 480 ⌝ }
+    ensures { λ r. ⌜ Written 0 (oneVerdict (now (c .entry)) k (pages n)) (now (out .entry)) (now (out .exit)) r ⌝ }
+{
+    if n <= k {
+        return Wrote::Refused {
+            no: wire::BAD_PLACE,
+        };
+    }
+    let mut aside = [0u8; PAGE_ROOM];
+    let len = lines(Form::Below, c, k, n, &mut aside, 0);
+    lend::give(&aside[0..len], out)
+}
+
+// What the small program reads: the document id and a scan for each page.
+pub fn scans(c: &[u8], out: &mut [u8]) -> Wrote
+    ensures { λ r. ⌜ Written 0 (scanVerdict (now (c .entry))) (now (out .entry)) (now (out .exit)) r ⌝ }
+{
+    sheet(Form::Square, c, out)
+}
+
+// What is typed: the document id, and for each page its place and its text.
+pub fn typed(c: &[u8], out: &mut [u8]) -> Wrote
+    ensures { λ r. ⌜ Written 0 (typedVerdict (now (c .entry))) (now (out .entry)) (now (out .exit)) r ⌝ }
+{
+    sheet(Form::Below, c, out)
+}
+
+// The same of page k alone, without the id.
+pub fn typed_page(c: &[u8], k: usize, out: &mut [u8]) -> Wrote
+    ensures { λ r. ⌜ Written 0 (placeVerdict (now (c .entry)) k) (now (out .entry)) (now (out .exit)) r ⌝ }
+{
+    match page::count(c.len(), PAGE_SIZE) {
+        PageCount::Refused { no } => Wrote::Refused { no },
+        PageCount::Pages { n } => one(c, k, n, out),
+    }
+}
+
+fn at_most_96(n: usize) -> usize
+    ensures { λ r. ⌜ r ≡ min n 96 ⌝ }
+{
+    if n < 96 {
+        return n;
+    }
+    96
+}
+
+// What a word of decimal digits says.
+pub fn page_asked(word: &[u8]) -> Asked
+    ensures { λ r. ⌜ r ≡ askedOf (now (word .entry)) ⌝ }
+{
+    if word.len() == 0 {
+        return Asked::Nothing;
+    }
+    let mut k: usize = 0;
+    let mut i = 0;
+    while i < word.len() {
+        let b = word[i];
+        if b < b'0' {
+            return Asked::Nothing;
+        }
+        if b'9' < b {
+            return Asked::Nothing;
+        }
+        k = at_most_96(k * 10 + (b - b'0') as usize);
+        i += 1;
+    }
+    Asked::Page { k }
+}
