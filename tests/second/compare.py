@@ -5,7 +5,7 @@ from collections import Counter
 
 from . import cases
 from .desk import Desk
-from .verbs import ALL
+from .verbs import ALL, GIVES
 
 CHUNK_LINES = 2000
 CHUNK_BYTES = 8_000_000
@@ -114,8 +114,8 @@ def compare(command, seed, count, verbs, tell=print, keep=None):
     return compare_blocks(command, cases.stream(seed, count, verbs), count, verbs, tell, keep)
 
 
-def compare_blocks(command, blocks, count, verbs, tell=print, keep=None):
-    """The same for blocks of lines that are given."""
+def compare_blocks(command, blocks, count, verbs, tell=print, keep=None, called=()):
+    """The same for blocks of lines that are given. Of the verbs `called` each answer that 01 knows of must occur, and no other."""
     comparison = Comparison(command, verbs, tell)
     for number, lines in enumerate(chunks(blocks)):
         comparison.chunk(lines, last_feed=number % 2 == 0)
@@ -124,7 +124,17 @@ def compare_blocks(command, blocks, count, verbs, tell=print, keep=None):
             break
     for row in table(comparison.counts):
         tell(row)
+    for text in lacking(comparison.counts, called):
+        comparison.fault(text, b"")
     return verdict(comparison, count, tell, keep)
+
+
+def lacking(counts, called):
+    """The answers that a verb can give and never gave, and those that it gave and cannot give."""
+    for verb in called:
+        given = {int(kind) for v, kind in counts if v == verb and kind != "?"}
+        yield from (f"{verb} never answered {number}" for number in GIVES[verb] if number not in given)
+        yield from (f"{verb} answered {number}, which it cannot" for number in sorted(given.difference(GIVES[verb])))
 
 
 def verdict(comparison, count, tell, keep):

@@ -13,7 +13,7 @@ from .answers import Refusal
 from .cases import collecting, samples
 from .cases.common import damaged, with_byte
 from .stored import build, digests
-from .verbs import ALL, LANDED
+from .verbs import GIVES, ALL, LANDED
 
 CHECKS = []
 
@@ -525,6 +525,13 @@ def comparison_can_fail():
             told = []
             passed = compare.compare(fake_desk(folder, name), 1, 6000, FEW, told.append)
             same(passed, name == "faithful", name, told[:3])
+
+
+@check
+def comparison_needs_every_answer():
+    same(sorted(GIVES), sorted(LANDED))
+    same(list(compare.lacking({("varint-write", "0"): 1, ("varint-write", "3"): 1, ("varint-write", "?"): 1}, ["varint-write"])),
+         ["varint-write never answered 11", "varint-write answered 3, which it cannot"])
 
 
 @check
