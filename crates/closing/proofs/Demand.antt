@@ -8,7 +8,7 @@ use native.Mathlib.Omega.{arith}
 use borrow.Author.Tests.{le-leb, lt-leb, leb-true, leb-false}
 use lib.Dec.{leb}
 use lib.ListN.{length, take}
-use Rattle.wire.specs.Answer.{choose}
+use Rattle.wire.specs.Answer.{choose, done, failedAt}
 use Rattle.wire.specs.Over.{over}
 use Rattle.wire.proofs.Overs.{read-over}
 use Rattle.lend.specs.Same.{same}
@@ -22,7 +22,7 @@ use Rattle.state.proofs.Finished.{finish-exact, finish-whole, finish-14, finish
 use Rattle.book.specs.Read.{idOf, readBook, okBook}
 use Rattle.book.proofs.Decode.{decoded-valid}
 use Rattle.closing.specs.Sets.{Answers}
-use Rattle.closing.specs.Finish.{collected, vouched, finished, wrote, failed, outcome, told, after, Closed}
+use Rattle.closing.specs.Finish.{collected, vouched, finished, outcome, told, after, Closed}
 use Rattle.closing.specs.declared.Finished.{Finished}
 use Rattle.closing.specs.declared.Finished.the-variants.{Done, Refused}
 use Rattle.closing.proofs.Once.{finished-injective}
@@ -153,7 +153,7 @@ module _ (v : Finish) (out out' : List ℕ) (r : Finished) (p : Closed v out out
   pub refused-exact : (n k : ℕ) → (r ≡ Refused n k) ↔ (v ≡ lacking n k)
   refused-exact n k = ((λ e. from v (sym (p .answer) ∙ ap told e)), λ e. finished-injective r (Refused n k) (p .answer ∙ ap outcome e))
     where
-      from : (x : Finish) → outcome x ≡ failed n k → x ≡ lacking n k
+      from : (x : Finish) → outcome x ≡ failedAt n k → x ≡ lacking n k
       from (whole d) e = let z : _≡_ {A = ℕ} 0 1 = cc in absurd (omega arith)
       from (lacking i j) e = cc
 
@@ -170,7 +170,7 @@ module _ (v : Finish) (out out' : List ℕ) (r : Finished) (p : Closed v out out
         (finished-injective r (Done (length d)) (p .answer ∙ ap outcome e), p .output ∙ ap (after out) e),
   )
     where
-      from : (x : Finish) → v ≡ x → outcome x ≡ wrote (length d) → after out x ≡ over 0 d out → v ≡ whole d
+      from : (x : Finish) → v ≡ x → outcome x ≡ done (length d) → after out x ≡ over 0 d out → v ≡ whole d
       from (whole y) q e o =
           let n : length y ≡ length d = cc in
           let z : y ≡ d =

@@ -7,6 +7,7 @@ use native.Mathlib.Omega.{arith}
 use borrow.Author.Tests.{le-leb, lt-leb, ne-eqb}
 use lib.Dec.{leb}
 use lib.ListN.{length, take, drop, getD, replicate, length-replicate}
+use Rattle.wire.specs.Answer.{done}
 use Rattle.wire.specs.Over.{over}
 use Rattle.wire.proofs.Overs.{read-over}
 use Rattle.lend.specs.Same.{same}
@@ -20,7 +21,7 @@ use Rattle.book.specs.Read.{idOf, readPages, bookFor, readBook, okBook}
 use Rattle.book.proofs.Decode.{length-read, read-short, ok-size, ok-head, head-allowed, total-range, book-0, book-1}
 use Rattle.tally.specs.State.{inState}
 use Rattle.tally.proofs.Pages.{in-absent, in-disputed, lowest-as, take-read}
-use Rattle.closing.specs.Finish.{collected, vouched, finished, wrote, Closed}
+use Rattle.closing.specs.Finish.{collected, vouched, finished, Closed}
 use Rattle.closing.specs.declared.Finished.{Finished}
 use Rattle.closing.specs.declared.Finished.the-variants.{Done, Refused}
 
@@ -78,7 +79,7 @@ module _ (c out x : List ℕ) (t n : ℕ) (low : t ≤ 96)
     unfolding d
     delivered out' w o =
         closed-as (vouched (idOf c) out (whole (joined (readPages 0 t c)))) (whole (joined (readPages 0 t c))) out out' (Done n) (rw (room, ← test, w))
-        (record { answer = ap wrote (g .0); output = o ∙ rw aside })
+        (record { answer = ap (done {A = ℕ}) (g .0); output = o ∙ rw aside })
 
 -- ---- the collection itself
 

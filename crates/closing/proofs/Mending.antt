@@ -8,7 +8,7 @@ use native.Mathlib.Omega.{arith}
 use native.Mathlib.Numerals.{add-one}
 use lib.ListN.{length, take, drop, getD, length-append, length-take, length-drop, take-append-drop, List·getD-append}
 use lib.Seq.{take-at, drop-append-add, drop-append-le, take-append-le, getD-drop}
-use Rattle.wire.specs.Answer.{choose}
+use Rattle.wire.specs.Answer.{choose, done, failed}
 use Rattle.wire.specs.Over.{over}
 use Rattle.wire.proofs.Cases.{lt-or-le}
 use Rattle.page.proofs.Counts.{first-eight}
@@ -21,7 +21,7 @@ use Rattle.book.specs.Head.{Head, readHead, hasHead}
 use Rattle.book.specs.Read.{idOf, totalIn, pageAt, okAt}
 use Rattle.book.proofs.Decode.{head-size, head-eight}
 use Rattle.book.proofs.Places.{anew-size, anew-here, anew-front, anew-other, same-blocks}
-use Rattle.closing.specs.Mend.{mendedBlock, mendedPages, badPages, mended, repaired, failed, repair}
+use Rattle.closing.specs.Mend.{mendedBlock, mendedPages, badPages, mended, repair}
 
 -- ---- the head is what the first block says
 
@@ -279,6 +279,6 @@ module _ (c : List ℕ) (q : Bool) (e : q ≡ hasHead c) where
   mend-refused f = rw (← e, f) (refl, refl)
 
   pub mend-made : q ≡ true → (n : ℕ) (x : List ℕ)
-      → (n ≡ badPages (idOf c) (totalIn c) 0 96 c) × (x ≡ take 512 c ++ mendedPages (idOf c) (totalIn c) 0 96 c) → (repaired n ≡ repair c) × (x ≡ mended c)
+      → (n ≡ badPages (idOf c) (totalIn c) 0 96 c) × (x ≡ take 512 c ++ mendedPages (idOf c) (totalIn c) 0 96 c) → (done n ≡ repair c) × (x ≡ mended c)
   unfolding repair mended
-  mend-made f n x (g, h) = rw (← e, f) (ap repaired g, h)
+  mend-made f n x (g, h) = rw (← e, f) (ap (done {A = ℕ}) g, h)

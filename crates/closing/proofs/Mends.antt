@@ -8,7 +8,7 @@ use native.Mathlib.Omega.{arith}
 use borrow.Author.Tests.{eq-eqb}
 use lib.Dec.{eqb, ltb}
 use lib.ListN.{length, take, getD}
-use Rattle.wire.specs.Answer.{choose}
+use Rattle.wire.specs.Answer.{choose, done, failed}
 use Rattle.wire.proofs.Cases.{both-hold}
 use Rattle.state.specs.State.{Slot, absent, held, empty, collecting, disagree}
 use Rattle.state.specs.Finish.{isAbsent}
@@ -20,7 +20,7 @@ use Rattle.book.specs.Head.{readHead, okHead, hasHead}
 use Rattle.book.specs.Read.{idOf, totalIn, pageAt, readPages, bookFor, readBook, okAt, okPages, okBook}
 use Rattle.book.proofs.Decode.{head-size, head-eight, ok-head, ok-at, pages-all, read-block}
 use Rattle.book.proofs.Places.{same-blocks}
-use Rattle.closing.specs.Mend.{mendedBlock, badPages, mended, repaired, failed, repair}
+use Rattle.closing.specs.Mend.{mendedBlock, badPages, mended, repair}
 use Rattle.closing.proofs.Mending.{same-head, same-id, same-total, short-absent, mendedFile, file-is, file-size, file-front, file-page}
 
 -- ---- one block
@@ -113,7 +113,7 @@ module _ (c : List ℕ) (ok : hasHead c ≡ true) where
   unfolding mended
   is-file = rw ok (sym (file-is c ok))
 
-  pub mended-count : repair c ≡ repaired (badPages (idOf c) (totalIn c) 0 96 c)
+  pub mended-count : repair c ≡ done (badPages (idOf c) (totalIn c) 0 96 c)
   unfolding repair
   mended-count = rw ok
 
@@ -183,31 +183,31 @@ module _ (c : List ℕ) (ok : okBook c ≡ true) where
       same-blocks (mended c) c (mended-size c h) (head-size c h) (mended-front c h) (λ k l. mended-kept c h k l (ok-at c ok k l))
 
   -- and answers 0
-  pub mended-zero : repair c ≡ repaired 0
+  pub mended-zero : repair c ≡ done 0
   unfolding okBook
   mended-zero =
       mended-count c (ok-head c ok)
-      ∙ ap repaired (bad-none (idOf c) (totalIn c) c 0 96 (both-hold (hasHead c) (okPages (idOf c) (totalIn c) 0 96 c) ok .1))
+      ∙ ap (done {A = ℕ}) (bad-none (idOf c) (totalIn c) c 0 96 (both-hold (hasHead c) (okPages (idOf c) (totalIn c) 0 96 c) ok .1))
 
 -- mending again changes nothing and answers 0
 pub again-same : (c : List ℕ) → hasHead c ≡ true → mended (mended c) ≡ mended c
 again-same c ok = mended-same (mended c) (mended-ok c ok)
 
-pub again-zero : (c : List ℕ) → hasHead c ≡ true → repair (mended c) ≡ repaired 0
+pub again-zero : (c : List ℕ) → hasHead c ≡ true → repair (mended c) ≡ done 0
 again-zero c ok = mended-zero (mended c) (mended-ok c ok)
 
 -- the answer is 0 exactly of a collection that is well formed
-pub zero-exact : (c : List ℕ) → (repair c ≡ repaired 0) ↔ (okBook c ≡ true)
+pub zero-exact : (c : List ℕ) → (repair c ≡ done 0) ↔ (okBook c ≡ true)
 unfolding okBook
 zero-exact c = ((λ e. go (hasHead c) refl e), mended-zero c)
   where
-    go : (w : Bool) → hasHead c ≡ w → repair c ≡ repaired 0 → (hasHead c && okPages (idOf c) (totalIn c) 0 96 c) ≡ true
+    go : (w : Bool) → hasHead c ≡ w → repair c ≡ done 0 → (hasHead c && okPages (idOf c) (totalIn c) 0 96 c) ≡ true
     go true h e =
-        let f : repaired (badPages (idOf c) (totalIn c) 0 96 c) ≡ repaired 0 = sym (mended-count c h) ∙ e in
+        let f : done (badPages (idOf c) (totalIn c) 0 96 c) ≡ done 0 = sym (mended-count c h) ∙ e in
         let z : badPages (idOf c) (totalIn c) 0 96 c ≡ 0 = cc in
         rw (h, none-bad (idOf c) (totalIn c) c 0 96 z)
     go false h e =
-        let f : failed 13 ≡ repaired 0 = sym (refused c h) ∙ e in
+        let f : failed {A = ℕ} 13 ≡ done 0 = sym (refused c h) ∙ e in
         let z : _≡_ {A = ℕ} 0 1 = cc in
         absurd (omega arith)
 

@@ -4,7 +4,7 @@ use mathlib.Core.Path.{_≡_}
 use mathlib.Core.List.{List}
 use lib.Dec.{leb}
 use lib.ListN.{length}
-use Rattle.wire.specs.Answer.{choose}
+use Rattle.wire.specs.Answer.{choose, Answer, done, failedAt}
 use Rattle.wire.specs.Over.{over}
 use Rattle.lend.specs.Same.{same}
 use Rattle.page.specs.Page.{documentId}
@@ -27,18 +27,14 @@ unfoldable pub finished : List ℕ → List ℕ → Finish
 finished c out = vouched (idOf c) out (collected c)
 
 -- 01's answer: 0 with the number of bytes written, or a refusal and its place
-pub data Outcome : Type 0 where
-  wrote : ℕ → Outcome
-  failed : ℕ → ℕ → Outcome
+abbrev pub outcome : Finish → Answer ℕ
+outcome (whole d) = done (length d)
+outcome (lacking e k) = failedAt e k
 
-abbrev pub outcome : Finish → Outcome
-outcome (whole d) = wrote (length d)
-outcome (lacking e k) = failed e k
-
--- the enum's cases as 01's number and values
-abbrev pub told : Finished → Outcome
-told (Done len) = wrote len
-told (Refused e k) = failed e k
+-- the enum's cases as 01's number, place and value
+abbrev pub told : Finished → Answer ℕ
+told (Done len) = done len
+told (Refused e k) = failedAt e k
 
 -- every byte of the output after the call: the data stand in front, or nothing changed
 abbrev pub after : List ℕ → Finish → List ℕ

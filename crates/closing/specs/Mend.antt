@@ -2,7 +2,7 @@
 use Prim.Native.Nat.{ℕ, zero, suc, _+_}
 use mathlib.Core.List.{List, [], _++_}
 use lib.ListN.{take}
-use Rattle.wire.specs.Answer.{choose}
+use Rattle.wire.specs.Answer.{choose, Answer, done, failed}
 use Rattle.state.specs.State.{absent}
 use Rattle.block.specs.Block.{pageBlock}
 use Rattle.book.specs.Head.{hasHead}
@@ -29,14 +29,10 @@ unfoldable pub mended : List ℕ → List ℕ
 mended c = choose (hasHead c) (take 512 c ++ mendedPages (idOf c) (totalIn c) 0 96 c) c
 
 -- 01's answer: 0 with the number of blocks that became absent, or a refusal
-pub data Repair : Type 0 where
-  repaired : ℕ → Repair
-  failed : ℕ → Repair
+unfoldable pub repair : List ℕ → Answer ℕ
+repair c = choose (hasHead c) (done (badPages (idOf c) (totalIn c) 0 96 c)) (failed 13)
 
-unfoldable pub repair : List ℕ → Repair
-repair c = choose (hasHead c) (repaired (badPages (idOf c) (totalIn c) 0 96 c)) (failed 13)
-
--- the enum's cases as 01's number and value
-abbrev pub told : Mended → Repair
-told (Done count) = repaired count
+-- the enum's cases as 01's number, place and value
+abbrev pub told : Mended → Answer ℕ
+told (Done count) = done count
 told (Refused e) = failed e

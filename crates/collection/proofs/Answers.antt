@@ -2,7 +2,8 @@
 use mathlib.Core.Path.{_≡_, refl, sym, _∙_}
 use mathlib.Core.List.{List}
 use Prim.Native.Nat.{ℕ}
-use Rattle.collection.specs.Collection.{Decision, Answer, Kept}
+use Rattle.wire.specs.Answer.{Answer}
+use Rattle.collection.specs.Collection.{Decision, Kept}
 use Rattle.collection.specs.Answer.{told, toldKind}
 use Rattle.collection.specs.declared.Answered.{Answered}
 use Rattle.collection.specs.declared.Answered.the-variants as A

@@ -17,7 +17,8 @@ use Rattle.book.specs.Encode.{encode, withBlank}
 use Rattle.book.specs.Read.{idOf, readBook, okBook}
 use Rattle.book.proofs.Decode.{ok-size}
 use Rattle.book.proofs.Changes.{made-empty}
-use Rattle.collection.specs.Collection.{goodPage, opening, offering, joining, done, failed, Kept}
+use Rattle.wire.specs.Answer.{done, failed}
+use Rattle.collection.specs.Collection.{goodPage, opening, offering, joining, Kept}
 use Rattle.collection.specs.Parts.{page, pageTold, pageNo, Of, Became}
 use Rattle.collection.specs.declared.take.PageRead.{PageRead}
 use Rattle.collection.specs.declared.take.PageRead.the-variants as P

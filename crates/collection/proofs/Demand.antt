@@ -6,7 +6,7 @@ use mathlib.Core.Logic.{_⊎_, inl, inr, ⊎-elim}
 use mathlib.Core.List.{List, [], _∷_, _++_}
 use Prim.Native.Nat.{ℕ}
 use lib.ListN.{length}
-use Rattle.wire.specs.Answer.{choose, Got, got, refused}
+use Rattle.wire.specs.Answer.{choose, Got, got, refused, done}
 use Rattle.state.specs.State.{Book}
 use Rattle.state.specs.Take.{Page, takePage, kindOf}
 use Rattle.state.specs.Meaning.{BookIs}
@@ -15,7 +15,7 @@ use Rattle.state.proofs.Histories as H
 use Rattle.book.specs.Encode.{encode}
 use Rattle.book.specs.Read.{idOf, readBook, okBook}
 use Rattle.book.proofs.Round.{valid-fits, encode-ok, encode-id, encode-read}
-use Rattle.collection.specs.Collection.{Decision, refuses, goodPage, offering, done, answerOf, bytesAfter}
+use Rattle.collection.specs.Collection.{Decision, refuses, goodPage, offering, answerOf, bytesAfter}
 use Rattle.collection.specs.Built.{Built, opened, offered, joined, bytesOf, Says, In, Lent, offeredAll, Among, PageAmong, AllBytes}
 use Rattle.collection.proofs.Replay.{taken, history, offer-encode, run-valid, bytes-run, run-means}
 

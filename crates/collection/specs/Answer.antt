@@ -1,6 +1,6 @@
 -- What open, offer and join answer, as document 01's number and values.
 use Prim.Native.Nat.{ℕ}
-use Rattle.collection.specs.Collection.{Answer, done, failed}
+use Rattle.wire.specs.Answer.{Answer, done, failed}
 use Rattle.collection.specs.declared.Answered.{Answered}
 use Rattle.collection.specs.declared.Answered.the-variants as A
 use Rattle.collection.specs.declared.Offered.{Offered}

@@ -5,7 +5,7 @@ use mathlib.Core.Bool.{_&&_}
 use mathlib.Core.List.{List}
 use lib.Dec.{eqb}
 use lib.ListN.{length}
-use Rattle.wire.specs.Answer.{choose, Got, got, refused, then}
+use Rattle.wire.specs.Answer.{choose, Got, got, refused, then, Answer, done, failed}
 use Rattle.lend.specs.Same.{same}
 use Rattle.frame.specs.Frame as F
 use Rattle.state.specs.State.{empty}
@@ -58,10 +58,6 @@ joining c o =
 -- ---- the answer, and the bytes
 
 -- 01's answer: 0 with a value, or the number of a refusal
-pub data Answer (A : Type 0) : Type 0 where
-  done : A → Answer A
-  failed : ℕ → Answer A
-
 abbrev pub answerOf : {A : Type 0} → Decision A → Answer A
 answerOf (leaves x a) = done a
 answerOf (refuses e) = failed e

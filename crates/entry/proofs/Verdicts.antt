@@ -1,12 +1,13 @@
 -- For `search`: a test that a call answered picks its case of a verdict. Assumes nothing.
+use Prim.Native.Nat.{ℕ}
 use mathlib.Core.Path.{_≡_}
 use mathlib.Core.Bool.{Bool, true, false}
 use borrow.Author.Tests.{le-leb, lt-leb}
-use Rattle.wire.specs.Answer.{choose}
-use Rattle.wire.specs.Writing.{Verdict, Outcome, outcome}
+use Rattle.wire.specs.Answer.{choose, Answer}
+use Rattle.wire.specs.Writing.{Verdict, outcome}
 use Rattle.wire.proofs.Cases.{said-no, said-yes}
 
-module _ (t : Bool) (r : Outcome) (v w : Verdict) where
+module _ (t : Bool) (r : Answer ℕ) (v w : Verdict) where
   pub outcome-yes : t ≡ true → r ≡ outcome v → r ≡ outcome (choose t v w)
   outcome-yes e h = rw e h
 

@@ -8,8 +8,8 @@ use borrow.Author.Tests.{leb-true, eqb-true, le-leb, lt-leb, eq-eqb}
 use lib.Dec.{ltb, leb, eqb}
 use lib.ListN.{length, take, drop, length-drop, drop-of-length-le}
 use lib.Seq.{take-nil, take-all}
-use Rattle.wire.specs.Answer.{choose}
-use Rattle.wire.specs.Writing.{Verdict, bytes, fault, wrote, failed, told, outcome}
+use Rattle.wire.specs.Answer.{choose, done, failed}
+use Rattle.wire.specs.Writing.{Verdict, bytes, fault, told, outcome}
 use Rattle.wire.specs.declared.Wrote.{Wrote}
 use Rattle.wire.specs.declared.Wrote.the-variants.{Done, Refused}
 use Rattle.wire.proofs.Cases.{both-hold, said-no, said-yes}
@@ -179,22 +179,22 @@ module _ (pool prev : List ℕ) (f : File) (e : Bool) (q : e ≡ pathIn pool pre
   judged-path = named-length pool prev (f .path) (path-named pool prev (f .path) (said-yes e _ q y))
 
   pub judge-done : (d t : Bool) (n : ℕ) → d ≡ digestIn pool (f .hash) → not d ≡ false → f .size ≤ 4294967295 → t ≡ mtimeAllowed (f .mtime) → not t ≡ false → n ≡ fileSize f
-      → wrote n ≡ outcome (fileVerdict pool prev f)
+      → done n ≡ outcome (fileVerdict pool prev f)
   judge-done d t n p x z r w k =
       let h = digest-within pool (f .hash) (said-yes d _ p x) in
       let g : Good pool prev f =
       record { hash-within = h .0; hash-long = h .1; named = path-named pool prev (f .path) (said-yes e _ q y); sized = z; dated = said-yes t _ r w } in
-      ap wrote (k ∙ sym (good-length pool prev f g .0)) ∙ ap outcome (sym (good-verdict pool prev f g))
+      ap (done {A = ℕ}) (k ∙ sym (good-length pool prev f g .0)) ∙ ap outcome (sym (good-verdict pool prev f g))
 
 -- ---- what an answer says of its verdict
 
 pub done-verdict : (v : Verdict) (j : Wrote) (n : ℕ) → told j ≡ outcome v → j ≡ Done n → (bs : List ℕ) × (v ≡ bytes bs) × (length bs ≡ n)
-done-verdict (bytes bs) j n e k = let h : wrote n ≡ wrote (length bs) = ap told (sym k) ∙ e in let l : length bs ≡ n = cc in (bs, refl, l)
-done-verdict (fault f) j n e k = let h : wrote n ≡ failed f = ap told (sym k) ∙ e in let z : _≡_ {A = ℕ} 0 1 = cc in absurd (omega arith)
+done-verdict (bytes bs) j n e k = let h : done n ≡ done (length bs) = ap told (sym k) ∙ e in let l : length bs ≡ n = cc in (bs, refl, l)
+done-verdict (fault f) j n e k = let h : done n ≡ failed f = ap told (sym k) ∙ e in let z : _≡_ {A = ℕ} 0 1 = cc in absurd (omega arith)
 
 pub refused-verdict : (v : Verdict) (j : Wrote) (n : ℕ) → told j ≡ outcome v → j ≡ Refused n → v ≡ fault n
-refused-verdict (bytes bs) j n e k = let h : failed n ≡ wrote (length bs) = ap told (sym k) ∙ e in let z : _≡_ {A = ℕ} 0 1 = cc in absurd (omega arith)
-refused-verdict (fault f) j n e k = let h : failed n ≡ failed f = ap told (sym k) ∙ e in let l : f ≡ n = cc in ap fault l
+refused-verdict (bytes bs) j n e k = let h : failed n ≡ done (length bs) = ap told (sym k) ∙ e in let z : _≡_ {A = ℕ} 0 1 = cc in absurd (omega arith)
+refused-verdict (fault f) j n e k = let h : failed {A = ℕ} n ≡ failed f = ap told (sym k) ∙ e in let l : f ≡ n = cc in ap fault l
 
 -- ---- `file`
 

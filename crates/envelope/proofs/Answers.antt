@@ -7,7 +7,7 @@ use native.Mathlib.Nat.{zero-add}
 use native.Mathlib.Omega.{arith}
 use lib.Dec.{leb}
 use lib.ListN.{length, take, drop}
-use Rattle.wire.specs.Answer.{choose, numberOf}
+use Rattle.wire.specs.Answer.{choose, numberOf, done, failedAt}
 use Rattle.wire.specs.Writing as Writing
 use Rattle.wire.specs.Writing.{Written, bytes}
 use Rattle.wire.specs.declared.Wrote.{Wrote}
@@ -16,7 +16,7 @@ use Rattle.cover.specs.Cover.{Cover, coverAt, coverOf}
 use Rattle.cover.specs.Answer as C
 use Rattle.cover.specs.declared.CoverRead.{CoverRead}
 use Rattle.cover.specs.declared.CoverRead.the-variants as K
-use Rattle.envelope.specs.Placed.{Placed, fine, faulty, on}
+use Rattle.envelope.specs.Placed.{Placed, fine, faulty, on, said}
 use Rattle.envelope.specs.Envelope.{judged, envelopeAt, verdict}
 use Rattle.envelope.specs.Answer.{readTold, wroteTold, after, EnvelopeWritten}
 use Rattle.envelope.specs.Parts.{judgeTold, wroteAs}
@@ -30,7 +30,7 @@ use Rattle.envelope.specs.declared.EnvelopeWrote.the-variants as W
 -- ---- reading
 
 -- the cover was refused
-pub read-cover : (s : List ℕ) (r : CoverRead) (e n : ℕ) → C.told r ≡ coverAt s → r ≡ K.Refused e → n ≡ numberOf (C.told r) → faulty n 0 ≡ envelopeAt s
+pub read-cover : (s : List ℕ) (r : CoverRead) (e n : ℕ) → C.told r ≡ coverAt s → r ≡ K.Refused e → n ≡ numberOf (C.told r) → failedAt n 0 ≡ said (envelopeAt s)
 unfolding envelopeAt
 read-cover s r e n h k w = rw (w, ← h, k)
 
@@ -46,11 +46,11 @@ module _ (s : List ℕ) (r : CoverRead) (m ml p pl : ℕ) (e : C.told r ≡ cove
       let b : p + pl - p ≡ pl = omega arith in
       h ∙ rw (a, b)
 
-  pub read-faulty : (n place : ℕ) → j ≡ J.Faulty n place → faulty n place ≡ envelopeAt s
+  pub read-faulty : (n place : ℕ) → j ≡ J.Faulty n place → failedAt n place ≡ said (envelopeAt s)
   unfolding envelopeAt
   read-faulty n place w = rw (← e, k, ← judge-said, w)
 
-  pub read-fine : j ≡ J.Fine → fine cover ≡ envelopeAt s
+  pub read-fine : j ≡ J.Fine → done cover ≡ said (envelopeAt s)
   unfolding envelopeAt
   read-fine w = rw (← e, k, ← judge-said, w)
 
@@ -75,20 +75,20 @@ module _ (m p out : List ℕ) (j : Judge) (h : judgeTold j ≡ judged m p) where
     where
       go : (t : Bool) (w : Wrote) → Writing.told w ≡ Writing.outcome (choose t (bytes (coverOf m p)) (Writing.fault 11))
           → out' ≡ Writing.after 0 out (choose t (bytes (coverOf m p)) (Writing.fault 11))
-          → (wroteTold (wroteAs w) ≡ on (choose t (fine (coverOf m p)) (faulty 11 0)) (λ bs. fine (length bs))) × (out' ≡ after out (choose t (fine (coverOf m p)) (faulty 11 0)))
-      go true (O.Done n) a o = let q : n ≡ length (coverOf m p) = cc in (ap fine q, o)
+          → (wroteTold (wroteAs w) ≡ said (on (choose t (fine (coverOf m p)) (faulty 11 0)) (λ bs. fine (length bs)))) × (out' ≡ after out (choose t (fine (coverOf m p)) (faulty 11 0)))
+      go true (O.Done n) a o = let q : n ≡ length (coverOf m p) = cc in (ap (done {A = ℕ}) q, o)
       go true (O.Refused n) a o = let z : _≡_ {A = ℕ} 0 1 = cc in absurd (omega arith)
       go false (O.Done n) a o = let z : _≡_ {A = ℕ} 0 1 = cc in absurd (omega arith)
-      go false (O.Refused n) a o = let q : n ≡ 11 = cc in (ap (λ (i : ℕ). faulty i 0) q, o)
+      go false (O.Refused n) a o = let q : n ≡ 11 = cc in (ap (λ (i : ℕ). failedAt i 0) q, o)
 
 -- ---- an enum says no more than 01's answer does
 
-fine-value : {A : Type 0} {x y : A} → fine x ≡ fine y → x ≡ y
-fine-value e = cc
+done-value : {A : Type 0} {x y : A} → done x ≡ done y → x ≡ y
+done-value e = cc
 
 pub read-injective : (r q : EnvelopeRead) → readTold r ≡ readTold q → r ≡ q
 read-injective (R.Envelope m ml p pl) (R.Envelope n nl q ql) e =
-    let v = fine-value e in
+    let v = done-value e in
     let a : m ≡ n = ap (λ (c : Cover). c .manifest) v in
     let b : ml ≡ nl = ap (λ (c : Cover). c .manifest-len) v in
     let c : p ≡ q = ap (λ (c : Cover). c .payload) v in

@@ -7,7 +7,7 @@ use native.Mathlib.Omega.{arith}
 use borrow.Author.Tests.{leb-true, le-leb}
 use lib.Dec.{leb}
 use lib.ListN.{length, take}
-use Rattle.wire.specs.Answer.{choose, Got, got, refused}
+use Rattle.wire.specs.Answer.{choose, Got, got, refused, done}
 use Rattle.wire.specs.Number.{Bytes}
 use Rattle.wire.specs.Over.{over}
 use Rattle.wire.proofs.Overs.{read-over}
@@ -16,7 +16,7 @@ use Rattle.cover.proofs.ReadsBack.{cover-back}
 use Rattle.cover.proofs.OnlyLayouts.{cover-only}
 use Rattle.manifest.specs.Manifest.{manifestAt}
 use Rattle.manifest.proofs.Rounds.{manifest-small}
-use Rattle.envelope.specs.Placed.{Placed, fine, faulty, on, unplaced}
+use Rattle.envelope.specs.Placed.{Placed, fine, faulty, on, unplaced, said}
 use Rattle.envelope.specs.Envelope.{contents, judged, envelopeAt, verdict}
 use Rattle.envelope.specs.Answer.{after, EnvelopeWritten}
 use Rattle.envelope.specs.declared.EnvelopeWrote.{EnvelopeWrote}
@@ -74,7 +74,7 @@ pub done-stood : (v : Placed (List ℕ)) (out out' : List ℕ) (n : ℕ) → Env
 done-stood (faulty e place) out out' n w = let q = w .answer in let z : _≡_ {A = ℕ} 0 1 = cc in absurd (omega arith)
 done-stood (fine bs) out out' n w = go (leb (length bs) (length out)) refl (w .answer) (w .output)
   where
-    go : (t : Bool) → leb (length bs) (length out) ≡ t → fine n ≡ on (choose t (fine bs) (faulty 11 0)) (λ bs. fine (length bs))
+    go : (t : Bool) → leb (length bs) (length out) ≡ t → done n ≡ said (on (choose t (fine bs) (faulty 11 0)) (λ bs. fine (length bs)))
         → out' ≡ after out (choose t (fine bs) (faulty 11 0)) → Stood (fine bs) out out' n
     go true b q o =
         let e : n ≡ length bs = cc in

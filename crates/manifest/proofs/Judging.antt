@@ -8,7 +8,8 @@ use lib.ListN.{length, take, drop, getD, length-append, drop-of-length-le}
 use lib.Seq.{drop-cons, getD-take, length-take-le}
 use mir.Syntax.{w64}
 use mir.Val.{Fits}
-use Rattle.wire.specs.Writing.{Verdict, bytes, fault, wrote, told, outcome}
+use Rattle.wire.specs.Answer.{done}
+use Rattle.wire.specs.Writing.{Verdict, bytes, fault, told, outcome}
 use Rattle.wire.specs.declared.Wrote.{Wrote}
 use Rattle.wire.specs.declared.Wrote.the-variants.{Done, Refused}
 use Rattle.wire.proofs.Writes.{bytes-injective}
@@ -98,14 +99,14 @@ judge-none pool files count =
     record { most = omega arith; done = []; many = refl; small = omega arith; whole = behind-none (filesVerdict pool [] (take count files)) }
 
 module _ (pool : List ℕ) (files : List File) (count i sum : ℕ) (last : Part) (h : Judging pool files count i sum last) (array : length files ≡ 64) (few : count ≤ 64) where
-  pub judge-end : count ≤ i → wrote sum ≡ outcome (filesVerdict pool [] (take count files))
+  pub judge-end : count ≤ i → done sum ≡ outcome (filesVerdict pool [] (take count files))
   unfolding filesVerdict
   judge-end l =
       let n = length-take-le count files (omega arith) in
       let z : drop i (take count files) ≡ [] = drop-of-length-le (take count files) {i = i} (omega arith) in
       let w : filesVerdict pool [] (take count files) ≡ bytes (h .done ++ []) =
       h .whole ∙ ap (λ (fs : List File). behind (h .done) (filesVerdict pool (partIn pool last) fs)) z in
-      ap wrote (h .many) ∙ ap (λ (bs : List ℕ). wrote (length bs)) (sym (append-nil (h .done))) ∙ ap outcome (sym w)
+      ap (done {A = ℕ}) (h .many) ∙ ap (λ (bs : List ℕ). done (length bs)) (sym (append-nil (h .done))) ∙ ap outcome (sym w)
 
   module _ (l : i < count) (d : File) (prev : List ℕ) (p : prev ≡ partIn pool last) (j : Wrote) (e : told j ≡ outcome (fileVerdict pool prev (getD files i d))) where
     abbrev f : File

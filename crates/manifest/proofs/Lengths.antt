@@ -8,8 +8,8 @@ use borrow.Author.Tests.{leb-true, le-leb, lt-leb}
 use lib.Dec.{leb}
 use lib.ListN.{length, take, length-append, length-map}
 use lib.Seq.{length-take-le}
-use Rattle.wire.specs.Answer.{choose}
-use Rattle.wire.specs.Writing.{Verdict, bytes, wrote, failed, told, Outcome, outcome}
+use Rattle.wire.specs.Answer.{choose, Answer, done, failed}
+use Rattle.wire.specs.Writing.{Verdict, bytes, told, outcome}
 use Rattle.wire.specs.declared.Wrote.{Wrote}
 use Rattle.wire.specs.declared.Wrote.the-variants.{Done, Refused}
 use Rattle.wire.proofs.Cases.{both-hold, said-yes}
@@ -166,7 +166,7 @@ module _ (v : Verdict) (j : Wrote) (k : List ℕ → Verdict) (e : told j ≡ ou
   outcome-stop x h = e ∙ ap outcome (refused-verdict v j x e h ∙ sym (ap (λ (w : Verdict). followed w k) (refused-verdict v j x e h)))
 
   -- they are not
-  pub outcome-on : (n : ℕ) (r : Outcome) → j ≡ Done n → ((bs : List ℕ) → v ≡ bytes bs → length bs ≡ n → r ≡ outcome (k bs)) → r ≡ outcome (followed v k)
+  pub outcome-on : (n : ℕ) (r : Answer ℕ) → j ≡ Done n → ((bs : List ℕ) → v ≡ bytes bs → length bs ≡ n → r ≡ outcome (k bs)) → r ≡ outcome (followed v k)
   outcome-on n r h f = let d = done-verdict v j n e h in f (d .0) (d .1) (d .2) ∙ sym (ap (λ (w : Verdict). outcome (followed w k)) (d .1))
 
 pub list-small : (pool : List ℕ) (fs : List File) (j : Wrote) (n : ℕ) → told j ≡ outcome (filesVerdict pool [] fs) → j ≡ Done n → length fs ≤ 64 → n ≤ 65536
@@ -198,7 +198,7 @@ module _ (pool : List ℕ) (m : Manifest) (array : length (m .files) ≡ 64) (a 
           lt-leb (length (manifestOf pool (listed m))) 16384 (omega (arith, long-whole)),
         )
 
-    pub judge-whole : n ≤ 16384 → wrote n ≡ outcome (manifestVerdict pool m)
+    pub judge-whole : n ≤ 16384 → done n ≡ outcome (manifestVerdict pool m)
     judge-whole l =
         let d = done-verdict (filesVerdict pool [] (take (m .count) (m .files))) j len e k in
         let f : Fit pool m =
@@ -211,4 +211,4 @@ module _ (pool : List ℕ) (m : Manifest) (array : length (m .files) ≡ 64) (a 
           dated = said-yes t _ st yt;
           small = omega (arith, long-whole);
         } in
-        ap wrote long-whole ∙ ap outcome (sym (fit-verdict pool m f))
+        ap (done {A = ℕ}) long-whole ∙ ap outcome (sym (fit-verdict pool m f))

@@ -6,7 +6,7 @@ use mathlib.Core.List.{List}
 use native.Mathlib.Omega.{arith}
 use lib.Dec.{leb}
 use lib.ListN.{length}
-use Rattle.wire.specs.Answer.{choose}
+use Rattle.wire.specs.Answer.{choose, done}
 use Rattle.lend.specs.Same.{same}
 use Rattle.page.specs.Page.{documentId}
 use Rattle.state.specs.Finish.{Finish, whole, lacking, finishBook}
@@ -68,7 +68,7 @@ vouched-most id out (whole e) d h = go (leb (length e) (length out)) (same (docu
     go false u q = let z : _≡_ {A = ℕ} 0 1 = cc in absurd (omega arith)
 vouched-most id out (lacking e n) d h = let z : _≡_ {A = ℕ} 0 1 = cc in absurd (omega arith)
 
-finished-most : (c out : List ℕ) (f : Finish) → F.finished c out ≡ f → (n : ℕ) → F.wrote n ≡ F.outcome f → n ≤ 46080
+finished-most : (c out : List ℕ) (f : Finish) → F.finished c out ≡ f → (n : ℕ) → done n ≡ F.outcome f → n ≤ 46080
 unfolding F.finished
 finished-most c out (whole d) h n e =
     let l : n ≡ length d = cc in

@@ -1,7 +1,6 @@
 -- The one number that each function for the phone answers. include/stiltbasket.h reads it apart.
 use Prim.Native.Nat.{ℕ, _+_, _*_}
-use Rattle.collection.specs.Collection.{Answer, done, failed}
-use Rattle.closing.specs.Finish as F
+use Rattle.wire.specs.Answer.{Answer, reply, with, none}
 
 -- bits 0 to 7 the number of 01; bits 8 to 15 a place, or offer's 1, 2 or 3; bits 16 to 63 a count
 abbrev pub packed : ℕ → ℕ → ℕ → ℕ
@@ -9,15 +8,14 @@ packed number place count = number + 256 * place + 65536 * count
 
 -- open and join
 abbrev pub packedAnswer : Answer Unit → ℕ
-packedAnswer (done v) = packed 0 0 0
-packedAnswer (failed e) = packed e 0 0
+packedAnswer (reply number place v) = packed number place 0
 
--- offer
+-- offer: how the page stands takes the place of a place
 abbrev pub packedKind : Answer ℕ → ℕ
-packedKind (done kind) = packed 0 kind 0
-packedKind (failed e) = packed e 0 0
+packedKind (reply number place (with kind)) = packed number kind 0
+packedKind (reply number place none) = packed number place 0
 
 -- finish: the number of bytes written, or a place
-abbrev pub packedFinish : F.Outcome → ℕ
-packedFinish (F.wrote n) = packed 0 0 n
-packedFinish (F.failed e k) = packed e k 0
+abbrev pub packedFinish : Answer ℕ → ℕ
+packedFinish (reply number place (with n)) = packed number place n
+packedFinish (reply number place none) = packed number place 0

@@ -18,7 +18,8 @@ use Rattle.wire.proofs.Overs.{over-all, read-over}
 use Rattle.wire.proofs.Writes.{passed, escaped, bytes-injective, done-stood, refused-why}
 use Rattle.text.specs.Text.{base64, values, below, readValues, readText, leftover}
 use Rattle.text.proofs.Characters.{length-values}
-use Rattle.collection.specs.Collection.{Answer, bytesAfter, offering, Kept}
+use Rattle.wire.specs.Answer.{Answer}
+use Rattle.collection.specs.Collection.{bytesAfter, offering, Kept}
 use Rattle.scan.specs.Id.{allHex, eightOf, idVerdict}
 use Rattle.scan.specs.Session.{offered, scanned}
 use Rattle.scan.proofs.Hex.{length-eight}

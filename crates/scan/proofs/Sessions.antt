@@ -12,7 +12,8 @@ use Rattle.wire.specs.Over.{over}
 use Rattle.wire.specs.Writing.{Verdict, bytes, fault, Written}
 use Rattle.wire.specs.declared.Wrote.{Wrote}
 use Rattle.wire.specs.declared.Wrote.the-variants.{Done, Refused}
-use Rattle.collection.specs.Collection.{Answer, opening, Kept}
+use Rattle.wire.specs.Answer.{Answer}
+use Rattle.collection.specs.Collection.{opening, Kept}
 use Rattle.status.specs.Line.{statusLine, refusedLine}
 use Rattle.scan.specs.Id.{idVerdict}
 use Rattle.scan.specs.Session.{scanned, At, lineOf, started, ended, longer, next, fed, closed, reported, at}

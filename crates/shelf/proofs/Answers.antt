@@ -8,7 +8,8 @@ use native.Mathlib.Omega.{arith}
 use borrow.Author.Tests.{eq-eqb, ne-eqb, leb-true}
 use lib.Dec.{leb}
 use lib.ListN.{length, take, replicate, length-replicate}
-use Rattle.wire.specs.Answer.{choose}
+use Rattle.wire.specs.Answer.{choose, Answer, failed}
+use Rattle.wire.specs.Answer as wire
 use Rattle.wire.specs.Writing.{bytes, Written}
 use Rattle.wire.specs.declared.Wrote.{Wrote}
 use Rattle.wire.proofs.Overs.{read-over}
@@ -16,7 +17,7 @@ use Rattle.lend.specs.Same.{same}
 use Rattle.page.specs.Page.{documentId}
 use Rattle.state.specs.Finish.{Finish, whole, lacking}
 use Rattle.book.specs.Read.{idOf}
-use Rattle.collection.specs.Collection.{Answer, failed, joining, Kept}
+use Rattle.collection.specs.Collection.{joining, Kept}
 use Rattle.closing.specs.Finish as F
 use Rattle.closing.specs.declared.Finished.{Finished}
 use Rattle.closing.specs.declared.Finished.the-variants as E
@@ -55,7 +56,7 @@ record Gave (c out x : List ℕ) (n : ℕ) : Type 0 where
   fits : n ≤ length out
   stands : take n x ≡ what
 
-gave : (c out x : List ℕ) (v : Finish) (n : ℕ) → F.finished c out ≡ v → F.wrote n ≡ F.outcome v → x ≡ F.after out v → Gave c out x n
+gave : (c out x : List ℕ) (v : Finish) (n : ℕ) → F.finished c out ≡ v → wire.done n ≡ F.outcome v → x ≡ F.after out v → Gave c out x n
 unfolding F.finished
 gave c out x (lacking e k) n m a o = let z : _≡_ {A = ℕ} 0 1 = cc in absurd (omega arith)
 gave c out x (whole d) n m a o =

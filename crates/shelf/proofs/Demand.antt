@@ -7,6 +7,7 @@ use Prim.Native.Nat.{ℕ, _≤_}
 use native.Mathlib.Omega.{arith}
 use borrow.Author.Tests.{le-leb}
 use lib.ListN.{length, replicate, length-replicate}
+use Rattle.wire.specs.Answer.{done, failed}
 use Rattle.lend.proofs.Sames.{same-refl}
 use Rattle.page.specs.Page.{documentId}
 use Rattle.state.specs.State.{Book}
@@ -18,7 +19,7 @@ use Rattle.state.proofs.Finished.{finish-exact, finish-whole, finish-short}
 use Rattle.book.specs.Encode.{encode}
 use Rattle.book.specs.Read.{idOf, readBook, okBook}
 use Rattle.book.proofs.Decode.{decoded-valid}
-use Rattle.collection.specs.Collection.{Decision, leaves, refuses, joining, done, failed, answerOf, bytesAfter}
+use Rattle.collection.specs.Collection.{Decision, leaves, refuses, joining, answerOf, bytesAfter}
 use Rattle.collection.specs.Built.{Built, opened, joined, bytesOf, In, Lent, offeredAll, AllBytes}
 use Rattle.collection.proofs.Demand.{saved, saved-says, list-joined}
 use Rattle.closing.specs.Finish.{collected, vouched, finished}

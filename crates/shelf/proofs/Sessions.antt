@@ -8,7 +8,7 @@ use native.Mathlib.Omega.{arith}
 use borrow.Author.Tests.{eqb-true}
 use lib.Dec.{eqb, leb}
 use lib.ListN.{length}
-use Rattle.wire.specs.Answer.{choose}
+use Rattle.wire.specs.Answer.{choose, done, failed}
 use Rattle.wire.specs.Number.{number, Bytes}
 use Rattle.wire.specs.Writing.{Verdict, bytes, fault}
 use Rattle.wire.proofs.Digits.{digits-small}
@@ -17,7 +17,7 @@ use Rattle.lend.specs.Same.{same}
 use Rattle.text.specs.Text.{base64, values, below, readValues, readText, leftover}
 use Rattle.book.specs.Read.{idOf, okBook}
 use Rattle.book.proofs.Decode.{ok-size}
-use Rattle.collection.specs.Collection.{joining, done, failed, answerOf}
+use Rattle.collection.specs.Collection.{joining, answerOf}
 use Rattle.collection.proofs.Keeps.{open-makes, offer-keeps}
 use Rattle.scan.specs.Id.{idVerdict}
 use Rattle.scan.specs.Session.{offered, scanned, At, lineOf, started, ended, longer, next, fed, closed}

@@ -8,9 +8,9 @@ use native.Mathlib.Omega.{arith}
 use borrow.Author.Tests.{le-leb, lt-leb, leb-true, leb-false}
 use lib.Dec.{leb}
 use lib.ListN.{length}
-use Rattle.wire.specs.Answer.{choose}
+use Rattle.wire.specs.Answer.{choose, done, failed}
 use Rattle.wire.specs.Over.{over}
-use Rattle.wire.specs.Writing.{Verdict, bytes, fault, wrote, failed, told, outcome, roomed, after, Written}
+use Rattle.wire.specs.Writing.{Verdict, bytes, fault, told, outcome, roomed, after, Written}
 use Rattle.wire.specs.declared.Wrote.{Wrote}
 use Rattle.wire.specs.declared.Wrote.the-variants.{Done, Refused}
 use Rattle.wire.proofs.Cases.{lt-or-le}
@@ -79,7 +79,7 @@ pub done-stood : (at : ℕ) (v : Verdict) (out out' : List ℕ) (n : ℕ) → Wr
 done-stood at (fault e) out out' n w = let q = w .answer in let z : _≡_ {A = ℕ} 0 1 = cc in absurd (omega arith)
 done-stood at (bytes bs) out out' n w = go (leb (at + length bs) (length out)) refl (w .answer) (w .output)
   where
-    go : (t : Bool) → leb (at + length bs) (length out) ≡ t → wrote n ≡ outcome (choose t (bytes bs) (fault 11)) → out' ≡ after at out (choose t (bytes bs) (fault 11))
+    go : (t : Bool) → leb (at + length bs) (length out) ≡ t → done n ≡ outcome (choose t (bytes bs) (fault 11)) → out' ≡ after at out (choose t (bytes bs) (fault 11))
         → Stood at (bytes bs) out out' n
     go true p q o =
         let e : n ≡ length bs = cc in

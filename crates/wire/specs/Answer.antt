@@ -21,3 +21,26 @@ then (refused e) f = refused e
 abbrev pub numberOf : {A : Type 0} → Got A → ℕ
 numberOf (got a next) = 0
 numberOf (refused e) = e
+
+-- ---- what a call answers that writes, collects or opens an envelope
+
+-- what comes with the number: the values of a call that is done, or nothing
+pub data Values (A : Type 0) : Type 0 where
+  with : A → Values A
+  none : Values A
+
+-- 01's answer, whole: its number, its place and its values
+pub data Answer (A : Type 0) : Type 0 where
+  reply : ℕ → ℕ → Values A → Answer A
+
+-- done is number 0, with no place
+abbrev pub done : {A : Type 0} → A → Answer A
+done a = reply 0 0 (with a)
+
+-- a refusal is its number and its place, and no value comes with it
+abbrev pub failedAt : {A : Type 0} → ℕ → ℕ → Answer A
+failedAt e place = reply e place none
+
+-- "only 15, 16 and 21 return one, otherwise it is 0"
+abbrev pub failed : {A : Type 0} → ℕ → Answer A
+failed e = failedAt e 0

@@ -5,7 +5,7 @@ use mathlib.Core.Path.{_≡_}
 use mathlib.Core.List.{List}
 use lib.Dec.{leb}
 use lib.ListN.{length}
-use Rattle.wire.specs.Answer.{choose}
+use Rattle.wire.specs.Answer.{choose, Answer, done, failed}
 use Rattle.wire.specs.Over.{over}
 use Rattle.wire.specs.declared.Wrote.{Wrote}
 use Rattle.wire.specs.declared.Wrote.the-variants.{Done, Refused}
@@ -21,17 +21,13 @@ roomed at out (bytes bs) = choose (leb (at + length bs) (length out)) (bytes bs)
 roomed at out (fault e) = fault e
 
 -- 01's answer: 0 with the number of bytes written, or a refusal
-pub data Outcome : Type 0 where
-  wrote : ℕ → Outcome
-  failed : ℕ → Outcome
-
-abbrev pub outcome : Verdict → Outcome
-outcome (bytes bs) = wrote (length bs)
+abbrev pub outcome : Verdict → Answer ℕ
+outcome (bytes bs) = done (length bs)
 outcome (fault e) = failed e
 
--- the enum's cases as 01's number and value
-abbrev pub told : Wrote → Outcome
-told (Done len) = wrote len
+-- the enum's cases as 01's number, place and value
+abbrev pub told : Wrote → Answer ℕ
+told (Done len) = done len
 told (Refused e) = failed e
 
 -- every byte of the output after the call
