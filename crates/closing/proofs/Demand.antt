@@ -1,14 +1,14 @@
 -- Finish said of the SET of pages: the mission's third demand, last sentence. S is any set of pages that the collection is the meaning of.
 use mathlib.Core.Path.{_≡_, refl, sym, ap, _∙_, subst}
 use mathlib.Core.Bool.{Bool, true, false}
-use mathlib.Core.Logic.{_⊎_, inl, inr, _↔_}
+use mathlib.Core.Logic.{_⊎_, inl, inr, ⊎-elim, _↔_}
 use mathlib.Core.List.{List}
 use Prim.Native.Nat.{ℕ, _≤_, _<_}
 use native.Mathlib.Omega.{arith}
 use borrow.Author.Tests.{le-leb, lt-leb, leb-true, leb-false}
 use lib.Dec.{leb}
 use lib.ListN.{length, take}
-use Rattle.wire.specs.Answer.{choose, done, failedAt}
+use Rattle.wire.specs.Answer.{choose, Answer, done, failed, failedAt}
 use Rattle.wire.specs.Over.{over}
 use Rattle.wire.proofs.Overs.{read-over}
 use Rattle.lend.specs.Same.{same}
@@ -18,14 +18,11 @@ use Rattle.state.specs.Take.{Page}
 use Rattle.state.specs.Meaning.{BookIs}
 use Rattle.state.specs.Finish.{Finish, whole, lacking, finishBook}
 use Rattle.state.specs.Complete.{TwoTotals, Complete, FirstDisputed, FirstMissing, FinishIs}
-use Rattle.state.proofs.Finished.{finish-exact, finish-whole, finish-14, finish-15, finish-16, finish-short}
+use Rattle.state.proofs.Finished.{finish-exact, finish-whole, finish-14, finish-15, finish-16, finish-short, finish-place}
 use Rattle.book.specs.Read.{idOf, readBook, okBook}
 use Rattle.book.proofs.Decode.{decoded-valid}
-use Rattle.closing.specs.Sets.{Answers}
-use Rattle.closing.specs.Finish.{collected, vouched, finished, outcome, told, after, Closed}
-use Rattle.closing.specs.declared.Finished.{Finished}
-use Rattle.closing.specs.declared.Finished.the-variants.{Done, Refused}
-use Rattle.closing.proofs.Once.{finished-injective}
+use Rattle.closing.specs.Sets.{Gives, Answers}
+use Rattle.closing.specs.Finish.{collected, vouched, finished, outcome, after}
 
 -- ---- the output and the id are judged only where the data are there
 
@@ -146,64 +143,86 @@ module _ (S : Page → Type 0) (c out : List ℕ) (ok : okBook c ≡ true) (m : 
       go e (inr (d, p, inr (h, inl (i, q)))) = (d, complete d .0 p, h, i)
       go e (inr (d, p, inr (h, inr (i, q)))) = let z : _≡_ {A = ℕ} 0 1 = cc in absurd (omega arith)
 
--- ---- what the caller gets: an answer and an output that keep the promise
+-- ---- what the caller gets: 01's answer and the output that were decided
 
-module _ (v : Finish) (out out' : List ℕ) (r : Finished) (p : Closed v out out' r) where
+module _ (v : Finish) (out out' : List ℕ) (a : Answer ℕ) (p : a ≡ outcome v) (o : out' ≡ after out v) where
   -- a refusal, exactly when that was decided
-  pub refused-exact : (n k : ℕ) → (r ≡ Refused n k) ↔ (v ≡ lacking n k)
-  refused-exact n k = ((λ e. from v (sym (p .answer) ∙ ap told e)), λ e. finished-injective r (Refused n k) (p .answer ∙ ap outcome e))
+  pub refused-exact : (n k : ℕ) → (a ≡ failedAt n k) ↔ (v ≡ lacking n k)
+  refused-exact n k = ((λ e. from v (sym p ∙ e)), λ e. p ∙ ap outcome e)
     where
       from : (x : Finish) → outcome x ≡ failedAt n k → x ≡ lacking n k
       from (whole d) e = let z : _≡_ {A = ℕ} 0 1 = cc in absurd (omega arith)
       from (lacking i j) e = cc
 
   -- and it changes nothing
-  pub refused-kept : (n k : ℕ) → r ≡ Refused n k → out' ≡ out
-  refused-kept n k e = p .output ∙ ap (after out) (refused-exact n k .0 e)
+  refused-kept : (n k : ℕ) → a ≡ failedAt n k → out' ≡ out
+  refused-kept n k e = o ∙ ap (after out) (refused-exact n k .0 e)
 
   -- the data, exactly when they were decided on
-  pub done-exact : (d : List ℕ) → length d ≤ length out → ((x : List ℕ) → v ≡ whole x → length x ≤ length out)
-      → ((r ≡ Done (length d)) × (out' ≡ over 0 d out)) ↔ (v ≡ whole d)
-  done-exact d fits f = (
-    (λ (e, o). from v refl (sym (p .answer) ∙ ap told e) (sym (p .output) ∙ o)),
-    λ e.
-        (finished-injective r (Done (length d)) (p .answer ∙ ap outcome e), p .output ∙ ap (after out) e),
-  )
+  done-exact : (d : List ℕ) → ((x : List ℕ) → v ≡ whole x → length x ≤ length out) → Gives out out' a d ↔ (v ≡ whole d)
+  done-exact d f = ((λ (e, q). from v refl (sym p ∙ e) (sym o ∙ q)), λ e. (p ∙ ap outcome e, o ∙ ap (after out) e))
     where
       from : (x : Finish) → v ≡ x → outcome x ≡ done (length d) → after out x ≡ over 0 d out → v ≡ whole d
-      from (whole y) q e o =
+      from (whole y) q e h =
           let n : length y ≡ length d = cc in
+          let l = f y q in
           let z : y ≡ d =
-          sym (read-over 0 y out (omega (arith, f y q)))
-          ∙ ap (λ (l : List ℕ). take (length y) l) o
-          ∙ ap (λ (k : ℕ). take k (over 0 d out)) n
-          ∙ read-over 0 d out (omega arith) in
+          sym (read-over 0 y out (omega arith)) ∙ ap (λ (w : List ℕ). take (length y) w) h ∙ ap (λ (k : ℕ). take k (over 0 d out)) n ∙ read-over 0 d out (omega arith) in
           q ∙ ap whole z
-      from (lacking i j) q e o = let z : _≡_ {A = ℕ} 0 1 = cc in absurd (omega arith)
+      from (lacking i j) q e h = let z : _≡_ {A = ℕ} 0 1 = cc in absurd (omega arith)
 
 both : {A B C : Type 0} → A ↔ B → B ↔ C → A ↔ C
 both f g = ((λ a. g .0 (f .0 a)), λ c. f .1 (g .1 c))
 
-pub finish-demand : (S : Page → Type 0) (c out out' : List ℕ) (r : Finished) → okBook c ≡ true → BookIs S (readBook c) → Closed (finished c out) out out' r
-    → Answers S c out out' r
-finish-demand S c out out' r ok m p = record {
-  gives = λ d h.
-      let f : (x : List ℕ) → finished c out ≡ whole x → length x ≤ length out = λ x e. decided-data S c out ok m x .0 e .1 in
-      let a = done-exact (finished c out) out out' r p d h f in
-      let b = decided-data S c out ok m d in
-      ((λ w. let t = b .0 (a .0 w) in (t .0, t .2)), λ w. a .1 (b .1 (w .0, h, w .1)));
-  no-room = both (refused-exact (finished c out) out out' r p 11 0) (decided-11 S c out ok m);
-  other-document = both (refused-exact (finished c out) out out' r p 17 0) (decided-17 S c out ok m);
-  totals = both (refused-exact (finished c out) out out' r p 14 0) (decided-14 S c out ok m);
-  disputed = λ k. both (refused-exact (finished c out) out out' r p 15 k) (decided-15 S c out ok m k);
-  missing = λ k. both (refused-exact (finished c out) out out' r p 16 k) (decided-16 S c out ok m k);
-  unchanged = refused-kept (finished c out) out out' r p;
-}
+module _ (S : Page → Type 0) (c out out' : List ℕ) (a : Answer ℕ) (ok : okBook c ≡ true) (m : BookIs S (readBook c))
+    (p : a ≡ outcome (finished c out)) (o : out' ≡ after out (finished c out)) where
+  -- a complete set has at most 46,080 bytes
+  complete-most : (d : List ℕ) → Complete S d → length d ≤ 46080
+  complete-most d w = let v = decoded-valid c ok in finish-short (readBook c) d v (finish-whole S (readBook c) v m d .1 w)
 
--- 46,080 bytes are room enough for every collection
-pub room-enough : (S : Page → Type 0) (c out out' : List ℕ) (r : Finished) → okBook c ≡ true → BookIs S (readBook c) → Closed (finished c out) out out' r
-    → 46080 ≤ length out → r ≡ Refused 11 0 → ⊥
-room-enough S c out out' r ok m p h e =
-    let w = finish-demand S c out out' r ok m p .no-room .0 e in
-    let v = decoded-valid c ok in
-    omega (arith, w .2, finish-short (readBook c) (w .0) v (finish-whole S (readBook c) v m (w .0) .1 (w .1)))
+  given : (d : List ℕ) → Gives out out' a d ↔ (finished c out ≡ whole d)
+  given d = done-exact (finished c out) out out' a p o d (λ x e. decided-data S c out ok m x .0 e .1)
+
+  -- where the data have room
+  given-room : (d : List ℕ) → (Complete S d → length d ≤ length out) → Gives out out' a d ↔ (Complete S d × (documentId d ≡ idOf c))
+  given-room d h =
+      let b = decided-data S c out ok m d in
+      ((λ w. let t = b .0 (given d .0 w) in (t .0, t .2)), λ w. given d .1 (b .1 (w .0, h (w .0), w .1)))
+
+  refused-as : (n k : ℕ) → (a ≡ failedAt n k) ↔ (finished c out ≡ lacking n k)
+  refused-as = refused-exact (finished c out) out out' a p o
+
+  no-room-exact : (a ≡ failed 11) ↔ ((d : List ℕ) × Complete S d × (length out < length d))
+  no-room-exact = both (refused-as 11 0) (decided-11 S c out ok m)
+
+  pub finish-demand : Answers S (idOf c) out out' a
+  finish-demand = record {
+    gives = λ d h. given-room d (λ w. h);
+    no-room = no-room-exact;
+    other-document = both (refused-as 17 0) (decided-17 S c out ok m);
+    totals = both (refused-as 14 0) (decided-14 S c out ok m);
+    disputed = λ k. both (refused-as 15 k) (decided-15 S c out ok m k);
+    missing = λ k. both (refused-as 16 k) (decided-16 S c out ok m k);
+    unchanged = refused-kept (finished c out) out out' a p o;
+    enough = λ r. (
+      (λ e. let w = no-room-exact .0 e in omega (arith, w .2, complete-most (w .0) (w .1))),
+      λ d.
+          given-room d (λ w. omega (arith, complete-most d w)),
+    );
+  }
+
+-- a refusal's number is not 0, and it and its place are bytes
+pub finish-bytes : (S : Page → Type 0) (c out : List ℕ) → okBook c ≡ true → BookIs S (readBook c) → (n k : ℕ) → finished c out ≡ lacking n k
+    → (1 ≤ n) × (n < 256) × (k < 256)
+finish-bytes S c out ok m n k e = go (came S c out ok m)
+  where
+    go : Ways (idOf c) out (finishBook (readBook c)) (finished c out) → (1 ≤ n) × (n < 256) × (k < 256)
+    go (inl (i, j, p, q)) =
+        let a : i ≡ n = cc in
+        let b : j ≡ k = cc in
+        let l = finish-place (readBook c) i j (decoded-valid c ok) p in
+        ⊎-elim (λ f. omega arith) (λ g. ⊎-elim (λ f. omega arith) (λ f. omega arith) g)
+        (numbers S c out ok m i j (finish-exact S (readBook c) (decoded-valid c ok) m (lacking i j) .0 p))
+    go (inr (d, p, inl (h, q))) = let a : n ≡ 11 = cc in let b : k ≡ 0 = cc in omega arith
+    go (inr (d, p, inr (h, inl (i, q)))) = let a : n ≡ 17 = cc in let b : k ≡ 0 = cc in omega arith
+    go (inr (d, p, inr (h, inr (i, q)))) = let z : _≡_ {A = ℕ} 0 1 = cc in absurd (omega arith)

@@ -4,3 +4,4 @@ pub mod Mending
 pub mod Mends
 pub mod Once
 pub mod Demand
+pub mod Repairs

@@ -1,12 +1,15 @@
 -- Mend: document 01, "The collection". "Every page block that is not well formed under that head becomes absent, and their number is returned."
-use Prim.Native.Nat.{ℕ, zero, suc, _+_}
+use Prim.Native.Nat.{ℕ, zero, suc, _+_, _<_}
+use mathlib.Core.Path.{_≡_}
+use mathlib.Core.Bool.{true, false}
 use mathlib.Core.List.{List, [], _++_}
 use lib.ListN.{take}
 use Rattle.wire.specs.Answer.{choose, Answer, done, failed}
 use Rattle.state.specs.State.{absent}
+use Rattle.state.specs.Complete.{Counted}
 use Rattle.block.specs.Block.{pageBlock}
 use Rattle.book.specs.Head.{hasHead}
-use Rattle.book.specs.Read.{idOf, totalIn, pageAt, okAt}
+use Rattle.book.specs.Read.{idOf, totalIn, pageAt, okAt, okBook}
 use Rattle.closing.specs.declared.Mended.{Mended}
 use Rattle.closing.specs.declared.Mended.the-variants.{Done, Refused}
 
@@ -36,3 +39,18 @@ repair c = choose (hasHead c) (done (badPages (idOf c) (totalIn c) 0 96 c)) (fai
 abbrev pub told : Mended → Answer ℕ
 told (Done count) = done count
 told (Refused e) = failed e
+
+-- ---- what a mend says, block by block
+
+-- the page block of index k is not well formed under the head
+abbrev pub BadAt : List ℕ → ℕ → Type 0
+BadAt c k = okAt (idOf c) (totalIn c) k (pageAt k c) ≡ false
+
+-- of the answer a, and of the bytes x that were c: nothing but the blocks that were bad is changed, and their number is the answer
+pub record Mends (c x : List ℕ) (a : Answer ℕ) : Type 0 where
+  pub refuses : hasHead c ≡ false → (a ≡ failed 13) × (x ≡ c)
+  pub counts : hasHead c ≡ true → (n : ℕ) × Counted (BadAt c) 96 n × (a ≡ done n)
+  pub head : hasHead c ≡ true → take 512 x ≡ take 512 c
+  pub empties : hasHead c ≡ true → (k : ℕ) → k < 96 → BadAt c k → pageAt k x ≡ pageBlock (idOf c) k absent
+  pub keeps : hasHead c ≡ true → (k : ℕ) → k < 96 → (BadAt c k → ⊥) → pageAt k x ≡ pageAt k c
+  pub leaves : hasHead c ≡ true → okBook x ≡ true

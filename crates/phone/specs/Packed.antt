@@ -1,6 +1,7 @@
 -- The one number that each function for the phone answers. include/stiltbasket.h reads it apart.
-use Prim.Native.Nat.{ℕ, _+_, _*_}
-use Rattle.wire.specs.Answer.{Answer, reply, with, none}
+use Prim.Native.Nat.{ℕ, _+_, _*_, _/_, _%_}
+use lib.Dec.{eqb}
+use Rattle.wire.specs.Answer.{choose, Answer, reply, with, none}
 
 -- bits 0 to 7 the number of 01; bits 8 to 15 a place, or offer's 1, 2 or 3; bits 16 to 63 a count
 abbrev pub packed : ℕ → ℕ → ℕ → ℕ
@@ -19,3 +20,18 @@ packedKind (reply number place none) = packed number place 0
 abbrev pub packedFinish : Answer ℕ → ℕ
 packedFinish (reply number place (with n)) = packed number place n
 packedFinish (reply number place none) = packed number place 0
+
+-- ---- the same, read apart: stilt_number, stilt_place and stilt_count of the header
+
+abbrev pub numberIn : ℕ → ℕ
+numberIn n = n % 256
+
+abbrev pub placeIn : ℕ → ℕ
+placeIn n = n / 256 % 256
+
+abbrev pub countIn : ℕ → ℕ
+countIn n = n / 65536
+
+-- what a C program makes of finish's answer: with 0 it looks at the count
+abbrev pub finishIn : ℕ → Answer ℕ
+finishIn n = reply (numberIn n) (placeIn n) (choose (eqb (numberIn n) 0) (with (countIn n)) none)

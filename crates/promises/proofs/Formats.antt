@@ -1,18 +1,34 @@
--- Each format of document 01 is read and written exactly: the theorems of its crate, in the words of specs/Formats.antt. Assumes nothing.
-use Prim.Native.Nat.{ℕ}
-use mathlib.Core.Path.{_≡_, refl, sym, ap, _∙_}
-use mathlib.Core.List.{List}
+-- What the second demand says of a format follows from its rules (what is written reads back, and what is read is written) and from what its reader's and its
+-- writer's contracts say. Frames and both texts are such. Assumes nothing.
+use Prim.Native.Nat.{ℕ, _≤_}
+use mathlib.Core.Path.{_≡_, refl, sym, ap, _∙_, subst}
+use mathlib.Core.List.{List, []}
 use native.Mathlib.Omega.{arith}
-use Rattle.wire.specs.Answer.{Got, got, refused}
-use Rattle.wire.specs.Writing.{Verdict, bytes, fault}
-use Rattle.text.specs.Text.{Form, readText, kept}
-use Rattle.text.proofs.Forms.{Lawful}
+use lib.ListN.{length, take}
+use denote.Ref.{now}
+use Rattle.wire.specs.Answer.{Got, got, refused, Answer, done, failedAt}
+use Rattle.wire.specs.Over.{over}
+use Rattle.wire.specs.Writing.{Verdict, bytes, fault, told, Written}
+use Rattle.wire.specs.declared.Wrote.{Wrote}
+use Rattle.wire.specs.declared.Wrote.the-variants.{Done, Refused}
+use Rattle.wire.proofs.Overs.{over-all}
+use Rattle.wire.proofs.Writes.{bytes-injective, done-stood, refused-why}
+use Rattle.text.specs.Text.{Form, base64, zbase32, readText, textOf, kept}
+use Rattle.text.proofs.Forms.{Lawful, base64-lawful, zbase32-lawful}
 use Rattle.text.proofs.Round.{read-written, written-read}
 use Rattle.frame.specs.Frame as F
+use Rattle.frame.specs.Layout.{layout}
+use Rattle.frame.specs.Allowed.{Allowed}
 use Rattle.frame.proofs.ReadsBack.{reads-back}
 use Rattle.frame.proofs.OnlyLayouts.{only-layouts}
-use Rattle.envelope.specs.Placed.{Placed, fine, faulty, unplaced}
-use Rattle.promises.specs.Formats.{Slice, Format, Exact, Frame, frameSays, frames, textRead, texts}
+use Rattle.envelope.specs.Placed.{Placed, fine, faulty, unplaced, said}
+use Rattle.frame.proofs.lay as frame-lay
+use Rattle.text.proofs.base64_write as text-base64-write
+use Rattle.text.proofs.zbase32_write as text-zbase32-write
+use Rattle.promises.specs.Calls.{Call}
+use Rattle.promises.specs.Formats.{Slice, Format, Exact, Frame, frameSays, frames, textRead, textSaid, texts, scans, typing}
+use Rattle.promises.proofs.Writers.{slice, Stands, stands-front, wrote-done, can-write}
+use Rattle.promises.proofs.FormatLinks as L
 
 -- ---- what all formats share
 
@@ -24,43 +40,90 @@ unplaced-got (refused n) p e = let z : _≡_ {A = ℕ} 0 1 = cc in absurd (omega
 pub got-unplaced : {A : Type 0} {g : Got A} {p : A} {next : ℕ} → g ≡ got p next → unplaced g ≡ fine p
 got-unplaced e = ap unplaced e
 
--- a reader whose accepted bytes are all written refuses the others
-pub refuses : (f : Format) → ((s : List ℕ) (p : f .Place) → Slice s → f .read s ≡ fine p → f .Writes (f .says s p) (f .counting s))
-    → (s : List ℕ) → Slice s → ((v : f .Value) → f .Writes v (f .counting s) → ⊥) → (n : ℕ) × (place : ℕ) × (f .read s ≡ faulty n place)
-refuses f only s y none = go (f .read s) refl
-  where
-    go : (r : Placed (f .Place)) → f .read s ≡ r → (n : ℕ) × (place : ℕ) × (f .read s ≡ faulty n place)
-    go (fine p) e = absurd (none (f .says s p) (only s p y e))
-    go (faulty n place) e = (n, place, e)
+said-done : {A : Type 0} (x : Placed A) (p : A) → done p ≡ said x → x ≡ fine p
+said-done (fine a) p e = let q : p ≡ a = cc in ap fine (sym q)
+said-done (faulty n k) p e = let z : _≡_ {A = ℕ} 0 1 = cc in absurd (omega arith)
+
+-- the rules of a format, where `Form v s` says that s is the written form of v; and what its calls say
+pub record Ruled (f : Format) (Form : f .Value → List ℕ → Type 0) : Type 0 where
+  pub back : (v : f .Value) (s : List ℕ) → Form v s → (p : f .Place) × (f .read s ≡ fine p) × (f .says s p ≡ v)
+  pub only : (s : List ℕ) (p : f .Place) → Slice s → f .read s ≡ fine p → Form (f .says s p) (f .counting s)
+  pub form : (v : f .Value) (s t : List ℕ) → Form v s → Form v t → s ≡ t
+  pub reads : (s : List ℕ) (a : Answer (f .Place)) → f .Reads s a → a ≡ said (f .read s)
+  pub writes : (v : f .Value) (out x : List ℕ) (n : ℕ) → f .Writes v out x (done n) → (s : List ℕ) × Form v s × Stands s out x n
+  pub write : (v : f .Value) (s : List ℕ) → Form v s → (out : List ℕ) → length s ≤ length out → f .Writes v out (over 0 s out) (done (length s))
+
+module _ (f : Format) (Form : f .Value → List ℕ → Type 0) (w : Ruled f Form) where
+  exact-back : (v : f .Value) (out x : List ℕ) (n : ℕ) (a : Answer (f .Place)) → f .Writes v out x (done n) → f .Reads (take n x) a
+      → (p : f .Place) × (a ≡ done p) × (f .says (take n x) p ≡ v)
+  exact-back v out x n a k r =
+      let t = w .writes v out x n k in
+      let e : take n x ≡ t .0 = stands-front (t .2) in
+      let b = w .back v (t .0) (t .1) in
+      (b .0, w .reads (take n x) a r ∙ ap (λ (s : List ℕ). said (f .read s)) e ∙ ap said (b .1), ap (λ (s : List ℕ). f .says s (b .0)) e ∙ b .2)
+
+  exact-only : (s : List ℕ) (p : f .Place) → Slice s → f .Reads s (done p) → (out : List ℕ) → length (f .counting s) ≤ length out
+      → f .Writes (f .says s p) out (over 0 (f .counting s) out) (done (length (f .counting s)))
+  exact-only s p y r = w .write (f .says s p) (f .counting s) (w .only s p y (said-done (f .read s) p (w .reads s (done p) r)))
+
+  exact-form : (v : f .Value) (out x : List ℕ) (m : ℕ) (out' y : List ℕ) (n : ℕ) → f .Writes v out x (done m) → f .Writes v out' y (done n) → take m x ≡ take n y
+  exact-form v out x m out' y n k l =
+      let t = w .writes v out x m k in
+      let u = w .writes v out' y n l in
+      stands-front (t .2) ∙ w .form v (t .0) (u .0) (t .1) (u .1) ∙ sym (stands-front (u .2))
+
+  exact-refused : (s : List ℕ) (a : Answer (f .Place)) → Slice s
+      → ((v : f .Value) (out x : List ℕ) (n : ℕ) → f .Writes v out x (done n) → take n x ≡ f .counting s → ⊥) → f .Reads s a
+      → (n : ℕ) × (place : ℕ) × (a ≡ failedAt n place)
+  exact-refused s a y none r = go (f .read s) refl
+    where
+      go : (x : Placed (f .Place)) → f .read s ≡ x → (n : ℕ) × (place : ℕ) × (a ≡ failedAt n place)
+      go (fine p) e =
+          let c : List ℕ = f .counting s in
+          let k = w .write (f .says s p) c (w .only s p y e) c (omega arith) in
+          absurd (none (f .says s p) c (over 0 c c) (length c) k (stands-front (w .writes (f .says s p) c (over 0 c c) (length c) k .2) ∙ w .form (f .says s p) _ c (w .writes (f .says s p) c (over 0 c c) (length c) k .1) (w .only s p y e)))
+      go (faulty n place) e = (n, place, w .reads s a r ∙ ap said e)
+
+  pub exact : Exact f
+  exact = record { reason = w .reads; back = exact-back; only = exact-only; form = exact-form; refused = exact-refused }
 
 -- ---- frames
 
-frame-back : (v : Frame) (s : List ℕ) → frames .Writes v s → (p : F.Frame) × (frames .read s ≡ fine p) × (frames .says s p ≡ v)
+abbrev FrameForm : Frame → List ℕ → Type 0
+FrameForm v s = Allowed (v .kind) (v .id) (v .index) (v .total) (v .contents) × (s ≡ layout (v .kind) (v .id) (v .index) (v .total) (v .contents))
+
+frame-back : (v : Frame) (s : List ℕ) → FrameForm v s → (p : F.Frame) × (frames .read s ≡ fine p) × (frames .says s p ≡ v)
 frame-back v s (a, e) =
     let r = reads-back (v .kind) (v .id) (v .index) (v .total) (v .contents) a in
     rw e (r .frame, got-unplaced (r .read), rw (r .kind-is, r .index-is, r .total-is, r .id-is, r .data-is))
 
-frame-only : (s : List ℕ) (p : F.Frame) → Slice s → frames .read s ≡ fine p → frames .Writes (frameSays s p) s
+frame-only : (s : List ℕ) (p : F.Frame) → Slice s → frames .read s ≡ fine p → FrameForm (frameSays s p) s
 frame-only s p y e =
     let g = unplaced-got (F.frameOf s) p e in
     let k = only-layouts s p (g .0) (y .0) (g .1) in
     (k .allowed, k .whole)
 
+module _ (v : Frame) (s out : List ℕ) (e : s ≡ layout (v .kind) (v .id) (v .index) (v .total) (v .contents)) (h : length s ≤ length out) where
+  abbrev laying : Call frame-lay.Kinds.ps frame-lay.Kinds.r frame-lay.Reads.Learnt
+  laying = record {
+    lifetimes = ([], ([], ([], tt)));
+    args = (v .kind, (slice (v .id), (v .index, (v .total, (slice (v .contents), (slice out, tt))))));
+    answer = Done (length s);
+    left = (tt, (tt, (tt, (tt, (tt, (over 0 s out, tt))))));
+    kept = can-write (bytes (layout (v .kind) (v .id) (v .index) (v .total) (v .contents))) s out (ap bytes (sym e)) h;
+  }
+
+frames-ruled : Ruled frames FrameForm
+frames-ruled = record {
+  back = frame-back;
+  only = frame-only;
+  form = λ v s t a b. a .1 ∙ sym (b .1);
+  reads = λ s a (k, i, e). sym e ∙ ap (λ (g : Got F.Frame). said (unplaced g)) (L.frame-read-link k ∙ ap F.frameOf i);
+  writes = λ v out x n (al, (k, a, b, c, d, g, i, j, e)).
+      let t = wrote-done (bytes (layout (v .kind) (v .id) (v .index) (v .total) (v .contents))) out x n (k .answer) (rw (a, b, c, d, g, i, j) at (L.frame-lay-link k)) e in
+      (t .0, (al, sym (bytes-injective (t .1))), t .2);
+  write = λ v s (al, e) out h. (al, (laying v s out e h, refl, refl, refl, refl, refl, refl, refl, refl));
+}
+
 pub frames-exact : Exact frames
-frames-exact = record { back = frame-back; only = frame-only; form = λ v s t a b. a .1 ∙ sym (b .1); refused = refuses frames frame-only }
-
--- ---- texts
-
-module _ (f : Form) (law : Lawful f) where
-  text-back : (v s : List ℕ) → texts f .Writes v s → (p : List ℕ) × (texts f .read s ≡ fine p) × (p ≡ v)
-  text-back v s (y, e) = (v, ap (λ (x : List ℕ). textRead (readText f x)) e ∙ ap textRead (read-written f law v y), refl)
-
-  read-bytes : (r : Verdict) (p : List ℕ) → textRead r ≡ fine p → r ≡ bytes p
-  read-bytes (bytes bs) p e = cc
-  read-bytes (fault n) p e = let z : _≡_ {A = ℕ} 0 1 = cc in absurd (omega arith)
-
-  text-only : (s p : List ℕ) → Slice s → texts f .read s ≡ fine p → texts f .Writes p (kept f s)
-  text-only s p y e = let w = written-read f law s p (read-bytes (readText f s) p e) in (w .1, w .0)
-
-  pub texts-exact : Exact (texts f)
-  texts-exact = record { back = text-back; only = text-only; form = λ v s t a b. a .1 ∙ sym (b .1); refused = refuses (texts f) text-only }
+frames-exact = exact frames FrameForm frames-ruled

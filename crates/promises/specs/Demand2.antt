@@ -1,56 +1,101 @@
--- The second demand of the mission: "Pages, both text forms, envelope, manifest, auth and shard payloads are read and written exactly as document 01
--- defines. What we write reads back equal; bytes it does not allow are refused, each for the reason 01 gives." The reason is the number and the place
--- that a format's `read` answers (Formats.antt).
-use Prim.Native.Nat.{ℕ, _<_}
+-- The second demand: pages, both text forms, envelope, manifest, auth and shard payloads are read and written exactly as document 01 defines. What is written reads
+-- back equal, and bytes that it does not allow are refused, each with the number and the place that a format's `read` gives (Formats.antt).
+use Prim.Native.Nat.{ℕ, _≤_, _<_}
 use mathlib.Core.Path.{_≡_}
 use mathlib.Core.List.{List}
-use lib.ListN.{length}
+use lib.ListN.{length, take}
+use denote.Ref.{now}
+use Rattle.wire.specs.Answer.{Answer, done}
 use Rattle.wire.specs.Number.{Bytes}
-use Rattle.wire.specs.Writing.{Verdict, bytes}
-use Rattle.text.specs.Text.{Form, base64, zbase32}
-use Rattle.page.specs.Page.{documentId, pageCount, pageData, pageVerdict, Printed, typed, joined}
-use Rattle.slip.specs.Slip.{keyFrame, authFrame}
-use Rattle.envelope.specs.Placed.{fine}
-use Rattle.promises.specs.Formats.{Format, Exact, Frame, frames, texts, envelopes, manifests, auths, shards}
+use Rattle.wire.specs.Writing.{told}
+use Rattle.frame.specs.Frame as F
+use Rattle.page.specs.Page.{documentId, pageCount, pageData, Printed, joined}
+use Rattle.page.proofs.write as page-write
+use Rattle.page.proofs.write_base64 as page-write-base64
+use Rattle.page.proofs.write_zbase32 as page-write-zbase32
+use Rattle.slip.proofs.key as slip-key
+use Rattle.slip.proofs.auth as slip-auth
+use Rattle.promises.specs.Calls.{Call}
+use Rattle.promises.specs.Formats.{Format, Exact, Frame, frames, scans, typing, envelopes, manifests, auths, shards}
 
--- these bytes are read as this value
+-- these bytes are read as this value: by every call of the reader
 abbrev pub ReadAs : (f : Format) → List ℕ → f .Value → Type 0
-ReadAs f s v = (p : f .Place) × (f .read s ≡ fine p) × (f .says s p ≡ v)
+ReadAs f s v = (a : Answer (f .Place)) → f .Reads s a → (p : f .Place) × (a ≡ done p) × (f .says s p ≡ v)
 
--- a page of a document that can be printed: which frame it is
+-- ---- the pages of a document
+
+-- page i of c was asked for, as a frame or as a text of it: out was lent, x was left, a was answered
+abbrev pub Printing : Type 1
+Printing = List ℕ → ℕ → ℕ → List ℕ → List ℕ → Answer ℕ → Type 0
+
+abbrev pub Framed : Printing
+Framed c size i out x a =
+    (k : Call page-write.Kinds.ps page-write.Kinds.r page-write.Reads.Learnt)
+    × (now (k .args .0) ≡ c) × (k .args .1 .0 ≡ size) × (k .args .1 .1 .0 ≡ i) × (now (k .args .1 .1 .1 .0) ≡ out) × (k .left .1 .1 .1 .0 ≡ x)
+    × (told (k .answer) ≡ a)
+
+abbrev pub Scanned : Printing
+Scanned c size i out x a =
+    (k : Call page-write-base64.Kinds.ps page-write-base64.Kinds.r page-write-base64.Reads.Learnt)
+    × (now (k .args .0) ≡ c) × (k .args .1 .0 ≡ size) × (k .args .1 .1 .0 ≡ i) × (now (k .args .1 .1 .1 .0) ≡ out) × (k .left .1 .1 .1 .0 ≡ x)
+    × (told (k .answer) ≡ a)
+
+abbrev pub Typed : Printing
+Typed c size i out x a =
+    (k : Call page-write-zbase32.Kinds.ps page-write-zbase32.Kinds.r page-write-zbase32.Reads.Learnt)
+    × (now (k .args .0) ≡ c) × (k .args .1 .0 ≡ size) × (k .args .1 .1 .0 ≡ i) × (now (k .args .1 .1 .1 .0) ≡ out) × (k .left .1 .1 .1 .0 ≡ x)
+    × (told (k .answer) ≡ a)
+
+-- which frame page i is
 abbrev pub pageOf : List ℕ → ℕ → ℕ → Frame
 pageOf c size i = record { kind = 0x44; id = documentId c; index = i; total = pageCount (length c) size; contents = pageData c size i }
 
--- page i through a text form reads back as its frame
-abbrev pub ThroughText : Form → List ℕ → ℕ → Type 0
-ThroughText f c size =
-    (i : ℕ) → i < pageCount (length c) size → (s t : List ℕ) → pageVerdict c size i ≡ bytes s → typed f (pageVerdict c size i) ≡ bytes t → ReadAs (texts f) t s
+-- page i's text is read as page i's frame
+abbrev pub ThroughText : Printing → (List ℕ → Answer (List ℕ) → Type 0) → List ℕ → ℕ → Type 0
+ThroughText Text Reads c size =
+    (i : ℕ) → i < pageCount (length c) size → (out x : List ℕ) (m : ℕ) (out' y : List ℕ) (n : ℕ) (a : Answer (List ℕ))
+    → Framed c size i out x (done m) → Text c size i out' y (done n) → Reads (take n y) a → a ≡ done (take m x)
 
--- every page of a printed document is written and reads back as that page, also through both text forms; and all pages in order are the document
+-- every page of a printed document is written where 500 bytes are lent, and reads back as that page, also through both text forms; and all pages in order are the document
 pub record Pages (c : List ℕ) (size : ℕ) : Type 0 where
-  pub each : (i : ℕ) → i < pageCount (length c) size → (s : List ℕ) × (pageVerdict c size i ≡ bytes s) × ReadAs frames s (pageOf c size i)
-  pub scanned : ThroughText base64 c size
-  pub typed-in : ThroughText zbase32 c size
+  pub written : (i : ℕ) → i < pageCount (length c) size → (out x : List ℕ) (a : Answer ℕ) → 500 ≤ length out → Framed c size i out x a → (n : ℕ) × (a ≡ done n)
+  pub each : (i : ℕ) → i < pageCount (length c) size → (out x : List ℕ) (n : ℕ) → Framed c size i out x (done n) → ReadAs frames (take n x) (pageOf c size i)
+  pub scanned : ThroughText Scanned (scans .Reads) c size
+  pub typed-in : ThroughText Typed (typing .Reads) c size
   pub whole : joined (pageCount (length c) size) (pageData c size) ≡ c
+
+-- ---- key and auth frames
+
+abbrev pub Keyed : List ℕ → List ℕ → List ℕ → List ℕ → Answer ℕ → Type 0
+Keyed id contents out x a =
+    (k : Call slip-key.Kinds.ps slip-key.Kinds.r slip-key.Reads.Learnt)
+    × (now (k .args .0) ≡ id) × (now (k .args .1 .0) ≡ contents) × (now (k .args .1 .1 .0) ≡ out) × (k .left .1 .1 .0 ≡ x) × (told (k .answer) ≡ a)
+
+abbrev pub Signed : List ℕ → List ℕ → List ℕ → List ℕ → Answer ℕ → Type 0
+Signed id contents out x a =
+    (k : Call slip-auth.Kinds.ps slip-auth.Kinds.r slip-auth.Reads.Learnt)
+    × (now (k .args .0) ≡ id) × (now (k .args .1 .0) ≡ contents) × (now (k .args .1 .1 .0) ≡ out) × (k .left .1 .1 .0 ≡ x) × (told (k .answer) ≡ a)
 
 -- a frame that stands alone: the first of one
 abbrev pub slipOf : ℕ → List ℕ → List ℕ → Frame
 slipOf kind id contents = record { kind = kind; id = id; index = 0; total = 1; contents = contents }
 
 -- a slip that is written reads back, and carries what the payload's reader accepts
-abbrev pub Carries : (f : Format) → ℕ → (List ℕ → List ℕ → Verdict) → Type 0
-Carries f kind writer = (id contents s : List ℕ) → writer id contents ≡ bytes s → ReadAs frames s (slipOf kind id contents) × ((p : f .Place) × (f .read contents ≡ fine p))
+abbrev pub Carries : (f : Format) → ℕ → (List ℕ → List ℕ → List ℕ → List ℕ → Answer ℕ → Type 0) → Type 0
+Carries f kind Writer =
+    (id contents out x : List ℕ) (n : ℕ) → Writer id contents out x (done n)
+    → ReadAs frames (take n x) (slipOf kind id contents) × ((a : Answer (f .Place)) → f .Reads contents a → (p : f .Place) × (a ≡ done p))
 
 pub record Demand2 : Type 0 where
-  -- "Pages": any frame; those of a printed document; key and auth frames
+  -- pages: any frame; those of a printed document; key and auth frames
   pub pages : Exact frames
   pub printed : (c : List ℕ) (size : ℕ) → Bytes c → Printed c size → Pages c size
-  pub keys : Carries shards 0x4B keyFrame
-  pub signatures : Carries auths 0x41 authFrame
-  -- "both text forms"
-  pub scans : Exact (texts base64)
-  pub typing : Exact (texts zbase32)
-  -- "envelope, manifest, auth and shard payloads"
+  pub keys : Carries shards 0x4B Keyed
+  pub signatures : Carries auths 0x41 Signed
+  -- both text forms
+  pub scan : Exact scans
+  pub typed : Exact typing
+  -- envelope, manifest, auth and shard payloads
   pub envelope : Exact envelopes
   pub manifest : Exact manifests
   pub auth : Exact auths

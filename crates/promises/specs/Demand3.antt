@@ -1,50 +1,68 @@
--- The third demand of the mission: "A collection's saved bytes are those 01 gives for the SET of good main pages offered: order, repeats, bad scans and other
--- documents' pages change nothing; joins are unions, in any order or grouping; finish yields the ciphertext exactly when the set is complete,
--- undisputed and matches the document id."
+-- The third demand: what a collection saves is fixed by the SET of good pages that were offered to it. Neither their order, nor repeats, nor bad scans, nor pages
+-- of other documents can be seen in its bytes; a join is a union; and finish gives the ciphertext exactly when the set is complete, in one version, and
+-- the document's own.
 --
--- How a collection came to be is a `Built` (collection, Built): opened, any bytes offered, others joined, in any order; `In` is the set of good pages
--- that were offered in it. What a collection is for a SET of pages, without order or count, is `BookIs` (state, Meaning), its bytes are `encode`
--- (book, Encode), and when a set is complete is `Complete` (state, Complete).
+-- How a collection came to be is a `Built` (collection, Built): opened, any bytes offered, others joined, in any order; `In` is the set of good pages that
+-- were offered in it. What a collection is for a SET of pages, without order or count, is `BookIs` (state, Meaning), its bytes are `encode` (book, Encode),
+-- and when a set is complete is `Complete` (state, Complete).
 use mathlib.Core.Path.{_≡_}
-use mathlib.Core.List.{List}
-use Prim.Native.Nat.{ℕ}
-use Rattle.wire.specs.Answer.{refused}
+use mathlib.Core.List.{List, _++_}
+use Prim.Native.Nat.{ℕ, _≤_}
+use lib.ListN.{length}
+use Rattle.wire.specs.Answer.{refused, Answer, done}
+use Rattle.wire.specs.Over.{over}
 use Rattle.state.specs.State.{Book}
 use Rattle.state.specs.Take.{Page}
 use Rattle.state.specs.Meaning.{BookIs}
 use Rattle.book.specs.Encode.{encode}
-use Rattle.collection.specs.Collection.{goodPage, opening, offering, joining, Kept}
-use Rattle.collection.specs.Answer.{told, toldKind}
-use Rattle.collection.specs.Built.{Built, opened, offered, joined, In, Lent}
-use Rattle.collection.specs.declared.Answered.{Answered}
-use Rattle.collection.specs.declared.Offered.{Offered}
-use Rattle.closing.specs.Finish.{finished, Closed}
+use Rattle.collection.specs.Collection.{goodPage}
+use Rattle.collection.specs.Built.{Built, opened, offered, joined, In, Lent, offeredAll, PageAmong, AllBytes}
 use Rattle.closing.specs.Sets.{Answers}
-use Rattle.closing.specs.declared.Finished.{Finished}
+use Rattle.closing.specs.Mend.{Mends}
+use Rattle.status.specs.Sets.{LineIs}
+use Rattle.promises.specs.Collecting.{Interface, library, Tells, Mended}
 
--- x is what the calls of open, offer and join left, each keeping its contract, whatever it answered
-abbrev pub Left : List ℕ → Built → List ℕ → Type 0
-Left id (opened c) x = (r : Answered) × Kept (opening id c) c x (told r)
-Left id (offered raw h) x = (c : List ℕ) × Left id h c × ((r : Offered) × Kept (offering c raw) c x (toldKind r))
-Left id (joined g h) x = (c : List ℕ) × (o : List ℕ) × Left id g c × Left id h o × ((r : Answered) × Kept (joining c o) c x (told r))
+-- x is what calls of open, offer and join left, one after another, whatever each answered
+abbrev pub Left : Interface → List ℕ → Built → List ℕ → Type 0
+Left f id (opened c) x = f .Opens id c x
+Left f id (offered raw h) x = (c : List ℕ) × Left f id h c × f .Offers c raw x
+Left f id (joined g h) x = (c : List ℕ) × (o : List ℕ) × Left f id g c × Left f id h o × f .Joins c o x
 
 -- the same good pages were offered in both
 abbrev pub SamePages : List ℕ → Built → Built → Type 0
 SamePages id g h = ((p : Page) → In id g p → In id h p) × ((p : Page) → In id h p → In id g p)
 
-pub record Demand3 (id : List ℕ) : Type 0 where
-  -- "A collection's saved bytes are those 01 gives for the SET of good main pages offered": the set says one collection, and the bytes are its bytes
+pub record Demand3 (f : Interface) (id : List ℕ) : Type 0 where
+  -- nothing below is said of calls that cannot be: each can be made, with any bytes, and so for every history
+  pub happens : (h : Built) → (x : List ℕ) × Left f id h x
+  pub finishes : (c out : List ℕ) → (x : List ℕ) × (a : Answer ℕ) × f .Finishes c out x a
+  -- the set says one collection, and the saved bytes are its bytes
   pub meant : (h : Built) → Lent h → (b : Book) × BookIs (In id h) b
-  pub saved : (h : Built) (x : List ℕ) → Lent h → Left id h x → (b : Book) → BookIs (In id h) b → x ≡ encode id b
-  -- "order, repeats": only the set counts
-  pub set : (g h : Built) (x y : List ℕ) → Lent g → Lent h → Left id g x → Left id h y → SamePages id g h → x ≡ y
-  -- "bad scans and other documents' pages change nothing"
-  pub strangers : (h : Built) (c raw x : List ℕ) (r : Offered) (e : ℕ) → Lent h → Left id h c → goodPage id raw ≡ refused e → Kept (offering c raw) c x (toldKind r) → x ≡ c
-  -- "joins are unions": what is joined is what offering all pages of both to one would have left
-  pub unions : (f g h : Built) (x y : List ℕ) → Lent f → Lent g → Lent h → Left id f x → Left id (joined g h) y → SamePages id f (joined g h) → x ≡ y
-  -- "in any order or grouping", and any number of times
-  pub order : (g h : Built) (x y : List ℕ) → Lent g → Lent h → Left id (joined g h) x → Left id (joined h g) y → x ≡ y
-  pub grouping : (f g h : Built) (x y : List ℕ) → Lent f → Lent g → Lent h → Left id (joined (joined f g) h) x → Left id (joined f (joined g h)) y → x ≡ y
-  pub again : (h : Built) (x y : List ℕ) → Lent h → Left id h x → Left id (joined h h) y → x ≡ y
-  -- "finish yields the ciphertext exactly when the set is complete, undisputed and matches the document id", and each refusal exactly when 01 says
-  pub finish : (h : Built) (c out out' : List ℕ) (r : Finished) → Lent h → Left id h c → Closed (finished c out) out out' r → Answers (In id h) c out out' r
+  pub saved : (h : Built) (x : List ℕ) → Lent h → Left f id h x → (b : Book) → BookIs (In id h) b → x ≡ encode id b
+  -- order and repeats: only the set counts
+  pub set : (g h : Built) (x y : List ℕ) → Lent g → Lent h → Left f id g x → Left f id h y → SamePages id g h → x ≡ y
+  -- a bad scan, or a page of another document, changes nothing
+  pub strangers : (h : Built) (c raw x : List ℕ) (e : ℕ) → Lent h → Left f id h c → goodPage id raw ≡ refused e → f .Offers c raw x → x ≡ c
+  -- a join is a union: what offering all pages of both to one would have left
+  pub unions : (e g h : Built) (x y : List ℕ) → Lent e → Lent g → Lent h → Left f id e x → Left f id (joined g h) y → SamePages id e (joined g h) → x ≡ y
+  -- in any order and any grouping, and any number of times
+  pub order : (g h : Built) (x y : List ℕ) → Lent g → Lent h → Left f id (joined g h) x → Left f id (joined h g) y → x ≡ y
+  pub grouping : (e g h : Built) (x y : List ℕ) → Lent e → Lent g → Lent h → Left f id (joined (joined e g) h) x → Left f id (joined e (joined g h)) y → x ≡ y
+  pub again : (h : Built) (x y : List ℕ) → Lent h → Left f id h x → Left f id (joined h h) y → x ≡ y
+  -- any list of scans, offered to a collection that was just opened, leaves the bytes that the set of its good pages says
+  pub list : (c x : List ℕ) (raws : List (List ℕ)) → length c ≡ 49664 → AllBytes raws → Left f id (offeredAll raws (opened c)) x
+      → (b : Book) → BookIs (PageAmong id raws) b → x ≡ encode id b
+  -- and two collections of two lists, joined, have the bytes of one to which both lists were offered
+  pub lists : (c d e x y : List ℕ) (xs ys : List (List ℕ)) → length c ≡ 49664 → length d ≡ 49664 → length e ≡ 49664 → AllBytes xs → AllBytes ys
+      → Left f id (joined (offeredAll xs (opened c)) (offeredAll ys (opened d))) x → Left f id (offeredAll (xs ++ ys) (opened e)) y → x ≡ y
+  -- finish: the ciphertext exactly when the set is complete, in one version, and its document id is the one that was opened; each refusal exactly when its
+  -- condition holds; and with room enough never for want of room
+  pub finish : (h : Built) (c out x : List ℕ) (a : Answer ℕ) → Lent h → Left f id h c → f .Finishes c out x a → Answers (In id h) id out x a
+
+-- what is told of a collection, beside the four calls
+pub record Telling (id : List ℕ) : Type 0 where
+  -- the status line of what was offered: 64 bytes are room for any
+  pub status : (h : Built) (c out x : List ℕ) (a : Answer ℕ) → Lent h → Left library id h c → 64 ≤ length out → Tells c out x a
+      → (line : List ℕ) × LineIs (In id h) line × (a ≡ done (length line)) × (x ≡ over 0 line out)
+  -- a damaged file: outside the rest, since what mend makes absent may have been offered
+  pub mend : (c x : List ℕ) (a : Answer ℕ) → Mended c x a → Mends c x a

@@ -1,25 +1,48 @@
--- What the second demand says of one format, and the formats of document 01. Each reader and each writer here is the definition that the contract of
--- the public function cites, so what holds of it holds of the function's answers.
-use Prim.Native.Nat.{ℕ, _<_, _^_}
+-- What the second demand says of one format, and the formats of document 01. A reader and a writer are said by calls of the public functions whose contracts held
+-- (Calls.antt), so what is said of a format is said of the contracts in the sources. Of a call's parameters `.0` is the first, `.1 .0` the second, and so on.
+use Prim.Native.Nat.{ℕ, _≤_, _<_, _^_}
 use mathlib.Core.Path.{_≡_}
 use mathlib.Core.List.{List}
 use lib.ListN.{length, take, drop}
+use denote.Ref.{now}
+use Rattle.wire.specs.Answer.{Answer, reply, with, none, done, failed, failedAt}
 use Rattle.wire.specs.Number.{Bytes}
-use Rattle.wire.specs.Writing.{Verdict, bytes, fault}
-use Rattle.text.specs.Text.{Form, readText, textOf, kept}
+use Rattle.wire.specs.Over.{over}
+use Rattle.wire.specs.Writing.{Verdict, bytes, fault, told}
+use Rattle.text.specs.Text.{Form, base64, zbase32, readText, kept}
 use Rattle.frame.specs.Frame as F
-use Rattle.frame.specs.Layout.{layout}
 use Rattle.frame.specs.Allowed.{Allowed}
+use Rattle.frame.specs.Answer as frame
 use Rattle.cover.specs.Cover.{Cover, manifestOf, payloadOf}
-use Rattle.envelope.specs.Placed.{Placed, fine, faulty, unplaced}
-use Rattle.envelope.specs.Envelope.{envelopeAt, verdict}
+use Rattle.envelope.specs.Placed.{Placed, fine, faulty, unplaced, said}
+use Rattle.envelope.specs.Envelope.{envelopeAt}
+use Rattle.envelope.specs.Answer as envelope
+use Rattle.cbor.specs.declared.StepRead.{StepRead}
+use Rattle.cbor.specs.declared.StepRead.the-variants as step
 use Rattle.manifest.specs.Manifest.{Listing, manifestAt}
-use Rattle.manifest.specs.Writing.{Said, saidIn, listed, manifestVerdict, Typed}
+use Rattle.manifest.specs.Writing.{Said, saidIn, listed, Typed}
 use Rattle.manifest.specs.declared.Manifest.{Manifest}
-use Rattle.auth.specs.Auth.{Claim, authAt, authVerdict}
-use Rattle.shard.specs.Shard.{Shard, shardAt, shardVerdict}
+use Rattle.auth.specs.Auth.{Claim, authAt}
+use Rattle.auth.specs.Answer.{claimTold}
+use Rattle.shard.specs.Shard.{Shard, shardAt}
+use Rattle.shard.specs.Answer.{shardTold}
 use Rattle.shard.specs.declared.Quorum.{Quorum}
 use Rattle.shard.specs.declared.Span.{Span}
+use Rattle.frame.proofs.read as frame-read
+use Rattle.frame.proofs.lay as frame-lay
+use Rattle.text.proofs.base64_read as text-base64-read
+use Rattle.text.proofs.base64_write as text-base64-write
+use Rattle.text.proofs.zbase32_read as text-zbase32-read
+use Rattle.text.proofs.zbase32_write as text-zbase32-write
+use Rattle.envelope.proofs.read as envelope-read
+use Rattle.envelope.proofs.write as envelope-write
+use Rattle.manifest.proofs.read as manifest-read
+use Rattle.manifest.proofs.write as manifest-write
+use Rattle.auth.proofs.read as auth-read
+use Rattle.auth.proofs.write as auth-write
+use Rattle.shard.proofs.read as shard-read
+use Rattle.shard.proofs.write as shard-write
+use Rattle.promises.specs.Calls.{Call}
 
 -- what a byte slice can hold
 abbrev pub Slice : List ℕ → Type 0
@@ -32,24 +55,31 @@ pub record Format : Type 1 where
   pub Place : Type 0
   -- what they say, as bytes and numbers
   pub Value : Type 0
-  -- the reader: 0 with its answer, or the number and the place of a refusal
-  pub read : List ℕ → Placed Place
   pub says : List ℕ → Place → Value
-  -- the writer takes the value and writes these bytes, where the output has room
-  pub Writes : Value → List ℕ → Type 0
   -- what counts of the input: all of it, except for what a text's reader skips
   pub counting : List ℕ → List ℕ
+  -- 01's answer for any bytes at all
+  pub read : List ℕ → Placed Place
+  -- Reads s a: a call of the reader on s answered a
+  pub Reads : List ℕ → Answer Place → Type 0
+  -- Writes v out x a: a call of the writer with the value v, lent out, answered a and left x
+  pub Writes : Value → List ℕ → List ℕ → Answer ℕ → Type 0
 
--- "read and written exactly as document 01 defines"
 pub record Exact (f : Format) : Type 0 where
-  -- "What we write reads back equal"
-  pub back : (v : f .Value) (s : List ℕ) → f .Writes v s → (p : f .Place) × (f .read s ≡ fine p) × (f .says s p ≡ v)
-  -- what is read is what the writer writes of the value read, and nothing else is
-  pub only : (s : List ℕ) (p : f .Place) → Slice s → f .read s ≡ fine p → f .Writes (f .says s p) (f .counting s)
+  -- whatever is read, the reader's answer is the one that 01 defines: accepted with this value, or refused with this number and place
+  pub reason : (s : List ℕ) (a : Answer (f .Place)) → f .Reads s a → a ≡ said (f .read s)
+  -- what is written reads back equal
+  pub back : (v : f .Value) (out x : List ℕ) (n : ℕ) (a : Answer (f .Place)) → f .Writes v out x (done n) → f .Reads (take n x) a
+      → (p : f .Place) × (a ≡ done p) × (f .says (take n x) p ≡ v)
+  -- what is read is what the writer writes of the value read, into any output with room for it
+  pub only : (s : List ℕ) (p : f .Place) → Slice s → f .Reads s (done p) → (out : List ℕ) → length (f .counting s) ≤ length out
+      → f .Writes (f .says s p) out (over 0 (f .counting s) out) (done (length (f .counting s)))
   -- one form for each value
-  pub form : (v : f .Value) (s t : List ℕ) → f .Writes v s → f .Writes v t → s ≡ t
-  -- "bytes it does not allow are refused": those that no value is written as
-  pub refused : (s : List ℕ) → Slice s → ((v : f .Value) → f .Writes v (f .counting s) → ⊥) → (n : ℕ) × (place : ℕ) × (f .read s ≡ faulty n place)
+  pub form : (v : f .Value) (out x : List ℕ) (m : ℕ) (out' y : List ℕ) (n : ℕ) → f .Writes v out x (done m) → f .Writes v out' y (done n) → take m x ≡ take n y
+  -- bytes that no value is written as are refused
+  pub refused : (s : List ℕ) (a : Answer (f .Place)) → Slice s
+      → ((v : f .Value) (out x : List ℕ) (n : ℕ) → f .Writes v out x (done n) → take n x ≡ f .counting s → ⊥)
+      → f .Reads s a → (n : ℕ) × (place : ℕ) × (a ≡ failedAt n place)
 
 -- ---- a page: any frame
 
@@ -63,14 +93,21 @@ pub record Frame : Type 0 where
 abbrev pub frameSays : List ℕ → F.Frame → Frame
 frameSays s f = record { kind = f .kind; id = F.idOf s; index = f .index; total = f .total; contents = F.dataOf s f }
 
+-- the writer lays out any parts; those of a frame are the allowed ones
 abbrev pub frames : Format
 frames = record {
   Place = F.Frame;
   Value = Frame;
-  read = λ s. unplaced (F.frameOf s);
   says = frameSays;
-  Writes = λ v s. Allowed (v .kind) (v .id) (v .index) (v .total) (v .contents) × (s ≡ layout (v .kind) (v .id) (v .index) (v .total) (v .contents));
   counting = λ s. s;
+  read = λ s. unplaced (F.frameOf s);
+  Reads = λ s a.
+      (k : Call frame-read.Kinds.ps frame-read.Kinds.r frame-read.Reads.Learnt) × (now (k .args .0) ≡ s) × (said (unplaced (frame.told (k .answer))) ≡ a);
+  Writes = λ v out x a.
+      Allowed (v .kind) (v .id) (v .index) (v .total) (v .contents)
+      × ((k : Call frame-lay.Kinds.ps frame-lay.Kinds.r frame-lay.Reads.Learnt)
+      × (k .args .0 ≡ v .kind) × (now (k .args .1 .0) ≡ v .id) × (k .args .1 .1 .0 ≡ v .index) × (k .args .1 .1 .1 .0 ≡ v .total)
+      × (now (k .args .1 .1 .1 .1 .0) ≡ v .contents) × (now (k .args .1 .1 .1 .1 .1 .0) ≡ out) × (k .left .1 .1 .1 .1 .1 .0 ≡ x) × (told (k .answer) ≡ a));
 }
 
 -- ---- both text forms
@@ -79,15 +116,42 @@ abbrev pub textRead : Verdict → Placed (List ℕ)
 textRead (bytes bs) = fine bs
 textRead (fault e) = faulty e 0
 
-abbrev pub texts : Form → Format
-texts f = record {
+-- what was read stands in front of the lent output
+abbrev pub textSaid : Answer ℕ → List ℕ → Answer (List ℕ)
+textSaid (reply number place (with n)) x = reply number place (with (take n x))
+textSaid (reply number place none) x = reply number place none
+
+-- over the calls of a reader and a writer: (what was given) (what was lent) (what was left) (the answer). A reader is lent as many bytes as the text has
+abbrev pub texts : Form → (Reader Writer : List ℕ → List ℕ → List ℕ → Answer ℕ → Type 0) → Format
+texts f Reader Writer = record {
   Place = List ℕ;
   Value = List ℕ;
-  read = λ s. textRead (readText f s);
   says = λ s bs. bs;
-  Writes = λ bs s. Bytes bs × (s ≡ textOf f bs);
   counting = kept f;
+  read = λ s. textRead (readText f s);
+  Reads = λ s a. (out : List ℕ) × (x : List ℕ) × (r : Answer ℕ) × Reader s out x r × (length s ≤ length out) × (textSaid r x ≡ a);
+  Writes = λ v out x a. Bytes v × Writer v out x a;
 }
+
+abbrev pub scans : Format
+scans =
+    texts base64
+    (λ s out x a.
+    (k : Call text-base64-read.Kinds.ps text-base64-read.Kinds.r text-base64-read.Reads.Learnt)
+    × (now (k .args .0) ≡ s) × (now (k .args .1 .0) ≡ out) × (k .left .1 .0 ≡ x) × (told (k .answer) ≡ a))
+    (λ s out x a.
+    (k : Call text-base64-write.Kinds.ps text-base64-write.Kinds.r text-base64-write.Reads.Learnt)
+    × (now (k .args .0) ≡ s) × (now (k .args .1 .0) ≡ out) × (k .left .1 .0 ≡ x) × (told (k .answer) ≡ a))
+
+abbrev pub typing : Format
+typing =
+    texts zbase32
+    (λ s out x a.
+    (k : Call text-zbase32-read.Kinds.ps text-zbase32-read.Kinds.r text-zbase32-read.Reads.Learnt)
+    × (now (k .args .0) ≡ s) × (now (k .args .1 .0) ≡ out) × (k .left .1 .0 ≡ x) × (told (k .answer) ≡ a))
+    (λ s out x a.
+    (k : Call text-zbase32-write.Kinds.ps text-zbase32-write.Kinds.r text-zbase32-write.Reads.Learnt)
+    × (now (k .args .0) ≡ s) × (now (k .args .1 .0) ≡ out) × (k .left .1 .0 ≡ x) × (told (k .answer) ≡ a))
 
 -- ---- the envelope
 
@@ -99,22 +163,38 @@ abbrev pub envelopes : Format
 envelopes = record {
   Place = Cover;
   Value = Enclosed;
-  read = envelopeAt;
   says = λ s c. record { manifest = manifestOf s c; payload = payloadOf s c };
-  Writes = λ v s. (length (v .payload) < 2 ^ 64) × (verdict (v .manifest) (v .payload) ≡ fine s);
   counting = λ s. s;
+  read = envelopeAt;
+  Reads = λ s a.
+      (k : Call envelope-read.Kinds.ps envelope-read.Kinds.r envelope-read.Reads.Learnt) × (now (k .args .0) ≡ s) × (envelope.readTold (k .answer) ≡ a);
+  Writes = λ v out x a.
+      (length (v .payload) < 2 ^ 64)
+      × ((k : Call envelope-write.Kinds.ps envelope-write.Kinds.r envelope-write.Reads.Learnt)
+      × (now (k .args .0) ≡ v .manifest) × (now (k .args .1 .0) ≡ v .payload) × (now (k .args .1 .1 .0) ≡ out) × (k .left .1 .1 .0 ≡ x)
+      × (envelope.wroteTold (k .answer) ≡ a));
 }
 
 -- ---- the manifest: the writer's value names its bytes by places in a pool
+
+abbrev pub manifestTold : StepRead → Manifest → Answer Listing
+manifestTold (step.Past next) m = done (listed m)
+manifestTold (step.Refused e) m = failed e
 
 abbrev pub manifests : Format
 manifests = record {
   Place = Listing;
   Value = Said;
-  read = λ s. unplaced (manifestAt s);
   says = saidIn;
-  Writes = λ v s. (pool : List ℕ) × (m : Manifest) × Typed m × (saidIn pool (listed m) ≡ v) × (manifestVerdict pool m ≡ bytes s);
   counting = λ s. s;
+  read = λ s. unplaced (manifestAt s);
+  Reads = λ s a.
+      (k : Call manifest-read.Kinds.ps manifest-read.Kinds.r manifest-read.Reads.Learnt)
+      × (now (k .args .0) ≡ s) × (manifestTold (k .answer .answer) (k .answer .value) ≡ a);
+  Writes = λ v out x a.
+      (k : Call manifest-write.Kinds.ps manifest-write.Kinds.r manifest-write.Reads.Learnt)
+      × Typed (k .args .1 .0) × (saidIn (now (k .args .0)) (listed (k .args .1 .0)) ≡ v) × (now (k .args .1 .1 .0) ≡ out) × (k .left .1 .1 .0 ≡ x)
+      × (told (k .answer) ≡ a);
 }
 
 -- ---- the auth payload
@@ -131,10 +211,15 @@ abbrev pub auths : Format
 auths = record {
   Place = Claim;
   Value = Auth;
-  read = λ s. unplaced (authAt s);
   says = authSays;
-  Writes = λ v s. authVerdict (v .public) (v .sig) (v .hash) ≡ bytes s;
   counting = λ s. s;
+  read = λ s. unplaced (authAt s);
+  Reads = λ s a.
+      (k : Call auth-read.Kinds.ps auth-read.Kinds.r auth-read.Reads.Learnt) × (now (k .args .0) ≡ s) × (said (unplaced (claimTold (k .answer))) ≡ a);
+  Writes = λ v out x a.
+      (k : Call auth-write.Kinds.ps auth-write.Kinds.r auth-write.Reads.Learnt)
+      × (now (k .args .0) ≡ v .public) × (now (k .args .1 .0) ≡ v .sig) × (now (k .args .1 .1 .0) ≡ v .hash)
+      × (now (k .args .1 .1 .1 .0) ≡ out) × (k .left .1 .1 .1 .0 ≡ x) × (told (k .answer) ≡ a);
 }
 
 -- ---- the shard payload
@@ -158,12 +243,30 @@ shardSays s v = record {
   quorum = v .quorum;
 }
 
+-- the writer's arguments are these values
+pub record ShardArgs (v : Share) (public sig hash kind share : List ℕ) (len threshold count index : ℕ) : Type 0 where
+  pub public-is : public ≡ v .signed .public
+  pub sig-is : sig ≡ v .signed .sig
+  pub hash-is : hash ≡ v .signed .hash
+  pub kind-is : kind ≡ v .kind
+  pub share-is : share ≡ v .share
+  pub len-is : len ≡ v .len
+  pub threshold-is : threshold ≡ v .quorum .threshold
+  pub count-is : count ≡ v .quorum .count
+  pub index-is : index ≡ v .quorum .index
+
 abbrev pub shards : Format
 shards = record {
   Place = Shard;
   Value = Share;
-  read = λ s. unplaced (shardAt s);
   says = shardSays;
-  Writes = λ v s. shardVerdict (v .signed .public) (v .signed .sig) (v .signed .hash) (v .kind) (v .share) (v .len) (v .quorum) ≡ bytes s;
   counting = λ s. s;
+  read = λ s. unplaced (shardAt s);
+  Reads = λ s a.
+      (k : Call shard-read.Kinds.ps shard-read.Kinds.r shard-read.Reads.Learnt) × (now (k .args .0) ≡ s) × (said (unplaced (shardTold (k .answer))) ≡ a);
+  Writes = λ v out x a.
+      (k : Call shard-write.Kinds.ps shard-write.Kinds.r shard-write.Reads.Learnt)
+      × ShardArgs v (now (k .args .0)) (now (k .args .1 .0)) (now (k .args .1 .1 .0)) (now (k .args .1 .1 .1 .0)) (now (k .args .1 .1 .1 .1 .0))
+      (k .args .1 .1 .1 .1 .1 .0) (k .args .1 .1 .1 .1 .1 .1 .0) (k .args .1 .1 .1 .1 .1 .1 .1 .0) (k .args .1 .1 .1 .1 .1 .1 .1 .1 .0)
+      × (now (k .args .1 .1 .1 .1 .1 .1 .1 .1 .1 .0) ≡ out) × (k .left .1 .1 .1 .1 .1 .1 .1 .1 .1 .0 ≡ x) × (told (k .answer) ≡ a);
 }

@@ -85,7 +85,7 @@ module _ (c x : List ℕ) (r : Finished) (p : F.Closed (F.finished c (replicate 
   pub answer-lacking : (e k : ℕ) → r ≡ E.Refused e k → (phase : ℕ) → phase ≡ 1 → (out out' : List ℕ) (w : Wrote)
       → Written 0 (bytes (shown c (lacking e k))) out out' w → Written 0 (bytes (answered phase c)) out out' w
   answer-lacking e k h phase i out out' w q =
-      rw (collects phase (lacking e k) i (refused-exact (F.finished c (replicate 46080 0)) (replicate 46080 0) x r p e k .0 h)) q
+      rw (collects phase (lacking e k) i (refused-exact (F.finished c (replicate 46080 0)) (replicate 46080 0) x (F.told r) (p .answer) (p .output) e k .0 (ap F.told h))) q
 
 pub answer-refused : (phase : ℕ) (c out x : List ℕ) (w : Wrote) → (phase ≡ 1 → ⊥) → Written 0 (bytes (refusedAt 19 0)) out x w
     → Written 0 (bytes (answered phase c)) out x w

@@ -22,25 +22,25 @@ use Rattle.state.proofs.Counts.{lowest-has, lowest-lacks}
 -- ---- a slot, and what its set says
 
 module _ (S : Page → Type 0) (k : ℕ) where
-  is-disputed : (x : Slot) → isDisputed x ≡ true → SlotIs S k x → TwoVersions S k
+  pub is-disputed : (x : Slot) → isDisputed x ≡ true → SlotIs S k x → TwoVersions S k
   unfolding isDisputed
   is-disputed absent e m = absurd (false≢true e)
   is-disputed (held d) e m = absurd (false≢true e)
   is-disputed disputed e m = m
 
-  agree-at : (x : Slot) → isDisputed x ≡ false → SlotIs S k x → (p q : Page) → S p → S q → p .index ≡ k → q .index ≡ k → p .contents ≡ q .contents
+  pub agree-at : (x : Slot) → isDisputed x ≡ false → SlotIs S k x → (p q : Page) → S p → S q → p .index ≡ k → q .index ≡ k → p .contents ≡ q .contents
   unfolding isDisputed
   agree-at absent e m p q s t i j = absurd (m p s i)
   agree-at (held d) e m p q s t i j = m .1 p s i ∙ sym (m .1 q t j)
   agree-at disputed e m p q s t i j = absurd (false≢true (sym e))
 
-  is-absent : (x : Slot) → isAbsent x ≡ true → SlotIs S k x → Missing S k
+  pub is-absent : (x : Slot) → isAbsent x ≡ true → SlotIs S k x → Missing S k
   unfolding isAbsent
   is-absent absent e m = m
   is-absent (held d) e m = absurd (false≢true e)
   is-absent disputed e m = absurd (false≢true e)
 
-  not-absent : (x : Slot) → isAbsent x ≡ false → SlotIs S k x → Present S k
+  pub not-absent : (x : Slot) → isAbsent x ≡ false → SlotIs S k x → Present S k
   unfolding isAbsent
   not-absent absent e m = absurd (false≢true (sym e))
   not-absent (held d) e m = m .0

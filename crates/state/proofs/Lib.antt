@@ -4,6 +4,7 @@ pub mod Valid
 pub mod Histories
 pub mod Counts
 pub mod Complete
+pub mod Counted
 pub mod Finished
 pub mod Changes
 pub mod UpTo

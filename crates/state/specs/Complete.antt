@@ -3,7 +3,7 @@
 use mathlib.Core.Path.{_≡_}
 use mathlib.Core.Logic.{_⊎_}
 use mathlib.Core.List.{List, [], flatten}
-use Prim.Native.Nat.{ℕ, _<_}
+use Prim.Native.Nat.{ℕ, suc, _<_}
 use lib.ListN.{length, getD}
 use Rattle.state.specs.Take.{Page}
 use Rattle.state.specs.Finish.{Finish, whole, lacking}
@@ -35,6 +35,16 @@ Present S k = (p : Page) × S p × (p .index ≡ k)
 -- none has
 abbrev pub Missing : (Page → Type 0) → ℕ → Type 0
 Missing S k = (p : Page) → S p → p .index ≡ k → ⊥
+
+-- some page has index k, and all that have it have the same contents
+abbrev pub Agreed : (Page → Type 0) → ℕ → Type 0
+Agreed S k = Present S k × ((p q : Page) → S p → S q → p .index ≡ k → q .index ≡ k → p .contents ≡ q .contents)
+
+-- of the indices below t, n have a property
+pub data Counted (P : ℕ → Type 0) : ℕ → ℕ → Type 0 where
+  nothing : Counted P 0 0
+  has : {t n : ℕ} → Counted P t n → P t → Counted P (suc t) (suc n)
+  lacks : {t n : ℕ} → Counted P t n → (P t → ⊥) → Counted P (suc t) n
 
 -- complete, with the data d: one total, one version of each page, each index below the total has a page, and d is their contents in index order
 pub record Complete (S : Page → Type 0) (d : List ℕ) : Type 0 where

@@ -1,6 +1,7 @@
 -- What is written is read, and what is read was written. Assumes nothing.
-use Prim.Native.Nat.{ℕ, _+_, _*_, _/_, _%_, _^_, _<_}
-use mathlib.Core.Path.{_≡_, refl, sym, ap, _∙_}
+use Prim.Native.Nat.{ℕ, _+_, _*_, _/_, _%_, _^_, _≤_, _<_}
+use mathlib.Core.Path.{_≡_, refl, sym, ap, _∙_, subst}
+use mathlib.Core.Logic.{⊎-elim}
 use mathlib.Core.List.{List, map}
 use native.Mathlib.Nat.{add-zero, mul-mod-left}
 use native.Mathlib.Omega.{arith}
@@ -16,7 +17,7 @@ use Rattle.wire.proofs.Writes.{passed, escaped, bytes-injective}
 use Rattle.text.specs.Text.{Form, kept, value, values, below, leftover, characters, filling, letter, textOf, readValues, readText}
 use Rattle.text.proofs.Forms.{Lawful}
 use Rattle.text.proofs.Counts.{pow-pow, width-bounds, filling-lt, filled, leftover-is, characters-is}
-use Rattle.text.proofs.Characters.{below-true, below-all, values-letters, letters-back}
+use Rattle.text.proofs.Characters.{below-true, below-all, length-values, values-letters, letters-back}
 
 module _ (f : Form) (law : Lawful f) where
   -- ---- written, then read
@@ -97,3 +98,22 @@ module _ (f : Form) (law : Lawful f) where
       let small : Digits (2 ^ f .width) vs = below-all (2 ^ f .width) vs (pow-pos (f .width)) (a .0) in
       let b = values-written vs bs small (a .1) in
       (sym (ap (map (letter f)) (b .0) ∙ letters-back f law (kept f cs) small), b .1)
+
+  -- ---- what is read has no more bytes than the text has characters
+
+  text-digits : (cs bs : List ℕ) → readText f cs ≡ bytes bs → (k : ℕ) × (n : ℕ) × (k ≤ length cs) × (digits 256 k n ≡ bs)
+  unfolding readText readValues
+  text-digits cs bs h =
+      let vs : List ℕ = values f cs in
+      let p = passed (below (2 ^ f .width) vs) _ 1 h in
+      let q = escaped (f .impossible (length vs)) _ 2 (p .1) in
+      let r = passed (eqb (number (2 ^ f .width) vs % 2 ^ leftover f (length vs)) 0) _ 2 (q .1) in
+      let l = length-values f cs in
+      let short : f .width * length vs / 8 ≤ length cs = ⊎-elim (λ e. rw e (omega arith)) (λ e. rw e (omega arith)) (law .narrow) in
+      (f .width * length vs / 8, number (2 ^ f .width) vs / 2 ^ leftover f (length vs), short, bytes-injective (r .1))
+
+  pub text-short : (cs bs : List ℕ) → readText f cs ≡ bytes bs → length bs ≤ length cs
+  text-short cs bs h = let (k, n, l, e) = text-digits cs bs h in omega (arith, ap length e, length-digits 256 k n)
+
+  pub text-bytes : (cs bs : List ℕ) → readText f cs ≡ bytes bs → Bytes bs
+  text-bytes cs bs h = let (k, n, l, e) = text-digits cs bs h in subst Bytes e (digits-small 256 k n (omega arith))

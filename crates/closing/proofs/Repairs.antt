@@ -1,0 +1,48 @@
+-- What mend leaves and answers is what its rule says of each block. Assumes nothing.
+use mathlib.Core.Path.{_≡_, refl, sym, ap, _∙_, subst}
+use mathlib.Core.Bool.{Bool, true, false, false≢true}
+use mathlib.Core.List.{List}
+use Prim.Native.Nat.{ℕ, zero, suc, _+_, _<_}
+use native.Mathlib.Omega.{arith}
+use lib.ListN.{take}
+use Rattle.wire.specs.Answer.{choose, Answer, done}
+use Rattle.state.specs.Complete.{Counted, nothing, has, lacks}
+use Rattle.book.specs.Head.{hasHead}
+use Rattle.book.specs.Read.{idOf, totalIn, pageAt, okAt, okBook}
+use Rattle.closing.specs.Mend.{badPages, mended, repair, BadAt, Mends}
+use Rattle.closing.proofs.Mending.{bad-more}
+use Rattle.closing.proofs.Mends.{unmended, refused, mended-count, mended-front, mended-kept, mended-absent, mended-ok}
+
+-- the number of bad blocks counts them
+bad-counted : (c : List ℕ) (n : ℕ) → Counted (BadAt c) n (badPages (idOf c) (totalIn c) 0 n c)
+unfolding badPages
+bad-counted c zero = nothing
+bad-counted c (suc n) = go (okAt (idOf c) (totalIn c) n (pageAt n c)) refl (bad-counted c n)
+  where
+    go : (w : Bool) → okAt (idOf c) (totalIn c) n (pageAt n c) ≡ w → Counted (BadAt c) n (badPages (idOf c) (totalIn c) 0 n c)
+        → Counted (BadAt c) (suc n) (badPages (idOf c) (totalIn c) 0 (suc n) c)
+    go true e i =
+        let m = bad-more (idOf c) (totalIn c) c 0 n n (omega arith) in
+        let z : choose {A = ℕ} (okAt (idOf c) (totalIn c) n (pageAt n c)) 0 1 ≡ 0 = rw e in
+        subst (Counted (BadAt c) (suc n)) (omega arith) (lacks i (λ f. false≢true (sym f ∙ e)))
+    go false e i =
+        let m = bad-more (idOf c) (totalIn c) c 0 n n (omega arith) in
+        let z : choose {A = ℕ} (okAt (idOf c) (totalIn c) n (pageAt n c)) 0 1 ≡ 1 = rw e in
+        subst (Counted (BadAt c) (suc n)) (omega arith) (has i e)
+
+not-bad : (c : List ℕ) (k : ℕ) → (BadAt c k → ⊥) → okAt (idOf c) (totalIn c) k (pageAt k c) ≡ true
+not-bad c k n = go (okAt (idOf c) (totalIn c) k (pageAt k c)) refl
+  where
+    go : (w : Bool) → okAt (idOf c) (totalIn c) k (pageAt k c) ≡ w → okAt (idOf c) (totalIn c) k (pageAt k c) ≡ true
+    go true e = e
+    go false e = absurd (n e)
+
+pub mend-says : (c x : List ℕ) (a : Answer ℕ) → a ≡ repair c → x ≡ mended c → Mends c x a
+mend-says c x a p o = record {
+  refuses = λ h. (p ∙ refused c h, o ∙ unmended c h);
+  counts = λ h. (badPages (idOf c) (totalIn c) 0 96 c, bad-counted c 96, p ∙ mended-count c h);
+  head = λ h. ap (take 512) o ∙ mended-front c h;
+  empties = λ h k l b. ap (pageAt k) o ∙ mended-absent c h k l b;
+  keeps = λ h k l n. ap (pageAt k) o ∙ mended-kept c h k l (not-bad c k n);
+  leaves = λ h. ap okBook o ∙ mended-ok c h;
+}

@@ -1,0 +1,180 @@
+-- What both interfaces to a collection keep to: the bytes that 01's definitions give, finish's answer, and that every call can be made. Assumes nothing.
+use mathlib.Core.Path.{_≡_, refl, sym, ap, _∙_, subst}
+use mathlib.Core.Bool.{true}
+use mathlib.Core.List.{List, []}
+use Prim.Native.Nat.{ℕ, _+_, _*_, _/_, _%_, _≤_, _<_}
+use native.Mathlib.Omega.{arith}
+use borrow.Author.Tests.{ne-eqb}
+use lib.Dec.{eqb}
+use lib.ListN.{length}
+use denote.Ref.{now}
+use Rattle.wire.specs.Answer.{choose, Answer, reply, with, none}
+use Rattle.state.specs.Take.{Page}
+use Rattle.state.specs.Meaning.{BookIs}
+use Rattle.state.specs.Finish.{Finish, whole, lacking}
+use Rattle.book.specs.Read.{readBook, okBook}
+use Rattle.collection.specs.Collection.{Decision, leaves, refuses, opening, offering, joining, answerOf, bytesAfter}
+use Rattle.collection.specs.Answer as answers
+use Rattle.collection.specs.declared.Answered.{Answered}
+use Rattle.collection.specs.declared.Answered.the-variants as A
+use Rattle.collection.specs.declared.Offered.{Offered}
+use Rattle.collection.specs.declared.Offered.the-variants as O
+use Rattle.closing.specs.Finish.{finished, outcome, told, after}
+use Rattle.closing.specs.declared.Finished.{Finished}
+use Rattle.closing.specs.declared.Finished.the-variants as F
+use Rattle.closing.proofs.Demand.{finish-bytes}
+use Rattle.phone.specs.Packed.{packed, packedAnswer, packedKind, packedFinish, finishIn}
+use Rattle.collection.proofs.open as collection-open
+use Rattle.collection.proofs.offer as collection-offer
+use Rattle.collection.proofs.join as collection-join
+use Rattle.closing.proofs.finish as closing-finish
+use Rattle.phone.proofs.stilt_open as phone-stilt-open
+use Rattle.phone.proofs.stilt_offer as phone-stilt-offer
+use Rattle.phone.proofs.stilt_join as phone-stilt-join
+use Rattle.phone.proofs.stilt_finish as phone-stilt-finish
+use Rattle.promises.specs.Calls.{Call}
+use Rattle.promises.specs.Collecting.{Interface, library, phone}
+use Rattle.promises.proofs.Writers.{slice}
+use Rattle.promises.proofs.Links as L
+
+pub record Lawful (f : Interface) : Type 1 where
+  pub opens : (id c x : List ℕ) → f .Opens id c x → x ≡ bytesAfter c (opening id c)
+  pub offers : (c raw x : List ℕ) → f .Offers c raw x → x ≡ bytesAfter c (offering c raw)
+  pub joins : (c o x : List ℕ) → f .Joins c o x → x ≡ bytesAfter c (joining c o)
+  -- finish's output is fixed for any bytes; its answer is told of a collection that is the meaning of a set
+  pub finishes : (S : Page → Type 0) (c out x : List ℕ) (a : Answer ℕ) → okBook c ≡ true → BookIs S (readBook c) → f .Finishes c out x a
+      → (a ≡ outcome (finished c out)) × (x ≡ after out (finished c out))
+  pub can-open : (id c : List ℕ) → (x : List ℕ) × f .Opens id c x
+  pub can-offer : (c raw : List ℕ) → (x : List ℕ) × f .Offers c raw x
+  pub can-join : (c o : List ℕ) → (x : List ℕ) × f .Joins c o x
+  pub can-finish : (c out : List ℕ) → (x : List ℕ) × (a : Answer ℕ) × f .Finishes c out x a
+
+-- ---- the libraries
+
+answered : (d : Decision Unit) → (r : Answered) × (answers.told r ≡ answerOf d)
+answered (leaves x a) = (A.Done, refl)
+answered (refuses e) = (A.Refused e, refl)
+
+kind : (d : Decision ℕ) → (r : Offered) × (answers.toldKind r ≡ answerOf d)
+kind (leaves x k) = (O.Done k, refl)
+kind (refuses e) = (O.Refused e, refl)
+
+ended : (v : Finish) → (r : Finished) × (told r ≡ outcome v)
+ended (whole d) = (F.Done _, refl)
+ended (lacking e k) = (F.Refused e k, refl)
+
+-- a call of open or join, and of offer, whose contract holds: it left what its decision says
+module _ (s c : List ℕ) where
+  abbrev opening-call : Call collection-open.Kinds.ps collection-open.Kinds.r collection-open.Reads.Learnt
+  opening-call = record {
+    lifetimes = ([], ([], tt));
+    args = (slice s, (slice c, tt));
+    answer = answered (opening s c) .0;
+    left = (tt, (bytesAfter c (opening s c), tt));
+    kept = record { answer = answered (opening s c) .1; bytes = refl };
+  }
+
+  abbrev joining-call : Call collection-join.Kinds.ps collection-join.Kinds.r collection-join.Reads.Learnt
+  joining-call = record {
+    lifetimes = ([], ([], tt));
+    args = (slice c, (slice s, tt));
+    answer = answered (joining c s) .0;
+    left = (bytesAfter c (joining c s), (tt, tt));
+    kept = record { answer = answered (joining c s) .1; bytes = refl };
+  }
+
+  abbrev offering-call : Call collection-offer.Kinds.ps collection-offer.Kinds.r collection-offer.Reads.Learnt
+  offering-call = record {
+    lifetimes = ([], ([], tt));
+    args = (slice c, (slice s, tt));
+    answer = kind (offering c s) .0;
+    left = (bytesAfter c (offering c s), (tt, tt));
+    kept = record { answer = kind (offering c s) .1; bytes = refl };
+  }
+
+  abbrev finishing-call : Call closing-finish.Kinds.ps closing-finish.Kinds.r closing-finish.Reads.Learnt
+  finishing-call = record {
+    lifetimes = ([], ([], tt));
+    args = (slice c, (slice s, tt));
+    answer = ended (finished c s) .0;
+    left = (tt, (after s (finished c s), tt));
+    kept = record { answer = ended (finished c s) .1; output = refl };
+  }
+
+pub library-lawful : Lawful library
+library-lawful = record {
+  opens = λ id c x (k, i, j, l). sym l ∙ L.collection-open-link k .bytes ∙ rw (i, j);
+  offers = λ c raw x (k, i, j, l). sym l ∙ L.collection-offer-link k .bytes ∙ rw (i, j);
+  joins = λ c o x (k, i, j, l). sym l ∙ L.collection-join-link k .bytes ∙ rw (i, j);
+  finishes = λ S c out x a ok m (k, i, j, l, e).
+      let w = L.closing-finish-link k in
+      (sym e ∙ w .answer ∙ rw (i, j), sym l ∙ w .output ∙ rw (i, j));
+  can-open = λ id c. (bytesAfter c (opening id c), (opening-call id c, refl, refl, refl));
+  can-offer = λ c raw. (bytesAfter c (offering c raw), (offering-call raw c, refl, refl, refl));
+  can-join = λ c o. (bytesAfter c (joining c o), (joining-call o c, refl, refl, refl));
+  can-finish = λ c out. (after out (finished c out), told (ended (finished c out) .0), (finishing-call out c, refl, refl, refl, refl));
+}
+
+-- ---- the functions for C
+
+-- a number that is made of three is read apart as these
+apart : (m a b c : ℕ) → m % 256 ≡ a → m / 256 % 256 ≡ b → m / 65536 ≡ c → finishIn m ≡ reply a b (choose (eqb a 0) (with c) none)
+apart m a b c p q r = rw (p, q, r)
+
+finish-apart : (v : Finish) → ((n k : ℕ) → v ≡ lacking n k → (1 ≤ n) × (n < 256) × (k < 256)) → finishIn (packedFinish (outcome v)) ≡ outcome v
+finish-apart (whole d) h = apart (packed 0 0 (length d)) 0 0 (length d) (omega arith) (omega arith) (omega arith)
+finish-apart (lacking n k) h =
+    let b = h n k refl in
+    apart (packed n k 0) n k 0 (omega arith) (omega arith) (omega arith) ∙ rw (ne-eqb n 0 (λ e. omega (arith, e)))
+
+module _ (s c : List ℕ) where
+  abbrev stilt-opening : Call phone-stilt-open.Kinds.ps phone-stilt-open.Kinds.r phone-stilt-open.Reads.Learnt
+  stilt-opening = record {
+    lifetimes = ([], ([], tt));
+    args = (slice s, (slice c, tt));
+    answer = packedAnswer (answerOf (opening s c));
+    left = (tt, (bytesAfter c (opening s c), tt));
+    kept = (refl, refl);
+  }
+
+  abbrev stilt-joining : Call phone-stilt-join.Kinds.ps phone-stilt-join.Kinds.r phone-stilt-join.Reads.Learnt
+  stilt-joining = record {
+    lifetimes = ([], ([], tt));
+    args = (slice c, (slice s, tt));
+    answer = packedAnswer (answerOf (joining c s));
+    left = (bytesAfter c (joining c s), (tt, tt));
+    kept = (refl, refl);
+  }
+
+  abbrev stilt-offering : Call phone-stilt-offer.Kinds.ps phone-stilt-offer.Kinds.r phone-stilt-offer.Reads.Learnt
+  stilt-offering = record {
+    lifetimes = ([], ([], tt));
+    args = (slice c, (slice s, tt));
+    answer = packedKind (answerOf (offering c s));
+    left = (bytesAfter c (offering c s), (tt, tt));
+    kept = (refl, refl);
+  }
+
+  abbrev stilt-finishing : Call phone-stilt-finish.Kinds.ps phone-stilt-finish.Kinds.r phone-stilt-finish.Reads.Learnt
+  stilt-finishing = record {
+    lifetimes = ([], ([], tt));
+    args = (slice c, (slice s, tt));
+    answer = packedFinish (outcome (finished c s));
+    left = (tt, (after s (finished c s), tt));
+    kept = (refl, refl);
+  }
+
+pub phone-lawful : Lawful phone
+phone-lawful = record {
+  opens = λ id c x (k, i, j, l). sym l ∙ L.phone-stilt-open-link k .1 ∙ rw (i, j);
+  offers = λ c raw x (k, i, j, l). sym l ∙ L.phone-stilt-offer-link k .1 ∙ rw (i, j);
+  joins = λ c o x (k, i, j, l). sym l ∙ L.phone-stilt-join-link k .1 ∙ rw (i, j);
+  finishes = λ S c out x a ok m (k, i, j, l, e).
+      let w = L.phone-stilt-finish-link k in
+      let n : k .answer ≡ packedFinish (outcome (finished c out)) = w .0 ∙ rw (i, j) in
+      (sym e ∙ ap finishIn n ∙ finish-apart (finished c out) (finish-bytes S c out ok m), sym l ∙ w .1 ∙ rw (i, j));
+  can-open = λ id c. (bytesAfter c (opening id c), (stilt-opening id c, refl, refl, refl));
+  can-offer = λ c raw. (bytesAfter c (offering c raw), (stilt-offering raw c, refl, refl, refl));
+  can-join = λ c o. (bytesAfter c (joining c o), (stilt-joining o c, refl, refl, refl));
+  can-finish = λ c out. (after out (finished c out), finishIn (packedFinish (outcome (finished c out))), (stilt-finishing out c, refl, refl, refl, refl));
+}
