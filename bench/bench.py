@@ -8,6 +8,7 @@ import glob
 import hashlib
 import os
 import re
+import shutil
 import subprocess
 import sys
 import zlib
@@ -38,6 +39,12 @@ def compiler():
     which = ["gcc"] if counting.X86 else [f"{MACHINE}-gcc", "-static"]
     return [*which, "-std=c11", "-O2", "-Wall", "-Wextra", "-D_POSIX_C_SOURCE=199309L",
             "-I" + os.path.join(ROOT, "include")]
+
+
+def lacking():
+    """The compiler, or what runs what it compiled, where this machine has it not; else None."""
+    tools = [compiler()[0], *counting.runner()[:1]]
+    return next((tool for tool in tools if not shutil.which(tool)), None)
 
 
 def build(output, sources, *more, **options):

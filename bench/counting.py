@@ -9,6 +9,9 @@ import subprocess
 BENCH = os.path.dirname(os.path.realpath(__file__))
 X86 = platform.machine() in ("x86_64", "AMD64")
 
+# How a program here ends where this machine lacks what it takes: ./test then says `not run`.
+NOT_RUN = 77
+
 # The libraries ask the processor what it can do: `max` is one that can all that qemu can.
 PROCESSOR = "max"
 

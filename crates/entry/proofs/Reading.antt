@@ -10,7 +10,7 @@ use mir.Val.{Fits}
 use Rattle.wire.specs.Answer.{got, refused}
 use Rattle.wire.proofs.Cases.{said-no, said-yes}
 use Rattle.path.specs.Order.{below}
-use Rattle.path.specs.Path.{pathAllowed}
+use Rattle.path.specs.Path.{pathLeast, pathMost, pathAllowed}
 use Rattle.cbor.specs.Item.{stringFieldAt}
 use Rattle.cbor.specs.Answer.{stringTold}
 use Rattle.cbor.specs.Names.{pathKey}
@@ -20,13 +20,13 @@ use Rattle.cbor.proofs.Answers.{as-told}
 use Rattle.cbor.proofs.Within.{string-field-within}
 use Rattle.entry.specs.File.{pathAt}
 
-module _ (s : List ℕ) (at : ℕ) (start len next : ℕ) (r : StringRead) (e : stringTold r ≡ stringFieldAt s at pathKey 3 1 200 20) (k : r ≡ Value start len next) where
-  there : stringFieldAt s at pathKey 3 1 200 20 ≡ got (record { start = start; len = len }) next
+module _ (s : List ℕ) (at : ℕ) (start len next : ℕ) (r : StringRead) (e : stringTold r ≡ stringFieldAt s at pathKey 3 pathLeast pathMost 20) (k : r ≡ Value start len next) where
+  there : stringFieldAt s at pathKey 3 pathLeast pathMost 20 ≡ got (record { start = start; len = len }) next
   there = as-told stringTold e k
 
   -- the path is within the input
   pub path-there : start + len ≤ length s
-  path-there = let w = string-field-within s at pathKey 3 1 200 20 there in omega (arith, w .0, w .1)
+  path-there = let w = string-field-within s at pathKey 3 pathLeast pathMost 20 there in omega (arith, w .0, w .1)
 
   pub path-fits : length s < 2 ^ 64 → Fits w64 (start + len)
   path-fits l = record { fits = omega (arith, path-there) }

@@ -12,7 +12,7 @@ use Rattle.wire.specs.Number.{Bytes, bigEndian}
 use Rattle.wire.proofs.Cases.{passed, then-passed}
 use Rattle.wire.proofs.Standing.{Stands, stands-first, stands-second, stands-join, stands-as}
 use Rattle.path.specs.Order.{below}
-use Rattle.path.specs.Path.{pathAllowed}
+use Rattle.path.specs.Path.{pathLeast, pathMost, pathAllowed}
 use Rattle.path.proofs.Paths.{allowed-length}
 use Rattle.cbor.specs.Form.{infoOf, widthOf, headOf, stringOf, stringFieldOf, numberFieldOf}
 use Rattle.cbor.specs.Item.{byteAt, oneAt, kindOf, Head, headAt, Place, partAt, keyAt, stringFieldAt, numberFieldAt}
@@ -136,7 +136,7 @@ pub path-back : {s : List ℕ} {at next : ℕ} (prev path : List ℕ) → pathAl
 unfolding pathAt
 path-back {s} {at} prev path a b h =
     let l = allowed-length path a in
-    let r = string-field-back 3 1 200 20 kind-text path (omega (arith, l .1)) (l .0) (l .1) pathKey (omega arith) h in
+    let r = string-field-back 3 pathLeast pathMost 20 kind-text path (omega (arith, l .1)) (l .0) (l .1) pathKey (omega arith) h in
     let e = r .2 .part in
     (r .0, rw (r .1) (rw (e, a, b)), e)
 
@@ -144,14 +144,14 @@ pub path-only : {s : List ℕ} {at next : ℕ} (prev : List ℕ) {v : Place} →
     → Stands s at (stringFieldOf pathKey 3 (partAt s v)) next × Named s prev (placed v)
 unfolding pathAt
 path-only {s} {at} {next} prev {v} y e =
-    let t = then-passed (stringFieldAt s at pathKey 3 1 200 20) _ e in
+    let t = then-passed (stringFieldAt s at pathKey 3 pathLeast pathMost 20) _ e in
     let u = passed (pathAllowed (partAt s (t .0))) _ 20 (t .3) in
     let w = passed (below prev (partAt s (t .0))) (got (t .0) (t .1)) 20 (u .1) in
     let f : t .0 ≡ v = cc (w .1) in
     let n : t .1 ≡ next = cc (w .1) in
-    let i = string-field-within s at pathKey 3 1 200 20 (t .2) in
+    let i = string-field-within s at pathKey 3 pathLeast pathMost 20 (t .2) in
     subst (λ (v : Place). Stands s at (stringFieldOf pathKey 3 (partAt s v)) next × Named s prev (placed v)) f (
-      stands-as refl n (string-field-only pathKey 3 1 200 20 y (t .2) .0),
+      stands-as refl n (string-field-only pathKey 3 pathLeast pathMost 20 y (t .2) .0),
       record { within = omega (arith, i .0, i .1); permitted = u .0; above = w .0 },
     )
 
@@ -242,9 +242,9 @@ file-within s at prev {f} {next} e =
   where
     path-within : (s : List ℕ) (at : ℕ) (prev : List ℕ) {v : Place} {next : ℕ} → pathAt s at prev ≡ got v next → v .start + v .len ≤ length s
     path-within s at prev {v} {next} e =
-        let t = then-passed (stringFieldAt s at pathKey 3 1 200 20) _ e in
+        let t = then-passed (stringFieldAt s at pathKey 3 pathLeast pathMost 20) _ e in
         let u = passed (pathAllowed (partAt s (t .0))) _ 20 (t .3) in
         let w = passed (below prev (partAt s (t .0))) (got (t .0) (t .1)) 20 (u .1) in
         let f : t .0 ≡ v = cc (w .1) in
-        let i = string-field-within s at pathKey 3 1 200 20 (t .2) in
+        let i = string-field-within s at pathKey 3 pathLeast pathMost 20 (t .2) in
         subst (λ (v : Place). v .start + v .len ≤ length s) f (omega (arith, i .0, i .1))

@@ -9,6 +9,7 @@ use lib.Seq.{length-take-le}
 use Rattle.cbor.specs.Form.{headSize, stringOf, stringFieldOf, numberFieldOf}
 use Rattle.cbor.specs.Names.{hashKey, pathKey, sizeKey, mtimeKey}
 use Rattle.cbor.proofs.Sizes.{length-head, length-string, length-string-field, length-number-field, length-field-two, size-one, size-most}
+use Rattle.path.specs.Path.{pathMost}
 use Rattle.entry.specs.File.{partIn}
 use Rattle.entry.specs.Writing.{Entry, entryIn, entryOf, fileOf, integerOf, mtimeOf}
 use Rattle.entry.specs.Parts.{mtimeSize, fileSize}
@@ -65,7 +66,6 @@ file-length pool f h l p =
     let b = part-length pool (f .path) p in
     entry-length (entryIn pool f) (a ∙ l) ∙ ap (λ (n : ℕ). 56 + headSize n + n + headSize (f .size) + mtimeSize (f .mtime)) b
 
--- a path has at most 200 bytes
-pub file-most : (f : File) → f .path .len ≤ 200 → fileSize f ≤ 300
+pub file-most : (f : File) → f .path .len ≤ pathMost → fileSize f ≤ 300
 unfolding fileSize
 file-most f h = omega (arith, size-most (f .path .len), size-most (f .size), mtime-most (f .mtime))

@@ -16,7 +16,7 @@ use Rattle.wire.proofs.Cases.{both-hold, said-no, said-yes}
 use Rattle.wire.proofs.Overs.{over-none, over-out}
 use Rattle.wire.proofs.Writes.{passed, bytes-injective}
 use Rattle.path.specs.Order.{below}
-use Rattle.path.specs.Path.{pathAllowed}
+use Rattle.path.specs.Path.{pathMost, pathAllowed}
 use Rattle.path.proofs.Paths.{allowed-length}
 use Rattle.cbor.specs.Form.{headOf, headSize, stringOf, stringFieldOf, numberFieldOf}
 use Rattle.cbor.specs.Names.{hashKey, pathKey, sizeKey, mtimeKey}
@@ -128,7 +128,7 @@ pub named-path : (pool prev : List ℕ) (p : Part) → Named pool prev p → pat
 unfolding pathIn
 named-path pool prev p n = rw (within-held pool p (n .within), n .permitted) (n .above)
 
-pub named-length : (pool prev : List ℕ) (p : Part) → Named pool prev p → p .len ≤ 200
+pub named-length : (pool prev : List ℕ) (p : Part) → Named pool prev p → p .len ≤ pathMost
 named-length pool prev p n = omega (arith, part-length pool p (n .within), allowed-length (partIn pool p) (n .permitted) .1)
 
 -- the values of a file that may be written
@@ -175,7 +175,7 @@ module _ (pool prev : List ℕ) (f : File) where
 -- ---- `judge`
 
 module _ (pool prev : List ℕ) (f : File) (e : Bool) (q : e ≡ pathIn pool prev (f .path)) (y : not e ≡ false) where
-  pub judged-path : f .path .len ≤ 200
+  pub judged-path : f .path .len ≤ pathMost
   judged-path = named-length pool prev (f .path) (path-named pool prev (f .path) (said-yes e _ q y))
 
   pub judge-done : (d t : Bool) (n : ℕ) → d ≡ digestIn pool (f .hash) → not d ≡ false → f .size ≤ 4294967295 → t ≡ mtimeAllowed (f .mtime) → not t ≡ false → n ≡ fileSize f

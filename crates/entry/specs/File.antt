@@ -5,7 +5,7 @@ use lib.Dec.{ltb, eqb}
 use lib.ListN.{take, drop}
 use Rattle.wire.specs.Answer.{choose, Got, got, then}
 use Rattle.path.specs.Order.{below}
-use Rattle.path.specs.Path.{pathAllowed}
+use Rattle.path.specs.Path.{pathLeast, pathMost, pathAllowed}
 use Rattle.cbor.specs.Item.{demand, byteAt, oneAt, Head, headAt, Place, partAt, keyAt, stringFieldAt, numberFieldAt}
 use Rattle.cbor.specs.Names.{hashKey, pathKey, sizeKey, mtimeKey}
 use Rattle.entry.specs.declared.Part.{Part}
@@ -35,7 +35,7 @@ mtimeAt s at =
 -- a path that is allowed, and above prev, the path before it: its length is judged before its contents
 unfoldable pub pathAt : List ℕ → ℕ → List ℕ → Got Place
 pathAt s at prev =
-    then (stringFieldAt s at pathKey 3 1 200 20) (λ v next.
+    then (stringFieldAt s at pathKey 3 pathLeast pathMost 20) (λ v next.
     demand (pathAllowed (partAt s v)) 20 (demand (below prev (partAt s v)) 20 (got v next)))
 
 -- head A4: `hash`, `path`, `size`, `mtime`

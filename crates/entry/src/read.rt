@@ -76,7 +76,7 @@ fn mtime_field(s: &[u8], at: usize) -> MtimeRead
 fn path_field(s: &[u8], at: usize, prev: &[u8]) -> StringRead
     ensures { λ r. ⌜ stringTold r ≡ pathAt (now (s .entry)) at (now (prev .entry)) ⌝ }
 {
-    let p = cbor::read::string_field(s, at, b"path", TEXT, 1, 200, BAD_PATH);
+    let p = cbor::read::string_field(s, at, b"path", TEXT, path::LEAST, path::MOST, BAD_PATH);
     let StringRead::Value { start, len, next } = p else {
         return StringRead::Refused { no: string_no(p) };
     };

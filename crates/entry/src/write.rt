@@ -3,6 +3,7 @@ ghost use mathlib.Core.Path.{_≡_};
 ghost use Prim.Native.Nat.{_+_, _≤_};
 ghost use lib.ListN.{length};
 ghost use Rattle.wire.specs.Writing.{told, outcome};
+ghost use Rattle.path.specs.Path.{pathMost};
 ghost use Rattle.cbor.specs.Put.{Put};
 ghost use Rattle.entry.specs.File.{partIn};
 ghost use Rattle.entry.specs.Writing.{integerOf, fileOf, held, digestIn, pathIn, mtimeAllowed, fileVerdict, formOf};
@@ -90,7 +91,7 @@ fn mtime_size(t: Mtime) -> usize
 
 // How long a file is that may be written: 56 bytes are its head, its keys and its hash.
 fn size(f: File) -> usize
-    requires { ⌜ f .path .len ≤ 200 ⌝ }
+    requires { ⌜ f .path .len ≤ pathMost ⌝ }
     ensures { λ r. ⌜ r ≡ fileSize f ⌝ }
 {
     let path = f.path;

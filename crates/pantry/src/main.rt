@@ -12,59 +12,63 @@ use wire::Wrote;
 // How much one read asks for.
 const CHUNK: usize = 65_536;
 
-// Whether the input may go on, and where the session is.
-struct Turned {
-    more: bool,
-    session: Session,
+// What one read brought.
+enum Turned {
+    More { session: Session },
+    End,
+    Failed,
 }
 
-// Reads once, and takes what came into the session. At the end of the input nothing comes.
+// The session at the end of the input; none where the input could not be read to its end.
+enum Taken {
+    Whole { session: Session },
+    Failed,
+}
+
+// Reads once, and takes what came into the session.
 fn turn(s: Session, input: &mut [u8], line: &mut [u8], c: &mut [u8]) -> Turned {
     let got = libc::read(STDIN_FILENO, input);
+    if got < 0 {
+        return Turned::Failed;
+    }
     let n = io::count(got, input);
     if n < 1 {
-        return Turned {
-            more: false,
-            session: s,
-        };
+        return Turned::End;
     }
-    if n > input.len() {
-        return Turned {
-            more: false,
-            session: s,
-        };
-    }
-    let session = session::feed(&input[0..n], s, line, c);
-    Turned {
-        more: true,
-        session,
-    }
+    let session = session::feed(&input[..n], s, line, c);
+    Turned::More { session }
 }
 
 // A proved loop has to end, and nothing says that the input does: it counts down from a number that no run uses up.
-fn collect(input: &mut [u8], line: &mut [u8], c: &mut [u8]) -> Session {
+fn collect(input: &mut [u8], line: &mut [u8], c: &mut [u8]) -> Taken {
     let mut s = Session {
         phase: session::WAITING,
         len: 0,
     };
     let mut turns = u64::MAX;
     while turns > 0 {
-        let t = turn(s, input, line, c);
-        s = t.session;
-        if !t.more {
-            return s;
+        match turn(s, input, line, c) {
+            Turned::More { session } => {
+                s = session;
+            }
+            Turned::End => return Taken::Whole { session: s },
+            Turned::Failed => return Taken::Failed,
         }
         turns -= 1;
     }
-    s
+    Taken::Failed
 }
 
-// The session at the end of the input.
-fn scanned(c: &mut [u8]) -> Session {
+// Reads all of the input, or says that it could not: of a part nothing is printed and nothing kept.
+fn scanned(c: &mut [u8]) -> Taken {
     let mut input = [0u8; CHUNK];
     let mut line = [0u8; session::LINE_BUFFER];
-    let s = collect(&mut input, &mut line, c);
-    session::close(s, &line, c)
+    let Taken::Whole { session } = collect(&mut input, &mut line, c) else {
+        os::fail(b"standard input");
+        return Taken::Failed;
+    };
+    let session = session::close(session, &line, c);
+    Taken::Whole { session }
 }
 
 // Writes out what was laid in front of out.
@@ -92,7 +96,9 @@ fn refuse(no: u8) {
 // The file is written before anything is printed: a ciphertext that came out is kept. Where the first line was no document id, the
 // file is not looked at.
 fn keep(name: &[u8], c: &mut [u8]) {
-    let s = scanned(c);
+    let Taken::Whole { session: s } = scanned(c) else {
+        return;
+    };
     if s.phase != session::COLLECTING {
         print(s, c);
         return;
@@ -109,8 +115,9 @@ fn main() {
     let mut c = [0u8; book::SIZE];
     let words = os::arg_count();
     if words < 2 {
-        let s = scanned(&mut c);
-        print(s, &c);
+        if let Taken::Whole { session } = scanned(&mut c) {
+            print(session, &c);
+        }
         return;
     }
     let mut name = [0u8; libc::PATH_MAX];

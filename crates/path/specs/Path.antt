@@ -7,8 +7,11 @@ use lib.ListN.{length, getD}
 use Rattle.path.specs.Utf8.{codePoints}
 
 -- "path 1 to 200 bytes"
-unfoldable pub pathSized : ℕ → Bool
-pathSized n = leb 1 n && leb n 200
+abbrev pub pathLeast : ℕ
+pathLeast = 1
+
+abbrev pub pathMost : ℕ
+pathMost = 200
 
 -- each is below n
 unfoldable pub within : ℕ → List ℕ → Bool
@@ -21,4 +24,4 @@ plainText s = within 0x300 (codePoints s)
 
 -- "not empty, no leading `/`"
 unfoldable pub pathAllowed : List ℕ → Bool
-pathAllowed s = pathSized (length s) && (not (eqb (getD s 0 0) 0x2F) && plainText s)
+pathAllowed s = leb pathLeast (length s) && (leb (length s) pathMost && (not (eqb (getD s 0 0) 0x2F) && plainText s))

@@ -4,24 +4,19 @@ ghost use Prim.Native.Nat.{_<_};
 ghost use lib.ListN.{length};
 ghost use Rattle.path.specs.Utf8.{twoBytes};
 ghost use Rattle.path.specs.Order.{below};
-ghost use Rattle.path.specs.Path.{pathSized, plainText, pathAllowed};
+ghost use Rattle.path.specs.Path.{plainText, pathAllowed};
 ghost use Rattle.path.specs.Parts.{Spans};
 
-// A path has at most so many bytes.
-const LONGEST: usize = 200;
+// How many bytes a path has. A reader judges its length by these before the bytes are there.
+pub const LEAST: u64 = 1;
+
+pub const MOST: u64 = 200;
 
 // Only code points below this one are allowed.
 const END: u32 = 0x300;
 
 // No code point at all: the last is U+10FFFF.
 const OUTSIDE: u32 = 0x110000;
-
-// Whether a path may have n bytes. A reader judges this before it has the bytes.
-pub fn sized(n: usize) -> bool
-    ensures { λ r. ⌜ r ≡ pathSized n ⌝ }
-{
-    1 <= n && n <= LONGEST
-}
 
 // The code point of two bytes.
 fn two_bytes(a: u8, b: u8) -> u32
@@ -83,7 +78,11 @@ fn plain(s: &[u8]) -> bool
 pub fn allowed(s: &[u8]) -> bool
     ensures { λ r. ⌜ r ≡ pathAllowed (now (s .entry)) ⌝ }
 {
-    if !sized(s.len()) {
+    let n = s.len() as u64;
+    if n < LEAST {
+        return false;
+    }
+    if MOST < n {
         return false;
     }
     if s[0] == b'/' {

@@ -18,7 +18,6 @@ use Rattle.varint.proofs.varint_no as varint-varint-no
 use Rattle.mark.proofs.mark_no as mark-mark-no
 use Rattle.mark.proofs.read as mark-read
 use Rattle.mark.proofs.lay as mark-lay
-use Rattle.path.proofs.sized as path-sized
 use Rattle.path.proofs.allowed as path-allowed
 use Rattle.path.proofs.ascends as path-ascends
 use Rattle.text.proofs.base64_read as text-base64-read
@@ -68,9 +67,6 @@ mark-read-once κs args x y u v p q = (mark.told-injective x y (p ∙ sym q), re
 
 pub mark-lay-once : Once mark-lay.Kinds.ps mark-lay.Kinds.r mark-lay.Reads.Learnt
 mark-lay-once κs args x y u v p q = (refl, past (here (p ∙ sym q)))
-
-pub path-sized-once : Once path-sized.Kinds.ps path-sized.Kinds.r path-sized.Reads.Learnt
-path-sized-once κs args x y u v p q = (p ∙ sym q, refl)
 
 pub path-allowed-once : Once path-allowed.Kinds.ps path-allowed.Kinds.r path-allowed.Reads.Learnt
 path-allowed-once κs args x y u v p q = (p ∙ sym q, refl)
