@@ -6,7 +6,7 @@ use mathlib.Core.List.{List, [], _∷_, _++_, append-assoc, append-nil}
 use Prim.Native.Nat.{ℕ, _+_, _≤_, _<_}
 use native.Mathlib.Numerals.{add-one}
 use native.Mathlib.Omega.{arith}
-use borrow.Author.Tests.{eq-eqb, ne-eqb, le-leb, lt-leb, lt-ltb, le-ltb}
+use borrow.Author.Tests.{eq-eqb, ne-eqb, le-leb, lt-ltb, le-ltb}
 use lib.Dec.{eqb}
 use lib.ListN.{length, take, length-append}
 use lib.Seq.{take-length, length-take-le, take-suc-set}
@@ -28,10 +28,10 @@ abbrev pub stage : At → ℕ × List ℕ
 stage s = (s .phase, s .collection)
 
 -- a session whose line buffer holds exactly the line l
-abbrev holding : ℕ × List ℕ → List ℕ → At
+abbrev pub holding : ℕ × List ℕ → List ℕ → At
 holding g l = record { phase = g .0; len = length l; line = l; collection = g .1 }
 
-holding-line : (g : ℕ × List ℕ) (l : List ℕ) → lineOf (holding g l) ≡ l
+pub holding-line : (g : ℕ × List ℕ) (l : List ℕ) → lineOf (holding g l) ≡ l
 unfolding lineOf
 holding-line g l = rw (le-leb (length l) (length l) (omega arith), take-length l)
 

@@ -1,6 +1,6 @@
 -- One line: a scan, or the document id. Assumes nothing.
 use Prim.Native.Nat.{ℕ, _-_, _*_, _/_, _%_, _^_, _≤_, _<_}
-use mathlib.Core.Path.{_≡_, sym, ap, _∙_}
+use mathlib.Core.Path.{_≡_, sym, ap, _∙_, subst}
 use mathlib.Core.Logic.{_⊎_, ⊎-elim}
 use mathlib.Core.Bool.{_&&_}
 use mathlib.Core.List.{List}
@@ -9,11 +9,11 @@ use native.Mathlib.Omega.{arith}
 use borrow.Author.Tests.{le-leb, lt-leb}
 use lib.Dec.{eqb}
 use lib.ListN.{length, take}
-use Rattle.wire.specs.Number.{number}
+use Rattle.wire.specs.Number.{digits, number, Bytes}
 use Rattle.wire.specs.Writing.{Verdict, bytes, fault, Written}
 use Rattle.wire.specs.declared.Wrote.{Wrote}
 use Rattle.wire.specs.declared.Wrote.the-variants.{Done, Refused}
-use Rattle.wire.proofs.Digits.{length-digits}
+use Rattle.wire.proofs.Digits.{length-digits, digits-small}
 use Rattle.wire.proofs.Overs.{over-all, read-over}
 use Rattle.wire.proofs.Writes.{passed, escaped, bytes-injective, done-stood, refused-why}
 use Rattle.text.specs.Text.{base64, values, below, readValues, readText, leftover}
@@ -23,17 +23,21 @@ use Rattle.scan.specs.Id.{allHex, eightOf, idVerdict}
 use Rattle.scan.specs.Session.{offered, scanned}
 use Rattle.scan.proofs.Hex.{length-eight}
 
--- a base64 text has more characters than bytes
-pub text-short : (line bs : List ℕ) → readText base64 line ≡ bytes bs → length bs ≤ length line
+-- what a text says, where it reads: digits of base 256, no more of them than it has characters
+text-digits : (line bs : List ℕ) → readText base64 line ≡ bytes bs → (k : ℕ) × (n : ℕ) × (k ≤ length line) × (digits 256 k n ≡ bs)
 unfolding readText readValues base64
-text-short line bs h =
+text-digits line bs h =
     let vs : List ℕ = values base64 line in
     let p = passed (below 64 vs) _ 1 h in
     let q = escaped (eqb (length vs % 4) 1) _ 2 (p .1) in
     let r = passed (eqb (number 64 vs % 2 ^ leftover base64 (length vs)) 0) _ 2 (q .1) in
-    let e = bytes-injective (r .1) in
-    let l = length-digits 256 (6 * length vs / 8) (number 64 vs / 2 ^ leftover base64 (length vs)) in
-    omega (arith, ap length e, l, length-values base64 line)
+    (6 * length vs / 8, number 64 vs / 2 ^ leftover base64 (length vs), omega (arith, length-values base64 line), bytes-injective (r .1))
+
+pub text-short : (line bs : List ℕ) → readText base64 line ≡ bytes bs → length bs ≤ length line
+text-short line bs h = let (k, n, l, e) = text-digits line bs h in omega (arith, ap length e, length-digits 256 k n)
+
+pub text-bytes : (line bs : List ℕ) → readText base64 line ≡ bytes bs → Bytes bs
+text-bytes line bs h = let (k, n, l, e) = text-digits line bs h in subst Bytes e (digits-small 256 k n (omega arith))
 
 -- a refusal, with room for all, is the verdict's own
 module _ (v : Verdict) (x y : List ℕ) (room : (bs : List ℕ) → v ≡ bytes bs → length bs ≤ length x) where

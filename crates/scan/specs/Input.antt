@@ -1,6 +1,6 @@
 -- The whole input of the small program, and what it prints for it: document 01, "What crosses the pier". Session.antt says the same byte
 -- by byte, as the code goes; proofs/Inputs.antt shows that the two agree.
-use mathlib.Core.List.{List, [], _∷_, _++_}
+use mathlib.Core.List.{List, [], _∷_}
 use Prim.Native.Nat.{ℕ}
 use lib.Dec.{eqb, leb}
 use lib.ListN.{length}
@@ -10,7 +10,7 @@ use Rattle.text.specs.Text.{base64, readText}
 use Rattle.collection.specs.Built.{opened, bytesOf, offeredAll}
 use Rattle.status.specs.Line.{statusLine, refusedLine}
 use Rattle.scan.specs.Id.{idVerdict}
-use Rattle.scan.specs.Session.{At}
+use Rattle.scan.specs.Session.{At, fed, closed}
 
 -- ---- lines
 
@@ -27,7 +27,7 @@ lines (b ∷ bs) = choose (eqb b 10) ([] ∷ lines bs) (inFront b (lines bs))
 
 -- ---- the document, and the scans
 
--- "the first line is the document id": no line at all is refused as a line that is no id
+-- the first line names the document. Where there is no line, that is as a line that is no id
 abbrev pub firstId : List (List ℕ) → Verdict
 firstId [] = fault 19
 firstId (l ∷ ls) = idVerdict l
@@ -36,19 +36,17 @@ abbrev pub further : List (List ℕ) → List (List ℕ)
 further [] = []
 further (l ∷ ls) = ls
 
--- the raw frame of a text that reads, else none
-abbrev pub frames : Verdict → List (List ℕ)
-frames (bytes raw) = raw ∷ []
-frames (fault e) = []
+-- a text that reads says a raw frame, which goes in front of those of the later lines
+abbrev pub withScan : Verdict → List (List ℕ) → List (List ℕ)
+withScan (bytes raw) raws = raw ∷ raws
+withScan (fault e) raws = raws
 
--- "each further line is one base64 scan. Bad scans, and lines above 1,024 bytes, are passed over"
-unfoldable pub scanIn : List ℕ → List (List ℕ)
-scanIn line = choose (leb (length line) 1024) (frames (readText base64 line)) []
-
+-- the raw frames that lines say, in their order: a line of more than 1,024 bytes, and one that is no base64 text, say none
 unfoldable pub scansIn : List (List ℕ) → List (List ℕ)
 scansIn [] = []
-scansIn (l ∷ ls) = scanIn l ++ scansIn ls
+scansIn (l ∷ ls) = choose (leb (length l) 1024) (withScan (readText base64 l) (scansIn ls)) (scansIn ls)
 
+-- of a whole input: the document, and the scans in all its further lines
 unfoldable pub documentOf : List ℕ → Verdict
 documentOf input = firstId (lines input)
 
@@ -57,10 +55,14 @@ scansOf input = scansIn (further (lines input))
 
 -- ---- what is printed
 
--- the status line of the document's collection with all scans offered to it, in a lent buffer c. What c held makes no difference
+-- the collection of the document id once all of raws were offered to it, in a lent buffer c. What c held before makes no difference
 -- (`prints-set` of proofs/Inputs.antt)
+abbrev pub collectionOf : List ℕ → List ℕ → List (List ℕ) → List ℕ
+collectionOf c id raws = bytesOf id (offeredAll raws (opened c))
+
+-- its status line, or `refused 19` where no document is named
 abbrev pub printedOf : List ℕ → Verdict → List (List ℕ) → List ℕ
-printedOf c (bytes id) raws = statusLine (bytesOf id (offeredAll raws (opened c)))
+printedOf c (bytes id) raws = statusLine (collectionOf c id raws)
 printedOf c (fault e) raws = refusedLine 19
 
 unfoldable pub printed : List ℕ → List ℕ → List ℕ
@@ -68,6 +70,10 @@ printed c input = printedOf c (documentOf input) (scansOf input)
 
 -- ---- the session that reads it
 
--- before the first byte
+-- before the first byte, with the buffers line and c lent to it
 abbrev pub new : List ℕ → List ℕ → At
 new line c = record { phase = 0; len = 0; line = line; collection = c }
+
+-- and at the end of the input
+abbrev pub session : List ℕ → List ℕ → List ℕ → At
+session line c input = closed (fed (new line c) input)
