@@ -34,29 +34,6 @@ unfolding fed
 fed-append s [] ys = refl
 fed-append s (x ∷ xs) ys = fed-append (next s x) xs ys
 
--- ---- the scans
-
-module _ (l : List ℕ) (ls : List (List ℕ)) where
-  with-bytes : AllBytes (scansIn ls) → AllBytes (scansIn (l ∷ ls))
-  unfolding scansIn
-  with-bytes y = go (leb (length l) 1024) (readText base64 l) refl
-    where
-      go : (t : Bool) (v : Verdict) → readText base64 l ≡ v → AllBytes (choose t (withScan v (scansIn ls)) (scansIn ls))
-      go true (bytes bs) e raw (inl q) = rw q (text-bytes l bs e)
-      go true (bytes bs) e raw (inr a) = y raw a
-      go true (fault n) e raw a = y raw a
-      go false v e raw a = y raw a
-
-scans-bytes : (ls : List (List ℕ)) → AllBytes (scansIn ls)
-unfolding scansIn
-scans-bytes [] = λ raw a. absurd a
-scans-bytes (l ∷ ls) = with-bytes l ls (scans-bytes ls)
-
--- the scans of any input are bytes
-pub all-bytes : (input : List ℕ) → AllBytes (scansOf input)
-unfolding scansOf
-all-bytes input = scans-bytes (further (lines input))
-
 -- ---- what lines do, in each phase
 
 -- a line of a session that collects is passed over, or its scan is offered
@@ -138,6 +115,25 @@ module _ (line c : List ℕ) (room : 1025 ≤ length line) (input : List ℕ) wh
       go (fault n) e = let f = session-refused n e in rw (ne-eqb (session line c input .phase) 1 (f .0))
 
 -- ---- the same, of the SET of good pages among the scans
+
+with-bytes : (t : Bool) (l : List ℕ) (raws : List (List ℕ)) → AllBytes raws → AllBytes (choose t (withScan (readText base64 l) raws) raws)
+with-bytes false l raws y = y
+with-bytes true l raws y = go (readText base64 l) refl
+  where
+    go : (v : Verdict) → readText base64 l ≡ v → AllBytes (withScan v raws)
+    go (bytes bs) e raw (inl q) = rw q (text-bytes l bs e)
+    go (bytes bs) e raw (inr a) = y raw a
+    go (fault n) e raw a = y raw a
+
+scans-bytes : (ls : List (List ℕ)) → AllBytes (scansIn ls)
+unfolding scansIn
+scans-bytes [] = λ raw a. absurd a
+scans-bytes (l ∷ ls) = with-bytes (leb (length l) 1024) l (scansIn ls) (scans-bytes ls)
+
+-- the scans of any input are bytes
+pub all-bytes : (input : List ℕ) → AllBytes (scansOf input)
+unfolding scansOf
+all-bytes input = scans-bytes (further (lines input))
 
 -- the id of a document has 8 bytes
 pub document-eight : (input id : List ℕ) → documentOf input ≡ bytes id → length id ≡ 8
