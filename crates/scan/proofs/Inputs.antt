@@ -12,6 +12,7 @@ use Rattle.wire.specs.Answer.{choose}
 use Rattle.wire.specs.Writing.{Verdict, bytes, fault}
 use Rattle.text.specs.Text.{base64, readText}
 use Rattle.state.specs.State.{Book}
+use Rattle.state.specs.Take.{Page}
 use Rattle.state.specs.Meaning.{BookIs}
 use Rattle.state.proofs.Sets.{book-one}
 use Rattle.state.proofs.Valid.{Valid, book-valid}
@@ -153,10 +154,15 @@ module _ (id : List ℕ) (eight : length id ≡ 8) (c : List ℕ) (size : length
       let f = valid-fits b v in
       rw (list-saved id eight c raws size y b m) (encode-ok id eight b v, encode-id id eight b f, rw (encode-read id eight b f) m)
 
--- what is printed depends on nothing else: whatever was in the lent buffer, and in whatever order and number the scans came
+-- its status line is that of any collection that says the same set
+pub status-says : (S : Page → Type 0) (x : List ℕ) → okBook x ≡ true → BookIs S (readBook x) → (b : Book) → BookIs S b → statusLine x ≡ bookLine b
+unfolding statusLine
+status-says S x ok m b w = rw ok (ap bookLine (book-one S (readBook x) b m w))
+
+-- so what is printed depends on nothing else: whatever was in the lent buffer, and in whatever order and number the scans came
 pub prints-set : (c input id : List ℕ) → length c ≡ 49664 → documentOf input ≡ bytes id → (b : Book) → BookIs (PageAmong id (scansOf input)) b
     → printed c input ≡ bookLine b
-unfolding printed statusLine
+unfolding printed
 prints-set c input id size e b m =
-    let s = list-says id (document-eight input id e) c size (scansOf input) (all-bytes input) in
-    rw (e, s .0) (ap bookLine (book-one (PageAmong id (scansOf input)) _ b (s .2) m))
+    let (ok, i, says) = list-says id (document-eight input id e) c size (scansOf input) (all-bytes input) in
+    rw e (status-says (PageAmong id (scansOf input)) (collectionOf c id (scansOf input)) ok says b m)

@@ -16,16 +16,14 @@ use Rattle.state.specs.State.{Book}
 use Rattle.state.specs.Meaning.{BookIs}
 use Rattle.state.specs.Finish.{Finish, whole, lacking, finishBook}
 use Rattle.state.specs.Complete.{Complete}
-use Rattle.state.proofs.Sets.{book-one}
 use Rattle.state.proofs.Valid.{Valid}
 use Rattle.state.proofs.Finished.{finish-whole}
-use Rattle.book.specs.Read.{idOf, readBook, okBook}
+use Rattle.book.specs.Read.{idOf, okBook}
 use Rattle.collection.specs.Collection.{leaves, refuses, bytesAfter}
 use Rattle.collection.specs.Built.{PageAmong, AllBytes}
-use Rattle.status.specs.Line.{statusLine, bookLine}
 use Rattle.scan.specs.Session.{fed}
 use Rattle.scan.specs.Input.{documentOf, scansOf, collectionOf, new, session}
-use Rattle.scan.proofs.Inputs.{session-collects, session-refused, all-bytes, document-eight, list-says}
+use Rattle.scan.proofs.Inputs.{session-collects, session-refused, all-bytes, document-eight, list-says, status-says}
 use Rattle.scan.proofs.Sound.{Sound, sound-new, fed-sound, closed-sound}
 use Rattle.shelf.specs.Shelf.{resuming, refusedAt, ending, answered}
 use Rattle.shelf.specs.Pantry.{printedAlone, takenUp, printedWith, fileAfter, Prints}
@@ -68,17 +66,13 @@ module _ (id : List ℕ) (eight : length id ≡ 8) (c : List ℕ) (size : length
       rw i at (ending-17 (PageAmong id raws) (collectionOf c id raws) ok m)
 
   pub scans-print : Prints id (PageAmong id raws) (answered 1 (collectionOf c id raws))
-  unfolding statusLine
   scans-print =
       let (ok, i, m) = list-says id eight c size raws y in
       record {
         ciphertext = λ d w e. prints-data (PageAmong id raws) (collectionOf c id raws) ok m d w (e ∙ sym i);
         stranger = λ d w n. prints-17 (PageAmong id raws) (collectionOf c id raws) ok m d w (λ e. n (e ∙ i));
-        status = λ n b w. prints-status (PageAmong id raws) (collectionOf c id raws) ok m n ∙ line b ok (book-one (PageAmong id raws) _ b m w);
+        status = λ n b w. prints-status (PageAmong id raws) (collectionOf c id raws) ok m n ∙ status-says (PageAmong id raws) (collectionOf c id raws) ok m b w;
       }
-    where
-      line : (b : Book) → okBook (collectionOf c id raws) ≡ true → readBook (collectionOf c id raws) ≡ b → statusLine (collectionOf c id raws) ≡ bookLine b
-      line b ok e = rw (ok, e)
 
 -- ---- an input that names a document
 
