@@ -1,3 +1,7 @@
 pub mod Hex
 pub mod Scans
 pub mod Sessions
+pub mod Sound
+pub mod Lines
+pub mod Reading
+pub mod Inputs

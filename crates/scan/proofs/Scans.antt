@@ -1,5 +1,5 @@
 -- One line: a scan, or the document id. Assumes nothing.
-use Prim.Native.Nat.{ℕ, _-_, _*_, _/_, _%_, _^_, _≤_, _<_}
+use Prim.Native.Nat.{ℕ, _-_, _≤_, _<_}
 use mathlib.Core.Path.{_≡_, sym, ap, _∙_}
 use mathlib.Core.Logic.{_⊎_, ⊎-elim}
 use mathlib.Core.Bool.{_&&_}
@@ -9,32 +9,19 @@ use native.Mathlib.Omega.{arith}
 use borrow.Author.Tests.{le-leb, lt-leb}
 use lib.Dec.{eqb}
 use lib.ListN.{length, take}
-use Rattle.wire.specs.Number.{number}
+use Rattle.wire.specs.Answer.{Answer}
 use Rattle.wire.specs.Writing.{Verdict, bytes, fault, Written}
 use Rattle.wire.specs.declared.Wrote.{Wrote}
 use Rattle.wire.specs.declared.Wrote.the-variants.{Done, Refused}
-use Rattle.wire.proofs.Digits.{length-digits}
 use Rattle.wire.proofs.Overs.{over-all, read-over}
-use Rattle.wire.proofs.Writes.{passed, escaped, bytes-injective, done-stood, refused-why}
-use Rattle.text.specs.Text.{base64, values, below, readValues, readText, leftover}
-use Rattle.text.proofs.Characters.{length-values}
-use Rattle.wire.specs.Answer.{Answer}
+use Rattle.wire.proofs.Writes.{passed, bytes-injective, done-stood, refused-why}
+use Rattle.text.specs.Text.{base64, readText}
+use Rattle.text.proofs.Forms.{base64-lawful}
+use Rattle.text.proofs.Round.{text-short}
 use Rattle.collection.specs.Collection.{bytesAfter, offering, Kept}
 use Rattle.scan.specs.Id.{allHex, eightOf, idVerdict}
 use Rattle.scan.specs.Session.{offered, scanned}
 use Rattle.scan.proofs.Hex.{length-eight}
-
--- a base64 text has more characters than bytes
-pub text-short : (line bs : List ℕ) → readText base64 line ≡ bytes bs → length bs ≤ length line
-unfolding readText readValues base64
-text-short line bs h =
-    let vs : List ℕ = values base64 line in
-    let p = passed (below 64 vs) _ 1 h in
-    let q = escaped (eqb (length vs % 4) 1) _ 2 (p .1) in
-    let r = passed (eqb (number 64 vs % 2 ^ leftover base64 (length vs)) 0) _ 2 (q .1) in
-    let e = bytes-injective (r .1) in
-    let l = length-digits 256 (6 * length vs / 8) (number 64 vs / 2 ^ leftover base64 (length vs)) in
-    omega (arith, ap length e, l, length-values base64 line)
 
 -- a refusal, with room for all, is the verdict's own
 module _ (v : Verdict) (x y : List ℕ) (room : (bs : List ℕ) → v ≡ bytes bs → length bs ≤ length x) where
@@ -59,7 +46,7 @@ module _ (line c : List ℕ) where
 
     pub scan-bad : (e : ℕ) → r ≡ Refused e → c ≡ scanned c line
     scan-bad e h =
-        let f = own-fault (readText base64 line) x y (λ bs q. omega (arith, text-short line bs q)) r e w h in
+        let f = own-fault (readText base64 line) x y (λ bs q. omega (arith, text-short base64 base64-lawful line bs q)) r e w h in
         sym (judged ∙ ap (offered c) f)
 
     pub scan-good : (n : ℕ) → r ≡ Done n → (raw : List ℕ) → raw ≡ take (n - 0) y → (a : Answer ℕ) (z : List ℕ) → Kept (offering c raw) c z a → z ≡ scanned c line

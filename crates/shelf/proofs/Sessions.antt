@@ -1,126 +1,31 @@
--- The collection of a session is well formed once it collects, whatever its input was: so 13, where a session takes up what was saved, is
--- said of the saved bytes, and 12 of their document. Assumes nothing.
-use mathlib.Core.Path.{_≡_, refl, _∙_, subst}
-use mathlib.Core.Bool.{Bool, true, false}
-use mathlib.Core.List.{List, [], _∷_}
-use Prim.Native.Nat.{ℕ, _*_, _/_, _%_, _^_}
-use native.Mathlib.Omega.{arith}
-use borrow.Author.Tests.{eqb-true}
-use lib.Dec.{eqb, leb}
-use lib.ListN.{length}
-use Rattle.wire.specs.Answer.{choose, done, failed}
-use Rattle.wire.specs.Number.{number, Bytes}
-use Rattle.wire.specs.Writing.{Verdict, bytes, fault}
-use Rattle.wire.proofs.Digits.{digits-small}
-use Rattle.wire.proofs.Writes.{passed, escaped, bytes-injective}
-use Rattle.lend.specs.Same.{same}
-use Rattle.text.specs.Text.{base64, values, below, readValues, readText, leftover}
-use Rattle.book.specs.Read.{idOf, okBook}
-use Rattle.book.proofs.Decode.{ok-size}
-use Rattle.collection.specs.Collection.{joining, answerOf}
-use Rattle.collection.proofs.Keeps.{open-makes, offer-keeps}
-use Rattle.scan.specs.Id.{idVerdict}
-use Rattle.scan.specs.Session.{offered, scanned, At, lineOf, started, ended, longer, next, fed, closed}
-use Rattle.scan.proofs.Scans.{id-eight}
+-- What a session that collects does with what was saved. Its collection is well formed whatever its input was (scan, Sound), so 13 is said
+-- of the saved bytes, and 12 of their document. Assumes nothing.
+use mathlib.Core.Path.{_≡_}
+use mathlib.Core.Bool.{true, false}
+use mathlib.Core.List.{List}
+use Prim.Native.Nat.{ℕ}
+use Rattle.lend.proofs.Sames.{same-refl, same-ne}
+use Rattle.state.specs.Take.{joinBook}
+use Rattle.book.specs.Encode.{encode}
+use Rattle.book.specs.Read.{idOf, readBook, okBook}
+use Rattle.collection.specs.Collection.{leaves, refuses, joining}
+use Rattle.scan.specs.Session.{At}
+use Rattle.scan.proofs.Sound.{Sound}
 use Rattle.shelf.specs.Shelf.{resuming}
 
--- what a text says is bytes
-text-bytes : (line bs : List ℕ) → readText base64 line ≡ bytes bs → Bytes bs
-unfolding readText readValues base64
-text-bytes line bs h =
-    let vs : List ℕ = values base64 line in
-    let p = passed (below 64 vs) _ 1 h in
-    let q = escaped (eqb (length vs % 4) 1) _ 2 (p .1) in
-    let r = passed (eqb (number 64 vs % 2 ^ leftover base64 (length vs)) 0) _ 2 (q .1) in
-    subst Bytes (bytes-injective (r .1)) (digits-small 256 (6 * length vs / 8) (number 64 vs / 2 ^ leftover base64 (length vs)) (omega arith))
-
--- a scan keeps a collection well formed
-scanned-ok : (c line : List ℕ) → okBook c ≡ true → okBook (scanned c line) ≡ true
-unfolding scanned
-scanned-ok c line ok = go (leb (length line) 1024)
-  where
-    taken : (v : Verdict) → readText base64 line ≡ v → okBook (offered c v) ≡ true
-    taken (bytes raw) e = offer-keeps (idOf c) c (ok, refl) raw (text-bytes line raw e) .0
-    taken (fault f) e = ok
-
-    go : (t : Bool) → okBook (choose t (offered c (readText base64 line)) c) ≡ true
-    go true = taken (readText base64 line) refl
-    go false = ok
-
--- the buffer has a collection's size, and once the session collects, it is one
-pub record Sound (s : At) : Type 0 where
-  pub size : length (s .collection) ≡ 49664
-  pub good : s .phase ≡ 1 → okBook (s .collection) ≡ true
-
--- before the first line has ended nothing is asked of the buffer but its size
-pub sound-new : (s : At) → s .phase ≡ 0 → length (s .collection) ≡ 49664 → Sound s
-sound-new s p l = record { size = l; good = λ q. absurd (omega (arith, p, q)) }
-
-started-sound : (s : At) (v : Verdict) → ((id : List ℕ) → v ≡ bytes id → length id ≡ 8) → length (s .collection) ≡ 49664 → Sound (started s v)
-started-sound s (bytes id) eight l =
-    let o = open-makes id (s .collection) (eight id refl) l in
-    record { size = ok-size _ (o .0); good = λ q. o .0 }
-started-sound s (fault e) eight l = record { size = l; good = λ q. absurd (omega (arith, q)) }
-
-ended-sound : (s : At) → Sound s → Sound (ended s)
-unfolding ended
-ended-sound s f = go (eqb (s .phase) 0) (eqb (s .phase) 1) refl
-  where
-    go : (t u : Bool) → eqb (s .phase) 1 ≡ u
-        → Sound
-        (choose t (started s (idVerdict (lineOf s)))
-        (choose u (record { phase = 1; len = 0; line = s .line; collection = scanned (s .collection) (lineOf s) })
-        (record { phase = s .phase; len = 0; line = s .line; collection = s .collection })))
-    go true u e = started-sound s (idVerdict (lineOf s)) (id-eight (lineOf s)) (f .size)
-    go false true e =
-        let ok = scanned-ok (s .collection) (lineOf s) (f .good (eqb-true (s .phase) 1 e)) in
-        record { size = ok-size _ ok; good = λ q. ok }
-    go false false e = record { size = f .size; good = f .good }
-
-longer-sound : (s : At) (b : ℕ) → Sound s → Sound (longer s b)
-unfolding longer
-longer-sound s b f = record { size = f .size; good = f .good }
-
-next-sound : (s : At) (b : ℕ) → Sound s → Sound (next s b)
-unfolding next
-next-sound s b f = go (eqb b 10)
-  where
-    go : (t : Bool) → Sound (choose t (ended s) (longer s b))
-    go true = ended-sound s f
-    go false = longer-sound s b f
-
--- any input keeps it so, and so does its end
-pub fed-sound : (s : At) (input : List ℕ) → Sound s → Sound (fed s input)
-unfolding fed
-fed-sound s [] f = f
-fed-sound s (b ∷ bs) f = fed-sound (next s b) bs (next-sound s b f)
-
-pub closed-sound : (s : At) → Sound s → Sound (closed s)
-unfolding closed
-closed-sound s f = go (eqb (s .len) 0)
-  where
-    go : (t : Bool) → Sound (choose t s (ended s))
-    go true = f
-    go false = ended-sound s f
-
--- ---- what a session that collects answers to what was saved
-
 module _ (s : At) (f : Sound s) (collects : s .phase ≡ 1) (saved : List ℕ) where
-  judged : answerOf (resuming 1 (s .collection) saved) ≡ answerOf (joining (s .collection) saved)
-  unfolding resuming
-  judged = refl
-
   -- 13 is for saved bytes that are no collection
-  pub resume-13 : okBook saved ≡ false → answerOf (resuming 1 (s .collection) saved) ≡ failed 13
-  unfolding joining
-  resume-13 e = judged ∙ rw (f .good collects, e)
+  pub resume-13 : okBook saved ≡ false → resuming (s .phase) (s .collection) saved ≡ refuses 13
+  unfolding resuming joining
+  resume-13 e = rw (collects, f .good collects, e)
 
   -- and 12 for those of another document
-  pub resume-12 : okBook saved ≡ true → same (idOf (s .collection)) (idOf saved) ≡ false → answerOf (resuming 1 (s .collection) saved) ≡ failed 12
-  unfolding joining
-  resume-12 e i = judged ∙ rw (f .good collects, e, i)
+  pub resume-12 : okBook saved ≡ true → (idOf (s .collection) ≡ idOf saved → ⊥) → resuming (s .phase) (s .collection) saved ≡ refuses 12
+  unfolding resuming joining
+  resume-12 e n = rw (collects, f .good collects, e, same-ne (idOf (s .collection)) (idOf saved) n)
 
   -- else it is joined
-  pub resume-0 : okBook saved ≡ true → same (idOf (s .collection)) (idOf saved) ≡ true → answerOf (resuming 1 (s .collection) saved) ≡ done tt
-  unfolding joining
-  resume-0 e i = judged ∙ rw (f .good collects, e, i)
+  pub resume-0 : okBook saved ≡ true → idOf (s .collection) ≡ idOf saved
+      → resuming (s .phase) (s .collection) saved ≡ leaves (encode (idOf (s .collection)) (joinBook (readBook (s .collection)) (readBook saved))) tt
+  unfolding resuming joining
+  resume-0 e i = rw (collects, f .good collects, e, i, same-refl (idOf saved))

@@ -1,7 +1,7 @@
 -- What is written is read, and what is read was written. Assumes nothing.
 use Prim.Native.Nat.{ℕ, _+_, _*_, _/_, _%_, _^_, _≤_, _<_}
 use mathlib.Core.Path.{_≡_, refl, sym, ap, _∙_, subst}
-use mathlib.Core.Logic.{⊎-elim}
+use mathlib.Core.Logic.{_⊎_, inl, inr}
 use mathlib.Core.List.{List, map}
 use native.Mathlib.Nat.{add-zero, mul-mod-left}
 use native.Mathlib.Omega.{arith}
@@ -18,6 +18,11 @@ use Rattle.text.specs.Text.{Form, kept, value, values, below, leftover, 
 use Rattle.text.proofs.Forms.{Lawful}
 use Rattle.text.proofs.Counts.{pow-pow, width-bounds, filling-lt, filled, leftover-is, characters-is}
 use Rattle.text.proofs.Characters.{below-true, below-all, length-values, values-letters, letters-back}
+
+-- characters of 5 or 6 bits hold fewer bytes than they are
+bits-most : (w n m : ℕ) → (w ≡ 5) ⊎ (w ≡ 6) → n ≤ m → w * n / 8 ≤ m
+bits-most w n m (inl e) h = rw e (omega arith)
+bits-most w n m (inr e) h = rw e (omega arith)
 
 module _ (f : Form) (law : Lawful f) where
   -- ---- written, then read
@@ -108,9 +113,12 @@ module _ (f : Form) (law : Lawful f) where
       let p = passed (below (2 ^ f .width) vs) _ 1 h in
       let q = escaped (f .impossible (length vs)) _ 2 (p .1) in
       let r = passed (eqb (number (2 ^ f .width) vs % 2 ^ leftover f (length vs)) 0) _ 2 (q .1) in
-      let l = length-values f cs in
-      let short : f .width * length vs / 8 ≤ length cs = ⊎-elim (λ e. rw e (omega arith)) (λ e. rw e (omega arith)) (law .narrow) in
-      (f .width * length vs / 8, number (2 ^ f .width) vs / 2 ^ leftover f (length vs), short, bytes-injective (r .1))
+      (
+        f .width * length vs / 8,
+        number (2 ^ f .width) vs / 2 ^ leftover f (length vs),
+        bits-most (f .width) (length vs) (length cs) (law .narrow) (length-values f cs),
+        bytes-injective (r .1),
+      )
 
   pub text-short : (cs bs : List ℕ) → readText f cs ≡ bytes bs → length bs ≤ length cs
   text-short cs bs h = let (k, n, l, e) = text-digits cs bs h in omega (arith, ap length e, length-digits 256 k n)
