@@ -1,21 +1,15 @@
 -- What the second demand says of a format follows from its rules (what is written reads back, and what is read is written) and from what its reader's and its
--- writer's contracts say. Frames and both texts are such. Assumes nothing.
+-- writer's contracts say. Frames are such. Assumes nothing.
 use Prim.Native.Nat.{ℕ, _≤_}
-use mathlib.Core.Path.{_≡_, refl, sym, ap, _∙_, subst}
+use mathlib.Core.Path.{_≡_, refl, sym, ap, _∙_}
 use mathlib.Core.List.{List, []}
 use native.Mathlib.Omega.{arith}
 use lib.ListN.{length, take}
-use denote.Ref.{now}
 use Rattle.wire.specs.Answer.{Got, got, refused, Answer, done, failedAt}
 use Rattle.wire.specs.Over.{over}
-use Rattle.wire.specs.Writing.{Verdict, bytes, fault, told, Written}
-use Rattle.wire.specs.declared.Wrote.{Wrote}
-use Rattle.wire.specs.declared.Wrote.the-variants.{Done, Refused}
-use Rattle.wire.proofs.Overs.{over-all}
-use Rattle.wire.proofs.Writes.{bytes-injective, done-stood, refused-why}
-use Rattle.text.specs.Text.{Form, base64, zbase32, readText, textOf, kept}
-use Rattle.text.proofs.Forms.{Lawful, base64-lawful, zbase32-lawful}
-use Rattle.text.proofs.Round.{read-written, written-read}
+use Rattle.wire.specs.Writing.{bytes}
+use Rattle.wire.specs.declared.Wrote.the-variants.{Done}
+use Rattle.wire.proofs.Writes.{bytes-injective}
 use Rattle.frame.specs.Frame as F
 use Rattle.frame.specs.Layout.{layout}
 use Rattle.frame.specs.Allowed.{Allowed}
@@ -23,10 +17,8 @@ use Rattle.frame.proofs.ReadsBack.{reads-back}
 use Rattle.frame.proofs.OnlyLayouts.{only-layouts}
 use Rattle.envelope.specs.Placed.{Placed, fine, faulty, unplaced, said}
 use Rattle.frame.proofs.lay as frame-lay
-use Rattle.text.proofs.base64_write as text-base64-write
-use Rattle.text.proofs.zbase32_write as text-zbase32-write
 use Rattle.promises.specs.Calls.{Call}
-use Rattle.promises.specs.Formats.{Slice, Format, Exact, Frame, frameSays, frames, textRead, textSaid, texts, scans, typing}
+use Rattle.promises.specs.Formats.{Slice, Format, Exact, Frame, frameSays, frames}
 use Rattle.promises.proofs.Writers.{slice, Stands, stands-front, wrote-done, can-write}
 use Rattle.promises.proofs.FormatLinks as L
 

@@ -2,5 +2,17 @@ pub mod Writers
 pub mod Links
 pub mod FormatLinks
 pub mod Formats
+pub mod Texts
+pub mod Payloads
+pub mod Demand2
 pub mod Interfaces
 pub mod Demand3
+pub mod Examples
+pub mod Printed
+pub mod Lasts
+pub mod OnceBytes
+pub mod OnceItems
+pub mod OncePayloads
+pub mod OncePages
+pub mod OnceCollection
+pub mod OncePrograms

@@ -1,22 +1,32 @@
--- The payloads of document 01 are read and written exactly: the theorems of their crates, in the words of specs/Formats.antt. Assumes nothing.
-use Prim.Native.Nat.{ℕ, _-_, _≤_}
+-- The payloads of document 01 are read and written exactly: the theorems of their crates, and what their contracts say, in the words of specs/Formats.antt.
+-- Assumes nothing.
+use Prim.Native.Nat.{ℕ, _-_, _^_, _≤_, _<_}
 use mathlib.Core.Path.{_≡_, refl, sym, ap, _∙_, subst}
-use mathlib.Core.List.{List}
+use mathlib.Core.List.{List, []}
 use native.Mathlib.Omega.{arith}
 use native.Mathlib.Nat.{min-le-right}
 use borrow.Author.Tests.{eqb-true, eq-eqb, le-leb}
 use lib.Dec.{eqb, leb}
 use lib.ListN.{length, take, drop, length-take, length-drop}
-use Rattle.wire.specs.Writing.{bytes}
+use denote.Ref.{now}
+use Rattle.wire.specs.Answer.{Got, got, refused, done}
+use Rattle.wire.specs.Over.{over}
+use Rattle.wire.specs.Writing.{Verdict, bytes}
+use Rattle.wire.specs.declared.Wrote.the-variants.{Done}
 use Rattle.wire.proofs.Writes.{passed, bytes-injective}
 use Rattle.cover.specs.Cover.{Cover, coverOf}
-use Rattle.envelope.specs.Placed.{Placed, fine, faulty, on}
+use Rattle.envelope.specs.Placed.{Placed, fine, faulty, on, unplaced, said}
 use Rattle.envelope.specs.Envelope.{judged, envelopeAt, verdict}
-use Rattle.envelope.proofs.Rounds.{Accepted, envelope-back, envelope-only}
+use Rattle.envelope.specs.Answer.{wroteTold, EnvelopeWritten}
+use Rattle.envelope.specs.declared.EnvelopeWrote.{EnvelopeWrote}
+use Rattle.envelope.specs.declared.EnvelopeWrote.the-variants as W
+use Rattle.envelope.proofs.Answers.{wrote-injective}
+use Rattle.envelope.proofs.Rounds.{Accepted, envelope-back, envelope-only, done-stood}
 use Rattle.manifest.specs.Manifest.{Listing, manifestAt}
 use Rattle.manifest.specs.Answer.{answerFor, padded}
-use Rattle.manifest.specs.Writing.{Said, saidIn, saidOf, manifestOf, manifestVerdict, Typed}
+use Rattle.manifest.specs.Writing.{Said, saidIn, saidOf, listed, manifestOf, manifestVerdict, Typed}
 use Rattle.manifest.specs.declared.Manifest.{Manifest}
+use Rattle.manifest.specs.declared.ManifestRead.{ManifestRead}
 use Rattle.manifest.proofs.Rounds.{manifest-back, manifest-only, manifest-within, manifest-steps, listed-value}
 use Rattle.manifest.proofs.Answers.{padded-long}
 use Rattle.manifest.proofs.Parts.{created-only}
@@ -24,15 +34,37 @@ use Rattle.manifest.proofs.Lengths.{verdict-fit}
 use Rattle.auth.specs.Auth.{Claim, authAt, authOf, authVerdict}
 use Rattle.auth.proofs.Lengths.{auth-length}
 use Rattle.auth.proofs.Rounds.{auth-back, auth-only}
-use Rattle.shard.specs.Shard.{Shard, shardAt}
+use Rattle.shard.specs.Shard.{Shard, shardAt, shardVerdict}
 use Rattle.shard.proofs.Rounds.{shard-written-back, shard-again}
-use Rattle.promises.specs.Formats.{Slice, Exact, Enclosed, envelopes, manifests, Auth, auths, Share, shards}
-use Rattle.promises.proofs.Formats.{unplaced-got, got-unplaced, refuses}
+use Rattle.envelope.proofs.write as envelope-write
+use Rattle.manifest.proofs.write as manifest-write
+use Rattle.auth.proofs.write as auth-write
+use Rattle.shard.proofs.write as shard-write
+use Rattle.promises.specs.Calls.{Call}
+use Rattle.promises.specs.Formats.{Slice, Exact, Enclosed, envelopes, manifestTold, manifests, Auth, auths, Share, ShardArgs, shards}
+use Rattle.promises.proofs.Writers.{slice, Stands, wrote-done, can-write}
+use Rattle.promises.proofs.Formats.{unplaced-got, got-unplaced, Ruled, exact}
+use Rattle.promises.proofs.FormatLinks as L
 
 -- ---- the envelope
 
 fine-one : {A : Type 0} {x y : A} → fine x ≡ fine y → x ≡ y
 fine-one e = cc
+
+abbrev EnvelopeForm : Enclosed → List ℕ → Type 0
+EnvelopeForm v s = (length (v .payload) < 2 ^ 64) × (verdict (v .manifest) (v .payload) ≡ fine s)
+
+-- a call that answered 0 wrote what was meant
+enclosed-done : (v : Placed (List ℕ)) (out x : List ℕ) (n : ℕ) (r : EnvelopeWrote) → EnvelopeWritten v out x r → wroteTold r ≡ done n
+    → (s : List ℕ) × (v ≡ fine s) × Stands s out x n
+enclosed-done v out x n r w e =
+    let q : r ≡ W.Done n = wrote-injective r (W.Done n) e in
+    let t = done-stood v out x n (rw q at w) in
+    (t .what, t .meant, record { count = t .count; fits = omega (arith, t .fits, t .count); left = t .stands })
+
+-- and what fits can be written
+can-enclose : (v : Placed (List ℕ)) (s out : List ℕ) → v ≡ fine s → length s ≤ length out → EnvelopeWritten v out (over 0 s out) (W.Done (length s))
+can-enclose v s out e h = let t = le-leb (length s) (length out) h in record { answer = rw (e, t); output = rw (e, t) }
 
 -- what the writer takes is judged fine, and is laid out
 taken : (m p s : List ℕ) → verdict m p ≡ fine s → Accepted m p × (coverOf m p ≡ s)
@@ -43,7 +75,7 @@ taken m p s = go (judged m p)
     go (fine u) e = (refl, fine-one e)
     go (faulty n k) e = let z : _≡_ {A = ℕ} 0 1 = cc in absurd (omega arith)
 
-enclosed-back : (v : Enclosed) (s : List ℕ) → envelopes .Writes v s → (p : Cover) × (envelopeAt s ≡ fine p) × (envelopes .says s p ≡ v)
+enclosed-back : (v : Enclosed) (s : List ℕ) → EnvelopeForm v s → (p : Cover) × (envelopeAt s ≡ fine p) × (envelopes .says s p ≡ v)
 enclosed-back v s (l, e) =
     let t = taken (v .manifest) (v .payload) s e in
     let r = envelope-back (v .manifest) (v .payload) l (t .0) in
@@ -54,24 +86,44 @@ enclosed-back v s (l, e) =
 part-short : (k n : ℕ) (s : List ℕ) → length (take n (drop k s)) ≤ length s
 part-short k n s = omega (arith, length-take n (drop k s), length-drop k s, min-le-right n (length (drop k s)))
 
-enclosed-only : (s : List ℕ) (p : Cover) → Slice s → envelopeAt s ≡ fine p → envelopes .Writes (envelopes .says s p) s
+enclosed-only : (s : List ℕ) (p : Cover) → Slice s → envelopeAt s ≡ fine p → EnvelopeForm (envelopes .says s p) s
 enclosed-only s p y e = (omega (arith, y .1, part-short (p .payload) (p .payload-len) s), envelope-only s p (y .0) e .rewritten)
 
-pub envelopes-exact : Exact envelopes
-envelopes-exact = record {
+module _ (v : Enclosed) (s out : List ℕ) (e : verdict (v .manifest) (v .payload) ≡ fine s) (h : length s ≤ length out) where
+  abbrev enclosing : Call envelope-write.Kinds.ps envelope-write.Kinds.r envelope-write.Reads.Learnt
+  enclosing = record {
+    lifetimes = ([], ([], ([], tt)));
+    args = (slice (v .manifest), (slice (v .payload), (slice out, tt)));
+    answer = W.Done (length s);
+    left = (tt, (tt, (over 0 s out, tt)));
+    kept = can-enclose (verdict (v .manifest) (v .payload)) s out e h;
+  }
+
+envelopes-ruled : Ruled envelopes EnvelopeForm
+envelopes-ruled = record {
   back = enclosed-back;
   only = enclosed-only;
   form = λ v s t a b. fine-one (sym (a .1) ∙ b .1);
-  refused = refuses envelopes enclosed-only;
+  reads = λ s a (k, i, e). sym e ∙ L.envelope-read-link k ∙ ap (λ (x : List ℕ). said (envelopeAt x)) i;
+  writes = λ v out x n (l, (k, i, j, o, p, e)).
+      let t = enclosed-done (verdict (v .manifest) (v .payload)) out x n (k .answer) (rw (i, j, o, p) at (L.envelope-write-link k)) e in
+      (t .0, (l, t .1), t .2);
+  write = λ v s (l, e) out h. (l, (enclosing v s out e h, refl, refl, refl, refl, refl));
 }
+
+pub envelopes-exact : Exact envelopes
+envelopes-exact = exact envelopes EnvelopeForm envelopes-ruled
 
 -- ---- the manifest
 
-listed-back : (v : Said) (s : List ℕ) → manifests .Writes v s → (p : Listing) × (manifests .read s ≡ fine p) × (saidIn s p ≡ v)
+abbrev ManifestForm : Said → List ℕ → Type 0
+ManifestForm v s = (pool : List ℕ) × (m : Manifest) × Typed m × (saidIn pool (listed m) ≡ v) × (manifestVerdict pool m ≡ bytes s)
+
+listed-back : (v : Said) (s : List ℕ) → ManifestForm v s → (p : Listing) × (manifests .read s ≡ fine p) × (saidIn s p ≡ v)
 listed-back v s (pool, m, typed, said, e) = let r = manifest-back pool m typed e in (r .0, got-unplaced (r .1), r .2 ∙ said)
 
 -- the value that was read, with the input as its pool, is what is written
-listed-only : (s : List ℕ) (p : Listing) → Slice s → manifests .read s ≡ fine p → manifests .Writes (saidIn s p) s
+listed-only : (s : List ℕ) (p : Listing) → Slice s → manifests .read s ≡ fine p → ManifestForm (saidIn s p) s
 listed-only s p y e =
     let g = unplaced-got (manifestAt s) p e in
     let w = manifest-within s (g .1) in
@@ -83,17 +135,42 @@ listed-only s p y e =
     valueOf p = record { seed = p .seed; files = padded (p .files); count = length (p .files); sealed = p .sealed; created = p .created }
 
 -- what is written is the form of what the value says
-listed-form : (v : Said) (s : List ℕ) → manifests .Writes v s → saidOf v ≡ s
+listed-form : (v : Said) (s : List ℕ) → ManifestForm v s → saidOf v ≡ s
 unfolding manifestOf
 listed-form v s (pool, m, typed, said, e) = ap saidOf (sym said) ∙ sym (verdict-fit pool m e .1)
 
-pub manifests-exact : Exact manifests
-manifests-exact = record {
+-- the reader's answer says what was read
+listed-said : (g : Got Listing) → manifestTold (answerFor g .answer) (answerFor g .value) ≡ said (unplaced g)
+listed-said (got p next) = ap (done {A = Listing}) (listed-value p)
+listed-said (refused e) = refl
+
+module _ (pool : List ℕ) (m : Manifest) (s out : List ℕ) (e : manifestVerdict pool m ≡ bytes s) (h : length s ≤ length out) where
+  abbrev listing : Call manifest-write.Kinds.ps manifest-write.Kinds.r manifest-write.Reads.Learnt
+  listing = record {
+    lifetimes = ([], ([], tt));
+    args = (slice pool, (m, (slice out, tt)));
+    answer = Done (length s);
+    left = (tt, (tt, (over 0 s out, tt)));
+    kept = can-write (manifestVerdict pool m) s out e h;
+  }
+
+manifests-ruled : Ruled manifests ManifestForm
+manifests-ruled = record {
   back = listed-back;
   only = listed-only;
   form = λ v s t a b. sym (listed-form v s a) ∙ listed-form v t b;
-  refused = refuses manifests listed-only;
+  reads = λ s a (k, i, e).
+      sym e
+      ∙ ap (λ (r : ManifestRead). manifestTold (r .answer) (r .value)) (L.manifest-read-link k ∙ ap (λ (x : List ℕ). answerFor (manifestAt x)) i)
+      ∙ listed-said (manifestAt s);
+  writes = λ v out x n (k, t, i, o, p, e).
+      let u = wrote-done (manifestVerdict (now (k .args .0)) (k .args .1 .0)) out x n (k .answer) (rw (o, p) at (L.manifest-write-link k)) e in
+      (u .0, (now (k .args .0), k .args .1 .0, t, i, u .1), u .2);
+  write = λ v s (pool, m, t, i, e) out h. (listing pool m s out e h, t, i, refl, refl, refl);
 }
+
+pub manifests-exact : Exact manifests
+manifests-exact = exact manifests ManifestForm manifests-ruled
 
 -- ---- the auth payload
 
@@ -118,34 +195,105 @@ auth-takes public sig hash p g h =
       le-leb (length (authOf public sig hash)) 480 (omega (arith, auth-length public sig hash p g h)),
     )
 
-signed-back : (v : Auth) (s : List ℕ) → auths .Writes v s → (p : Claim) × (auths .read s ≡ fine p) × (auths .says s p ≡ v)
+abbrev AuthForm : Auth → List ℕ → Type 0
+AuthForm v s = authVerdict (v .public) (v .sig) (v .hash) ≡ bytes s
+
+signed-back : (v : Auth) (s : List ℕ) → AuthForm v s → (p : Claim) × (auths .read s ≡ fine p) × (auths .says s p ≡ v)
 signed-back v s e =
     let t = auth-taken (v .public) (v .sig) (v .hash) s e in
     let r = auth-back (v .public) (v .sig) (v .hash) (t .0) (t .1) (t .2) in
     subst (λ (x : List ℕ). (p : Claim) × (auths .read x ≡ fine p) × (auths .says x p ≡ v)) (t .3)
     (r .0, got-unplaced (r .1), rw (r .2 .public-is, r .2 .sig-is, r .2 .hash-is))
 
-signed-only : (s : List ℕ) (p : Claim) → Slice s → auths .read s ≡ fine p → auths .Writes (auths .says s p) s
+signed-only : (s : List ℕ) (p : Claim) → Slice s → auths .read s ≡ fine p → AuthForm (auths .says s p) s
 signed-only s p y e =
     let g = unplaced-got (authAt s) p e in
     let r = auth-only (y .0) (g .1) in
     let l = r .2 in
     auth-takes (take 32 (drop (p .public) s)) (take 64 (drop (p .sig) s)) (take 32 (drop (p .hash) s)) (l .public-long) (l .sig-long) (l .hash-long) ∙ ap bytes (sym (r .0))
 
+module _ (v : Auth) (s out : List ℕ) (e : AuthForm v s) (h : length s ≤ length out) where
+  abbrev signing : Call auth-write.Kinds.ps auth-write.Kinds.r auth-write.Reads.Learnt
+  signing = record {
+    lifetimes = ([], ([], ([], ([], tt))));
+    args = (slice (v .public), (slice (v .sig), (slice (v .hash), (slice out, tt))));
+    answer = Done (length s);
+    left = (tt, (tt, (tt, (over 0 s out, tt))));
+    kept = can-write (authVerdict (v .public) (v .sig) (v .hash)) s out e h;
+  }
+
+auths-ruled : Ruled auths AuthForm
+auths-ruled = record {
+  back = signed-back;
+  only = signed-only;
+  form = λ v s t a b. bytes-injective (sym a ∙ b);
+  reads = λ s a (k, i, e). sym e ∙ ap (λ (g : Got Claim). said (unplaced g)) (L.auth-read-link k ∙ ap authAt i);
+  writes = λ v out x n (k, i, j, g, o, p, e).
+      wrote-done (authVerdict (v .public) (v .sig) (v .hash)) out x n (k .answer) (rw (i, j, g, o, p) at (L.auth-write-link k)) e;
+  write = λ v s e out h. (signing v s out e h, refl, refl, refl, refl, refl, refl);
+}
+
 pub auths-exact : Exact auths
-auths-exact = record { back = signed-back; only = signed-only; form = λ v s t a b. bytes-injective (sym a ∙ b); refused = refuses auths signed-only }
+auths-exact = exact auths AuthForm auths-ruled
 
 -- ---- the shard payload
 
-share-back : (v : Share) (s : List ℕ) → shards .Writes v s → (p : Shard) × (shards .read s ≡ fine p) × (shards .says s p ≡ v)
+abbrev verdictOf : Share → Verdict
+verdictOf v = shardVerdict (v .signed .public) (v .signed .sig) (v .signed .hash) (v .kind) (v .share) (v .len) (v .quorum)
+
+abbrev ShardForm : Share → List ℕ → Type 0
+ShardForm v s = verdictOf v ≡ bytes s
+
+share-back : (v : Share) (s : List ℕ) → ShardForm v s → (p : Shard) × (shards .read s ≡ fine p) × (shards .says s p ≡ v)
 share-back v s e =
     let r = shard-written-back (v .signed .public) (v .signed .sig) (v .signed .hash) (v .kind) (v .share) (v .len) (v .quorum) e in
     let c = r .2 .claim-is in
     let d = r .2 .content-is in
     (r .0, got-unplaced (r .1), rw (c .public-is, c .sig-is, c .hash-is, d .kind-is, d .share-is, d .length-is, r .2 .quorum-is))
 
-share-only : (s : List ℕ) (p : Shard) → Slice s → shards .read s ≡ fine p → shards .Writes (shards .says s p) s
+share-only : (s : List ℕ) (p : Shard) → Slice s → shards .read s ≡ fine p → ShardForm (shards .says s p) s
 share-only s p y e = let g = unplaced-got (shardAt s) p e in shard-again (y .0) (g .1)
 
+module _ (v : Share) (s out : List ℕ) (e : ShardForm v s) (h : length s ≤ length out) where
+  abbrev sharing : Call shard-write.Kinds.ps shard-write.Kinds.r shard-write.Reads.Learnt
+  sharing = record {
+    lifetimes = ([], ([], ([], ([], ([], ([], tt))))));
+    args = (
+      slice (v .signed .public),
+      (
+        slice (v .signed .sig),
+        (slice (v .signed .hash), (slice (v .kind), (slice (v .share), (v .len, (v .quorum .threshold, (v .quorum .count, (v .quorum .index, (slice out, tt)))))))),
+      ),
+    );
+    answer = Done (length s);
+    left = (tt, (tt, (tt, (tt, (tt, (tt, (tt, (tt, (tt, (over 0 s out, tt))))))))));
+    kept = can-write (verdictOf v) s out e h;
+  }
+
+  same-args : ShardArgs v (v .signed .public) (v .signed .sig) (v .signed .hash) (v .kind) (v .share) (v .len) (v .quorum .threshold) (v .quorum .count) (v .quorum .index)
+  same-args = record {
+    public-is = refl;
+    sig-is = refl;
+    hash-is = refl;
+    kind-is = refl;
+    share-is = refl;
+    len-is = refl;
+    threshold-is = refl;
+    count-is = refl;
+    index-is = refl;
+  }
+
+shards-ruled : Ruled shards ShardForm
+shards-ruled = record {
+  back = share-back;
+  only = share-only;
+  form = λ v s t a b. bytes-injective (sym a ∙ b);
+  reads = λ s a (k, i, e). sym e ∙ ap (λ (g : Got Shard). said (unplaced g)) (L.shard-read-link k ∙ ap shardAt i);
+  writes = λ v out x n (k, g, o, p, e).
+      wrote-done (verdictOf v) out x n (k .answer)
+      (rw (g .public-is, g .sig-is, g .hash-is, g .kind-is, g .share-is, g .len-is, g .threshold-is, g .count-is, g .index-is, o, p) at (L.shard-write-link k)) e;
+  write = λ v s e out h. (sharing v s out e h, same-args v s out e h, refl, refl, refl);
+}
+
 pub shards-exact : Exact shards
-shards-exact = record { back = share-back; only = share-only; form = λ v s t a b. bytes-injective (sym a ∙ b); refused = refuses shards share-only }
+shards-exact = exact shards ShardForm shards-ruled

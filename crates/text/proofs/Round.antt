@@ -112,8 +112,7 @@ module _ (f : Form) (law : Lawful f) where
       let vs : List ℕ = values f cs in
       let p = passed (below (2 ^ f .width) vs) _ 1 h in
       let q = escaped (f .impossible (length vs)) _ 2 (p .1) in
-      let r = passed (eqb (number (2 ^ f .width) vs % 2 ^ leftover f (length vs)) 0) _ 2 (q .1) in
-      (
+      let r = passed (eqb (number (2 ^ f .width) vs % 2 ^ leftover f (length vs)) 0) _ 2 (q .1) in (
         f .width * length vs / 8,
         number (2 ^ f .width) vs / 2 ^ leftover f (length vs),
         bits-most (f .width) (length vs) (length cs) (law .narrow) (length-values f cs),

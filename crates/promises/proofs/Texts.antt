@@ -1,0 +1,97 @@
+-- Both text forms are read and written exactly. Assumes nothing.
+use Prim.Native.Nat.{ℕ, _≤_}
+use mathlib.Core.Path.{_≡_, refl, sym, ap, _∙_}
+use mathlib.Core.Logic.{⊎-elim}
+use mathlib.Core.List.{List, []}
+use native.Mathlib.Omega.{arith}
+use lib.ListN.{length, take}
+use Rattle.wire.specs.Answer.{Answer, done, failed}
+use Rattle.wire.specs.Number.{Bytes}
+use Rattle.wire.specs.Over.{over}
+use Rattle.wire.specs.Writing.{Verdict, bytes, fault, told, Written}
+use Rattle.wire.specs.declared.Wrote.{Wrote}
+use Rattle.wire.specs.declared.Wrote.the-variants.{Done, Refused}
+use Rattle.wire.proofs.Writes.{bytes-injective, refused-why}
+use Rattle.text.specs.Text.{Form, base64, zbase32, readText, textOf, kept}
+use Rattle.text.proofs.Forms.{Lawful, base64-lawful, zbase32-lawful}
+use Rattle.text.proofs.Round.{read-written, written-read, text-short}
+use Rattle.envelope.specs.Placed.{fine, said}
+use Rattle.text.proofs.base64_write as text-base64-write
+use Rattle.text.proofs.zbase32_write as text-zbase32-write
+use Rattle.promises.specs.Calls.{Call}
+use Rattle.promises.specs.Formats.{Slice, Exact, textRead, textSaid, texts, scans, typing}
+use Rattle.promises.proofs.Writers.{slice, stands-front, wrote-done, can-write}
+use Rattle.promises.proofs.Formats.{Ruled, exact}
+use Rattle.promises.proofs.FormatLinks as L
+
+-- the bytes that were read stand in front of the output, as the text's definition gives them; where it refuses, so does the reader
+module _ (f : Form) (law : Lawful f) (s out x : List ℕ) (h : length s ≤ length out) where
+  text-said : (r : Wrote) (a : Answer ℕ) → Written 0 (readText f s) out x r → told r ≡ a → textSaid a x ≡ said (textRead (readText f s))
+  text-said (Done n) a w e =
+      let t = wrote-done (readText f s) out x n (Done n) w refl in
+      ap (λ (b : Answer ℕ). textSaid b x) (sym e) ∙ ap (λ (b : List ℕ). done b) (stands-front (t .2)) ∙ ap (λ (v : Verdict). said (textRead v)) (sym (t .1))
+  text-said (Refused n) a w e =
+      let v : readText f s ≡ fault n =
+      ⊎-elim (λ q. q) (λ (bs, q, l). absurd (omega (arith, text-short f law s bs q))) (refused-why 0 (readText f s) out x n w) in
+      ap (λ (b : Answer ℕ). textSaid b x) (sym e) ∙ ap (λ (v : Verdict). said (textRead v)) (sym v)
+
+-- a form, whatever its two functions are, once their contracts are those of the form's definitions
+module _ (f : Form) (law : Lawful f) (Reader Writer : List ℕ → List ℕ → List ℕ → Answer ℕ → Type 0)
+    (reader : (s out x : List ℕ) (a : Answer ℕ) → Reader s out x a → (r : Wrote) × Written 0 (readText f s) out x r × (told r ≡ a))
+    (writer : (s out x : List ℕ) (a : Answer ℕ) → Writer s out x a → (r : Wrote) × Written 0 (bytes (textOf f s)) out x r × (told r ≡ a))
+    (write : (s out : List ℕ) → length (textOf f s) ≤ length out → Writer s out (over 0 (textOf f s) out) (done (length (textOf f s)))) where
+  abbrev TextForm : List ℕ → List ℕ → Type 0
+  TextForm v s = Bytes v × (s ≡ textOf f v)
+
+  read-bytes : (r : Verdict) (p : List ℕ) → textRead r ≡ fine p → r ≡ bytes p
+  read-bytes (bytes bs) p e = cc
+  read-bytes (fault n) p e = let z : _≡_ {A = ℕ} 0 1 = cc in absurd (omega arith)
+
+  texts-ruled : Ruled (texts f Reader Writer) TextForm
+  texts-ruled = record {
+    back = λ v s (y, e). (v, ap (λ (x : List ℕ). textRead (readText f x)) e ∙ ap textRead (read-written f law v y), refl);
+    only = λ s p y e. let w = written-read f law s p (read-bytes (readText f s) p e) in (w .1, w .0);
+    form = λ v s t a b. a .1 ∙ sym (b .1);
+    reads = λ s a (out, x, r, k, h, e). let t = reader s out x r k in sym e ∙ text-said f law s out x h (t .0) r (t .1) (t .2);
+    writes = λ v out x n (y, k).
+        let t = writer v out x (done n) k in
+        let u = wrote-done (bytes (textOf f v)) out x n (t .0) (t .1) (t .2) in
+        (u .0, (y, sym (bytes-injective (u .1))), u .2);
+    write = λ v s (y, e) out h. rw e (y, write v out (rw e at h));
+  }
+
+  texts-exact : Exact (texts f Reader Writer)
+  texts-exact = exact (texts f Reader Writer) TextForm texts-ruled
+
+module _ (s out : List ℕ) where
+  abbrev base64-writing : length (textOf base64 s) ≤ length out → Call text-base64-write.Kinds.ps text-base64-write.Kinds.r text-base64-write.Reads.Learnt
+  base64-writing h = record {
+    lifetimes = ([], ([], tt));
+    args = (slice s, (slice out, tt));
+    answer = Done (length (textOf base64 s));
+    left = (tt, (over 0 (textOf base64 s) out, tt));
+    kept = can-write (bytes (textOf base64 s)) (textOf base64 s) out refl h;
+  }
+
+  abbrev zbase32-writing : length (textOf zbase32 s) ≤ length out → Call text-zbase32-write.Kinds.ps text-zbase32-write.Kinds.r text-zbase32-write.Reads.Learnt
+  zbase32-writing h = record {
+    lifetimes = ([], ([], tt));
+    args = (slice s, (slice out, tt));
+    answer = Done (length (textOf zbase32 s));
+    left = (tt, (over 0 (textOf zbase32 s) out, tt));
+    kept = can-write (bytes (textOf zbase32 s)) (textOf zbase32 s) out refl h;
+  }
+
+pub scans-exact : Exact scans
+scans-exact =
+    texts-exact base64 base64-lawful _ _
+    (λ s out x a (k, i, j, l, e). (k .answer, rw (i, j, l) at (L.text-base64-read-link k), e))
+    (λ s out x a (k, i, j, l, e). (k .answer, rw (i, j, l) at (L.text-base64-write-link k), e))
+    (λ s out h. (base64-writing s out h, refl, refl, refl, refl))
+
+pub typing-exact : Exact typing
+typing-exact =
+    texts-exact zbase32 zbase32-lawful _ _
+    (λ s out x a (k, i, j, l, e). (k .answer, rw (i, j, l) at (L.text-zbase32-read-link k), e))
+    (λ s out x a (k, i, j, l, e). (k .answer, rw (i, j, l) at (L.text-zbase32-write-link k), e))
+    (λ s out h. (zbase32-writing s out h, refl, refl, refl, refl))
