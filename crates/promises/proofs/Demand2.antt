@@ -31,7 +31,8 @@ use Rattle.promises.proofs.Writers.{Stands, stands-front, wrote-done, w
 use Rattle.promises.proofs.Formats.{got-unplaced, frames-exact}
 use Rattle.promises.proofs.Texts.{scans-exact, typing-exact}
 use Rattle.promises.proofs.Payloads.{envelopes-exact, manifests-exact, auths-exact, shards-exact}
-use Rattle.promises.proofs.FormatLinks as L
+use Rattle.promises.proofs.Links.Page.{page-write-base64-link, page-write-link, page-write-zbase32-link}
+use Rattle.promises.proofs.Links.Slip.{slip-auth-link, slip-key-link}
 
 -- bytes that the rules read as a value are read so by every call
 by-rule : (f : Format) → Exact f → (s : List ℕ) (v : f .Value) (p : f .Place) → f .read s ≡ fine p → f .says s p ≡ v → ReadAs f s v
@@ -50,7 +51,7 @@ module _ (c : List ℕ) (size : ℕ) (y : Bytes c) (p : Printed c size) (i : ℕ
   -- what a call of page::write says
   framed : (out x : List ℕ) (a : Answer ℕ) → Framed c size i out x a → (r : Wrote) × Written 0 (bytes (pageFrame c size i)) out x r × (told r ≡ a)
   framed out x a (k, d, e, f, g, h, t) =
-      (k .answer, rw (page-written c size p i here) at (rw (d, e, f, g, h) at (L.page-write-link k)), t)
+      (k .answer, rw (page-written c size p i here) at (rw (d, e, f, g, h) at (page-write-link k)), t)
 
   framed-front : (out x : List ℕ) (n : ℕ) → Framed c size i out x (done n) → take n x ≡ pageFrame c size i
   framed-front out x n k =
@@ -80,7 +81,7 @@ module _ (c : List ℕ) (size : ℕ) (y : Bytes c) (p : Printed c size) (i : ℕ
 module _ (c : List ℕ) (size : ℕ) (y : Bytes c) (p : Printed c size) where
   through-scans : ThroughText Scanned (scans .Reads) c size
   through-scans i here out x m out' z n a k (l, d, e, f, g, h, t) r =
-      let s = text-front c size y p i here base64 out' z n (l .answer) (rw (d, e, f, g, h) at (L.page-write-base64-link l)) t in
+      let s = text-front c size y p i here base64 out' z n (l .answer) (rw (d, e, f, g, h) at (page-write-base64-link l)) t in
       scans-exact .reason (take n z) a r
       ∙ ap (λ (w : List ℕ). said (textRead (readText base64 w))) s
       ∙ ap said (text-back c size y p i here base64 base64-lawful)
@@ -88,7 +89,7 @@ module _ (c : List ℕ) (size : ℕ) (y : Bytes c) (p : Printed c size) where
 
   through-typing : ThroughText Typed (typing .Reads) c size
   through-typing i here out x m out' z n a k (l, d, e, f, g, h, t) r =
-      let s = text-front c size y p i here zbase32 out' z n (l .answer) (rw (d, e, f, g, h) at (L.page-write-zbase32-link l)) t in
+      let s = text-front c size y p i here zbase32 out' z n (l .answer) (rw (d, e, f, g, h) at (page-write-zbase32-link l)) t in
       typing-exact .reason (take n z) a r
       ∙ ap (λ (w : List ℕ). said (textRead (readText zbase32 w))) s
       ∙ ap said (text-back c size y p i here zbase32 zbase32-lawful)
@@ -120,14 +121,14 @@ module _ {A : Type 0} (kind : ℕ) (k : Kind kind) (id contents out x : List ℕ
 key-carries : Carries shards 0x4B Keyed
 key-carries id contents out x n (l, a, b, c, d, e) =
     let k : Kind 0x4B = inr (inl refl) in
-    let w = rw (a, b, c, d) at (L.slip-key-link l) in
+    let w = rw (a, b, c, d) at (slip-key-link l) in
     let p = carried-payload 0x4B k id contents out x n (shardAt contents) (l .answer) w e in
     (carried-frame 0x4B k id contents out x n (shardAt contents) (l .answer) w e, λ b r. (p .0, shards-exact .reason contents b r ∙ ap said (p .1)))
 
 auth-carries : Carries auths 0x41 Signed
 auth-carries id contents out x n (l, a, b, c, d, e) =
     let k : Kind 0x41 = inr (inr refl) in
-    let w = rw (a, b, c, d) at (L.slip-auth-link l) in
+    let w = rw (a, b, c, d) at (slip-auth-link l) in
     let p = carried-payload 0x41 k id contents out x n (authAt contents) (l .answer) w e in
     (carried-frame 0x41 k id contents out x n (authAt contents) (l .answer) w e, λ b r. (p .0, auths-exact .reason contents b r ∙ ap said (p .1)))
 

@@ -26,7 +26,8 @@ use Rattle.promises.specs.Collecting.{Interface, library, phone, Tells, 
 use Rattle.promises.specs.Demand3.{Left, SamePages, Demand3, Telling}
 use Rattle.promises.proofs.Interfaces.{Lawful, library-lawful, phone-lawful}
 use Rattle.promises.proofs.Writers.{written-room}
-use Rattle.promises.proofs.Links as L
+use Rattle.promises.proofs.Links.Closing.{closing-mend-link}
+use Rattle.promises.proofs.Links.Status.{status-status-link}
 
 swap : {A B : Type 0} → A ⊎ B → B ⊎ A
 swap (inl a) = inr a
@@ -118,12 +119,12 @@ module _ (id : List ℕ) (eight : length id ≡ 8) where
       → (line : List ℕ) × LineIs (In id h) line × (a ≡ done (length line)) × (x ≡ over 0 line out)
   status-tells h c out x a l m r (k, i, j, p, q) =
       let s = left-says library library-lawful id eight h c l m in
-      let t = written-room (statusLine c) out x a (omega (arith, status-most c)) (k .answer) (rw (i, j, p) at (L.status-status-link k)) q in
+      let t = written-room (statusLine c) out x a (omega (arith, status-most c)) (k .answer) (rw (i, j, p) at (status-status-link k)) q in
       (statusLine c, status-line-is (In id h) c (s .0) (s .2), t .0, t .1)
 
   mend-tells : (c x : List ℕ) (a : Answer ℕ) → Mended c x a → Mends c x a
   mend-tells c x a (k, i, p, q) =
-      let l = L.closing-mend-link k in
+      let l = closing-mend-link k in
       mend-says c x a (sym q ∙ l .0 ∙ rw i) (sym p ∙ l .1 ∙ rw i)
 
   pub telling : Telling id

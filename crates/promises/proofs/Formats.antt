@@ -20,7 +20,7 @@ use Rattle.frame.proofs.lay as frame-lay
 use Rattle.promises.specs.Calls.{Call}
 use Rattle.promises.specs.Formats.{Slice, Format, Exact, Frame, frameSays, frames}
 use Rattle.promises.proofs.Writers.{slice, Stands, stands-front, wrote-done, can-write}
-use Rattle.promises.proofs.FormatLinks as L
+use Rattle.promises.proofs.Links.Frame.{frame-lay-link, frame-read-link}
 
 -- ---- what all formats share
 
@@ -110,9 +110,9 @@ frames-ruled = record {
   back = frame-back;
   only = frame-only;
   form = λ v s t a b. a .1 ∙ sym (b .1);
-  reads = λ s a (k, i, e). sym e ∙ ap (λ (g : Got F.Frame). said (unplaced g)) (L.frame-read-link k ∙ ap F.frameOf i);
+  reads = λ s a (k, i, e). sym e ∙ ap (λ (g : Got F.Frame). said (unplaced g)) (frame-read-link k ∙ ap F.frameOf i);
   writes = λ v out x n (al, (k, a, b, c, d, g, i, j, e)).
-      let t = wrote-done (bytes (layout (v .kind) (v .id) (v .index) (v .total) (v .contents))) out x n (k .answer) (rw (a, b, c, d, g, i, j) at (L.frame-lay-link k)) e in
+      let t = wrote-done (bytes (layout (v .kind) (v .id) (v .index) (v .total) (v .contents))) out x n (k .answer) (rw (a, b, c, d, g, i, j) at (frame-lay-link k)) e in
       (t .0, (al, sym (bytes-injective (t .1))), t .2);
   write = λ v s (al, e) out h. (al, (laying v s out e h, refl, refl, refl, refl, refl, refl, refl, refl));
 }

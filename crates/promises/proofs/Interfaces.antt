@@ -35,7 +35,9 @@ use Rattle.phone.proofs.stilt_finish as phone-stilt-finish
 use Rattle.promises.specs.Calls.{Call}
 use Rattle.promises.specs.Collecting.{Interface, library, phone}
 use Rattle.promises.proofs.Writers.{slice}
-use Rattle.promises.proofs.Links as L
+use Rattle.promises.proofs.Links.Closing.{closing-finish-link}
+use Rattle.promises.proofs.Links.Collection.{collection-join-link, collection-offer-link, collection-open-link}
+use Rattle.promises.proofs.Links.Phone.{phone-stilt-finish-link, phone-stilt-join-link, phone-stilt-offer-link, phone-stilt-open-link}
 
 pub record Lawful (f : Interface) : Type 1 where
   pub opens : (id c x : List ℕ) → f .Opens id c x → x ≡ bytesAfter c (opening id c)
@@ -103,11 +105,11 @@ module _ (s c : List ℕ) where
 
 pub library-lawful : Lawful library
 library-lawful = record {
-  opens = λ id c x (k, i, j, l). sym l ∙ L.collection-open-link k .bytes ∙ rw (i, j);
-  offers = λ c raw x (k, i, j, l). sym l ∙ L.collection-offer-link k .bytes ∙ rw (i, j);
-  joins = λ c o x (k, i, j, l). sym l ∙ L.collection-join-link k .bytes ∙ rw (i, j);
+  opens = λ id c x (k, i, j, l). sym l ∙ collection-open-link k .bytes ∙ rw (i, j);
+  offers = λ c raw x (k, i, j, l). sym l ∙ collection-offer-link k .bytes ∙ rw (i, j);
+  joins = λ c o x (k, i, j, l). sym l ∙ collection-join-link k .bytes ∙ rw (i, j);
   finishes = λ S c out x a ok m (k, i, j, l, e).
-      let w = L.closing-finish-link k in
+      let w = closing-finish-link k in
       (sym e ∙ w .answer ∙ rw (i, j), sym l ∙ w .output ∙ rw (i, j));
   can-open = λ id c. (bytesAfter c (opening id c), (opening-call id c, refl, refl, refl));
   can-offer = λ c raw. (bytesAfter c (offering c raw), (offering-call raw c, refl, refl, refl));
@@ -166,11 +168,11 @@ module _ (s c : List ℕ) where
 
 pub phone-lawful : Lawful phone
 phone-lawful = record {
-  opens = λ id c x (k, i, j, l). sym l ∙ L.phone-stilt-open-link k .1 ∙ rw (i, j);
-  offers = λ c raw x (k, i, j, l). sym l ∙ L.phone-stilt-offer-link k .1 ∙ rw (i, j);
-  joins = λ c o x (k, i, j, l). sym l ∙ L.phone-stilt-join-link k .1 ∙ rw (i, j);
+  opens = λ id c x (k, i, j, l). sym l ∙ phone-stilt-open-link k .1 ∙ rw (i, j);
+  offers = λ c raw x (k, i, j, l). sym l ∙ phone-stilt-offer-link k .1 ∙ rw (i, j);
+  joins = λ c o x (k, i, j, l). sym l ∙ phone-stilt-join-link k .1 ∙ rw (i, j);
   finishes = λ S c out x a ok m (k, i, j, l, e).
-      let w = L.phone-stilt-finish-link k in
+      let w = phone-stilt-finish-link k in
       let n : k .answer ≡ packedFinish (outcome (finished c out)) = w .0 ∙ rw (i, j) in
       (sym e ∙ ap finishIn n ∙ finish-apart (finished c out) (finish-bytes S c out ok m), sym l ∙ w .1 ∙ rw (i, j));
   can-open = λ id c. (bytesAfter c (opening id c), (stilt-opening id c, refl, refl, refl));

@@ -1,6 +1,5 @@
 pub mod Writers
 pub mod Links
-pub mod FormatLinks
 pub mod Formats
 pub mod Texts
 pub mod Payloads

@@ -44,7 +44,10 @@ use Rattle.promises.specs.Calls.{Call}
 use Rattle.promises.specs.Formats.{Slice, Exact, Enclosed, envelopes, manifestTold, manifests, Auth, auths, Share, ShardArgs, shards}
 use Rattle.promises.proofs.Writers.{slice, Stands, wrote-done, can-write}
 use Rattle.promises.proofs.Formats.{unplaced-got, got-unplaced, Ruled, exact}
-use Rattle.promises.proofs.FormatLinks as L
+use Rattle.promises.proofs.Links.Auth.{auth-read-link, auth-write-link}
+use Rattle.promises.proofs.Links.Envelope.{envelope-read-link, envelope-write-link}
+use Rattle.promises.proofs.Links.Manifest.{manifest-read-link, manifest-write-link}
+use Rattle.promises.proofs.Links.Shard.{shard-read-link, shard-write-link}
 
 -- ---- the envelope
 
@@ -104,9 +107,9 @@ envelopes-ruled = record {
   back = enclosed-back;
   only = enclosed-only;
   form = λ v s t a b. fine-one (sym (a .1) ∙ b .1);
-  reads = λ s a (k, i, e). sym e ∙ L.envelope-read-link k ∙ ap (λ (x : List ℕ). said (envelopeAt x)) i;
+  reads = λ s a (k, i, e). sym e ∙ envelope-read-link k ∙ ap (λ (x : List ℕ). said (envelopeAt x)) i;
   writes = λ v out x n (l, (k, i, j, o, p, e)).
-      let t = enclosed-done (verdict (v .manifest) (v .payload)) out x n (k .answer) (rw (i, j, o, p) at (L.envelope-write-link k)) e in
+      let t = enclosed-done (verdict (v .manifest) (v .payload)) out x n (k .answer) (rw (i, j, o, p) at (envelope-write-link k)) e in
       (t .0, (l, t .1), t .2);
   write = λ v s (l, e) out h. (l, (enclosing v s out e h, refl, refl, refl, refl, refl));
 }
@@ -161,10 +164,10 @@ manifests-ruled = record {
   form = λ v s t a b. sym (listed-form v s a) ∙ listed-form v t b;
   reads = λ s a (k, i, e).
       sym e
-      ∙ ap (λ (r : ManifestRead). manifestTold (r .answer) (r .value)) (L.manifest-read-link k ∙ ap (λ (x : List ℕ). answerFor (manifestAt x)) i)
+      ∙ ap (λ (r : ManifestRead). manifestTold (r .answer) (r .value)) (manifest-read-link k ∙ ap (λ (x : List ℕ). answerFor (manifestAt x)) i)
       ∙ listed-said (manifestAt s);
   writes = λ v out x n (k, t, i, o, p, e).
-      let u = wrote-done (manifestVerdict (now (k .args .0)) (k .args .1 .0)) out x n (k .answer) (rw (o, p) at (L.manifest-write-link k)) e in
+      let u = wrote-done (manifestVerdict (now (k .args .0)) (k .args .1 .0)) out x n (k .answer) (rw (o, p) at (manifest-write-link k)) e in
       (u .0, (now (k .args .0), k .args .1 .0, t, i, u .1), u .2);
   write = λ v s (pool, m, t, i, e) out h. (listing pool m s out e h, t, i, refl, refl, refl);
 }
@@ -227,9 +230,9 @@ auths-ruled = record {
   back = signed-back;
   only = signed-only;
   form = λ v s t a b. bytes-injective (sym a ∙ b);
-  reads = λ s a (k, i, e). sym e ∙ ap (λ (g : Got Claim). said (unplaced g)) (L.auth-read-link k ∙ ap authAt i);
+  reads = λ s a (k, i, e). sym e ∙ ap (λ (g : Got Claim). said (unplaced g)) (auth-read-link k ∙ ap authAt i);
   writes = λ v out x n (k, i, j, g, o, p, e).
-      wrote-done (authVerdict (v .public) (v .sig) (v .hash)) out x n (k .answer) (rw (i, j, g, o, p) at (L.auth-write-link k)) e;
+      wrote-done (authVerdict (v .public) (v .sig) (v .hash)) out x n (k .answer) (rw (i, j, g, o, p) at (auth-write-link k)) e;
   write = λ v s e out h. (signing v s out e h, refl, refl, refl, refl, refl, refl);
 }
 
@@ -288,10 +291,10 @@ shards-ruled = record {
   back = share-back;
   only = share-only;
   form = λ v s t a b. bytes-injective (sym a ∙ b);
-  reads = λ s a (k, i, e). sym e ∙ ap (λ (g : Got Shard). said (unplaced g)) (L.shard-read-link k ∙ ap shardAt i);
+  reads = λ s a (k, i, e). sym e ∙ ap (λ (g : Got Shard). said (unplaced g)) (shard-read-link k ∙ ap shardAt i);
   writes = λ v out x n (k, g, o, p, e).
       wrote-done (verdictOf v) out x n (k .answer)
-      (rw (g .public-is, g .sig-is, g .hash-is, g .kind-is, g .share-is, g .len-is, g .threshold-is, g .count-is, g .index-is, o, p) at (L.shard-write-link k)) e;
+      (rw (g .public-is, g .sig-is, g .hash-is, g .kind-is, g .share-is, g .len-is, g .threshold-is, g .count-is, g .index-is, o, p) at (shard-write-link k)) e;
   write = λ v s e out h. (sharing v s out e h, same-args v s out e h, refl, refl, refl);
 }
 

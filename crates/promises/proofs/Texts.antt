@@ -22,7 +22,7 @@ use Rattle.promises.specs.Calls.{Call}
 use Rattle.promises.specs.Formats.{Slice, Exact, textRead, textSaid, texts, scans, typing}
 use Rattle.promises.proofs.Writers.{slice, stands-front, wrote-done, can-write}
 use Rattle.promises.proofs.Formats.{Ruled, exact}
-use Rattle.promises.proofs.FormatLinks as L
+use Rattle.promises.proofs.Links.Text.{text-base64-read-link, text-base64-write-link, text-zbase32-read-link, text-zbase32-write-link}
 
 -- the bytes that were read stand in front of the output, as the text's definition gives them; where it refuses, so does the reader
 module _ (f : Form) (law : Lawful f) (s out x : List ℕ) (h : length s ≤ length out) where
@@ -85,13 +85,13 @@ module _ (s out : List ℕ) where
 pub scans-exact : Exact scans
 scans-exact =
     texts-exact base64 base64-lawful _ _
-    (λ s out x a (k, i, j, l, e). (k .answer, rw (i, j, l) at (L.text-base64-read-link k), e))
-    (λ s out x a (k, i, j, l, e). (k .answer, rw (i, j, l) at (L.text-base64-write-link k), e))
+    (λ s out x a (k, i, j, l, e). (k .answer, rw (i, j, l) at (text-base64-read-link k), e))
+    (λ s out x a (k, i, j, l, e). (k .answer, rw (i, j, l) at (text-base64-write-link k), e))
     (λ s out h. (base64-writing s out h, refl, refl, refl, refl))
 
 pub typing-exact : Exact typing
 typing-exact =
     texts-exact zbase32 zbase32-lawful _ _
-    (λ s out x a (k, i, j, l, e). (k .answer, rw (i, j, l) at (L.text-zbase32-read-link k), e))
-    (λ s out x a (k, i, j, l, e). (k .answer, rw (i, j, l) at (L.text-zbase32-write-link k), e))
+    (λ s out x a (k, i, j, l, e). (k .answer, rw (i, j, l) at (text-zbase32-read-link k), e))
+    (λ s out x a (k, i, j, l, e). (k .answer, rw (i, j, l) at (text-zbase32-write-link k), e))
     (λ s out h. (zbase32-writing s out h, refl, refl, refl, refl))
