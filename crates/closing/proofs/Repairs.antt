@@ -2,12 +2,11 @@
 use mathlib.Core.Path.{_≡_, refl, sym, ap, _∙_, subst}
 use mathlib.Core.Bool.{Bool, true, false, false≢true}
 use mathlib.Core.List.{List}
-use Prim.Native.Nat.{ℕ, zero, suc, _+_, _<_}
+use Prim.Native.Nat.{ℕ, zero, suc}
 use native.Mathlib.Omega.{arith}
 use lib.ListN.{take}
-use Rattle.wire.specs.Answer.{choose, Answer, done}
+use Rattle.wire.specs.Answer.{choose, Answer}
 use Rattle.state.specs.Complete.{Counted, nothing, has, lacks}
-use Rattle.book.specs.Head.{hasHead}
 use Rattle.book.specs.Read.{idOf, totalIn, pageAt, okAt, okBook}
 use Rattle.closing.specs.Mend.{badPages, mended, repair, BadAt, Mends}
 use Rattle.closing.proofs.Mending.{bad-more}

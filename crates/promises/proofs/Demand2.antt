@@ -5,7 +5,6 @@ use mathlib.Core.Logic.{inl, inr}
 use mathlib.Core.List.{List}
 use native.Mathlib.Omega.{arith}
 use lib.ListN.{length, take}
-use denote.Ref.{now}
 use Rattle.wire.specs.Answer.{Got, Answer, done}
 use Rattle.wire.specs.Number.{Bytes}
 use Rattle.wire.specs.Writing.{bytes, told, Written}
@@ -13,7 +12,6 @@ use Rattle.wire.specs.declared.Wrote.{Wrote}
 use Rattle.wire.proofs.Writes.{bytes-injective}
 use Rattle.text.specs.Text.{Form, base64, zbase32, readText, textOf}
 use Rattle.text.proofs.Forms.{Lawful, base64-lawful, zbase32-lawful}
-use Rattle.frame.specs.Frame as F
 use Rattle.frame.specs.Allowed.{Kind}
 use Rattle.frame.proofs.ReadsBack.{ReadsAs}
 use Rattle.page.specs.Page.{pageCount, pageVerdict, pageFrame, Printed, typed}
@@ -25,9 +23,9 @@ use Rattle.shard.specs.Shard.{shardAt}
 use Rattle.slip.specs.Slip.{slip}
 use Rattle.slip.proofs.Round.{slip-carried, slip-reads}
 use Rattle.envelope.specs.Placed.{fine, unplaced, said}
-use Rattle.promises.specs.Formats.{Format, Exact, Frame, frames, textRead, scans, typing, auths, shards}
-use Rattle.promises.specs.Demand2.{ReadAs, Printing, Framed, Scanned, Typed, pageOf, ThroughText, Pages, Keyed, Signed, slipOf, Carries, Demand2}
-use Rattle.promises.proofs.Writers.{Stands, stands-front, wrote-done, written-room}
+use Rattle.promises.specs.Formats.{Format, Exact, frames, textRead, scans, typing, auths, shards}
+use Rattle.promises.specs.Demand2.{ReadAs, Framed, Scanned, Typed, pageOf, ThroughText, Pages, Keyed, Signed, slipOf, Carries, Demand2}
+use Rattle.promises.proofs.Writers.{stands-front, wrote-done, written-room}
 use Rattle.promises.proofs.Formats.{got-unplaced, frames-exact}
 use Rattle.promises.proofs.Texts.{scans-exact, typing-exact}
 use Rattle.promises.proofs.Payloads.{envelopes-exact, manifests-exact, auths-exact, shards-exact}

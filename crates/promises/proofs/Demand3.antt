@@ -1,5 +1,5 @@
 -- The third demand holds (specs/Demand3.antt), for every document id of 8 bytes, of the libraries' functions and of those for C. Assumes nothing.
-use mathlib.Core.Path.{_≡_, refl, sym, ap, ap₂, _∙_, subst}
+use mathlib.Core.Path.{_≡_, sym, ap, ap₂, _∙_, subst}
 use mathlib.Core.Logic.{_⊎_, inl, inr}
 use mathlib.Core.Bool.{true}
 use mathlib.Core.List.{List, _++_}
@@ -12,7 +12,7 @@ use Rattle.wire.specs.Writing.{bytes}
 use Rattle.state.specs.Meaning.{BookIs}
 use Rattle.book.specs.Read.{idOf, readBook, okBook}
 use Rattle.collection.specs.Collection.{goodPage, offering, joining, bytesAfter}
-use Rattle.collection.specs.Built.{Built, opened, offered, joined, bytesOf, In, Lent, offeredAll, PageAmong, AllBytes}
+use Rattle.collection.specs.Built.{Built, opened, offered, joined, bytesOf, In, Lent, offeredAll}
 use Rattle.collection.proofs.Demand as D
 use Rattle.closing.specs.Sets.{Answers}
 use Rattle.closing.specs.Mend.{Mends}

@@ -1,13 +1,12 @@
 -- What both interfaces to a collection keep to: the bytes that 01's definitions give, finish's answer, and that every call can be made. Assumes nothing.
-use mathlib.Core.Path.{_≡_, refl, sym, ap, _∙_, subst}
+use mathlib.Core.Path.{_≡_, refl, sym, ap, _∙_}
 use mathlib.Core.Bool.{true}
 use mathlib.Core.List.{List, []}
-use Prim.Native.Nat.{ℕ, _+_, _*_, _/_, _%_, _≤_, _<_}
+use Prim.Native.Nat.{ℕ, _/_, _%_, _≤_, _<_}
 use native.Mathlib.Omega.{arith}
 use borrow.Author.Tests.{ne-eqb}
 use lib.Dec.{eqb}
 use lib.ListN.{length}
-use denote.Ref.{now}
 use Rattle.wire.specs.Answer.{choose, Answer, reply, with, none}
 use Rattle.state.specs.Take.{Page}
 use Rattle.state.specs.Meaning.{BookIs}

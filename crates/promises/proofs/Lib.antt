@@ -6,6 +6,7 @@ pub mod Payloads
 pub mod Demand2
 pub mod Interfaces
 pub mod Demand3
+pub mod Programs
 pub mod Examples
 pub mod Printed
 pub mod Lasts

@@ -13,3 +13,5 @@ pub mod Auth
 pub mod Shard
 pub mod Page
 pub mod Slip
+pub mod Scan
+pub mod Shelf

@@ -4,8 +4,8 @@ use mathlib.Core.Path.{_≡_, refl, sym, ap, _∙_}
 use mathlib.Core.Logic.{⊎-elim}
 use mathlib.Core.List.{List, []}
 use native.Mathlib.Omega.{arith}
-use lib.ListN.{length, take}
-use Rattle.wire.specs.Answer.{Answer, done, failed}
+use lib.ListN.{length}
+use Rattle.wire.specs.Answer.{Answer, done}
 use Rattle.wire.specs.Number.{Bytes}
 use Rattle.wire.specs.Over.{over}
 use Rattle.wire.specs.Writing.{Verdict, bytes, fault, told, Written}
@@ -19,7 +19,7 @@ use Rattle.envelope.specs.Placed.{fine, said}
 use Rattle.text.proofs.base64_write as text-base64-write
 use Rattle.text.proofs.zbase32_write as text-zbase32-write
 use Rattle.promises.specs.Calls.{Call}
-use Rattle.promises.specs.Formats.{Slice, Exact, textRead, textSaid, texts, scans, typing}
+use Rattle.promises.specs.Formats.{Exact, textRead, textSaid, texts, scans, typing}
 use Rattle.promises.proofs.Writers.{slice, stands-front, wrote-done, can-write}
 use Rattle.promises.proofs.Formats.{Ruled, exact}
 use Rattle.promises.proofs.Links.Text.{text-base64-read-link, text-base64-write-link, text-zbase32-read-link, text-zbase32-write-link}

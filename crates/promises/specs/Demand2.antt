@@ -8,7 +8,6 @@ use denote.Ref.{now}
 use Rattle.wire.specs.Answer.{Answer, done}
 use Rattle.wire.specs.Number.{Bytes}
 use Rattle.wire.specs.Writing.{told}
-use Rattle.frame.specs.Frame as F
 use Rattle.page.specs.Page.{documentId, pageCount, pageData, Printed, joined}
 use Rattle.page.proofs.write as page-write
 use Rattle.page.proofs.write_base64 as page-write-base64

@@ -1,13 +1,13 @@
 -- Taking up, and the answer at the end of a session, for each way through the code. Assumes nothing.
 use mathlib.Core.Path.{_≡_, refl, sym, ap, _∙_}
-use mathlib.Core.Bool.{Bool, true, false}
+use mathlib.Core.Bool.{Bool, true, false, _&&_}
 use mathlib.Core.List.{List}
 use Prim.Native.Nat.{ℕ, _-_, _≤_}
 use native.Mathlib.Nat.{sub-zero}
 use native.Mathlib.Omega.{arith}
 use borrow.Author.Tests.{eq-eqb, ne-eqb, leb-true}
-use lib.Dec.{leb}
-use lib.ListN.{length, take, replicate, length-replicate}
+use lib.Dec.{eqb, leb}
+use lib.ListN.{length, take, replicate, length-append, length-replicate}
 use Rattle.wire.specs.Answer.{choose, Answer, failed}
 use Rattle.wire.specs.Answer as wire
 use Rattle.wire.specs.Writing.{bytes, Written}
@@ -22,6 +22,9 @@ use Rattle.closing.specs.Finish as F
 use Rattle.closing.specs.declared.Finished.{Finished}
 use Rattle.closing.specs.declared.Finished.the-variants as E
 use Rattle.closing.proofs.Demand.{refused-exact}
+use Rattle.status.specs.Line.{field, statusLine}
+use Rattle.status.proofs.Numbers.{length-decimal}
+use Rattle.status.proofs.Told.{status-most}
 use Rattle.shelf.specs.Shelf.{resuming, refusedAt, ending, shown, answered}
 
 -- ---- taking up
@@ -91,3 +94,26 @@ pub answer-refused : (phase : ℕ) (c out x : List ℕ) (w : Wrote) → (phase �
     → Written 0 (bytes (answered phase c)) out x w
 unfolding answered
 answer-refused phase c out x w h q = rw (ne-eqb phase 1 h) q
+
+-- ---- 46,080 bytes are room for all that is printed
+
+refused-most : (e k : ℕ) → length (refusedAt e k) ≤ 64
+unfolding refusedAt field
+refused-most e k = simp length-append (omega (arith, length-decimal e, length-decimal k))
+
+shown-most : (c : List ℕ) (v : Finish) → F.finished c (replicate 46080 0) ≡ v → length (shown c v) ≤ 46080
+unfolding F.finished
+shown-most c (whole d) e = omega (arith, given-fits (idOf c) (replicate 46080 0) (F.collected c) d e, length-replicate {A = ℕ} 46080 0)
+shown-most c (lacking e k) q = go (leb 14 e && leb e 16)
+  where
+    go : (w : Bool) → length (choose w (statusLine c) (refusedAt e k)) ≤ 46080
+    go true = omega (arith, status-most c)
+    go false = omega (arith, refused-most e k)
+
+pub answered-most : (phase : ℕ) (c : List ℕ) → length (answered phase c) ≤ 46080
+unfolding answered ending
+answered-most phase c = go (eqb phase 1)
+  where
+    go : (w : Bool) → length (choose w (shown c (F.finished c (replicate 46080 0))) (refusedAt 19 0)) ≤ 46080
+    go true = shown-most c (F.finished c (replicate 46080 0)) refl
+    go false = omega (arith, refused-most 19 0)

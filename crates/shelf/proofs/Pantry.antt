@@ -76,7 +76,7 @@ module _ (id : List ℕ) (eight : length id ≡ 8) (c : List ℕ) (size : length
 
 -- ---- an input that names a document
 
-all-append : (xs ys : List (List ℕ)) → AllBytes xs → AllBytes ys → AllBytes (xs ++ ys)
+pub all-append : (xs ys : List (List ℕ)) → AllBytes xs → AllBytes ys → AllBytes (xs ++ ys)
 all-append [] ys x y raw a = y raw a
 all-append (l ∷ xs) ys x y raw (inl e) = x raw (inl e)
 all-append (l ∷ xs) ys x y raw (inr a) = all-append xs ys (λ r b. x r (inr b)) y raw a
