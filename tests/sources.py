@@ -1,8 +1,14 @@
-"""The Rattle sources of the listed crates, and the public functions in them."""
+"""The Rattle sources of the listed crates, the functions in them and which of them each calls, and the rows of docs/PROMISES.md."""
 import os
 import re
 
 PUBLIC = re.compile(r'^\s*pub (?:extern "C" )?fn (\w+)')
+ANY = re.compile(r'^\s*(?:pub(?:\(super\))? )?(?:extern "C" )?fn (\w+)')
+CALL = re.compile(r"((?:\w+::)*\w+)\(")
+ROW = re.compile(r"^\| `(\w+(?:::\w+)+)` \|(.*)\|$")
+LAW_ROW = re.compile(r"^\| .* \| `(\w+/\w+)` \|(.*)\|$")
+EDIT = re.compile(r"`(\w+/\w+)`")
+LAW = re.compile(r"`([a-z][\w-]*)`")
 
 
 def listed(root):
@@ -33,3 +39,71 @@ def functions(path):
             while lines[end].strip() != "{" and not lines[end].endswith(" {"):
                 end += 1
             yield number + 1, found.group(1), "\n".join(lines[number:end + 1])
+
+
+def module(root, path):
+    """The names that lead to a file's functions: its crate, and its module where it is not the crate's root."""
+    crate, _, *rest = os.path.relpath(path, os.path.join(root, "crates")).removesuffix(".rt").split(os.sep)
+    return [crate, *(name for name in rest if name != "lib")]
+
+
+def public(root):
+    """The public functions of the libraries, by their whole names."""
+    files = [path for path, program in rattle_files(root) if not program]
+    return {"::".join([*module(root, path), name]) for path in files for _, name, _ in functions(path)}
+
+
+def bodies(root, crate):
+    """Each function of a crate, also the private ones, by its whole name, with its text up to the next one."""
+    found = {}
+    for path, _ in rattle_files(root):
+        place, name = module(root, path), None
+        for line in open(path, encoding="utf-8") if place[0] == crate else ():
+            start = ANY.match(line)
+            name = "::".join([*place, start[1]]) if start else name
+            if name and not line.lstrip().startswith("//"):
+                found[name] = found.get(name, "") + ("" if start else line)
+    return found
+
+
+def reached(root, crate):
+    """For each function of a crate the functions of the crate that it calls, and those that they call, and so on.
+
+    A call is told by its name alone: a path must be the end of the function's whole name, and a bare name one in the same
+    file or, where there is none, one that is imported there.
+    """
+    texts = bodies(root, crate)
+
+    def meant(caller, path):
+        words = path.removeprefix("super::").split("::")
+        beside = "::".join([*caller.split("::")[:-1], path])
+        if len(words) == 1 and beside in texts:
+            return {beside}
+        return {name for name in texts if name.split("::")[-len(words):] == words}
+
+    calls = {name: set().union(*(meant(name, path) for path in CALL.findall(text))) for name, text in texts.items()}
+    for middle in calls:
+        for name in calls:
+            calls[name] |= calls[middle] if middle in calls[name] else set()
+    return calls
+
+
+def table(root):
+    """The rows of docs/PROMISES.md: of each function its cells, and of each edit that attacks a law the laws that it names."""
+    rows, laws = {}, {}
+    for line in open(os.path.join(root, "docs", "PROMISES.md"), encoding="utf-8"):
+        function, law = ROW.match(line.strip()), LAW_ROW.match(line.strip())
+        if function:
+            rows[function[1]] = function[2].split(" | ")
+        elif law:
+            laws[law[1]] = LAW.findall(law[2])
+    return rows, laws
+
+
+def naming(rows):
+    """For each edit the functions whose rows name it."""
+    named = {}
+    for function, cells in rows.items():
+        for edit in EDIT.findall(" | ".join(cells)):
+            named.setdefault(edit, set()).add(function)
+    return named
