@@ -1,13 +1,14 @@
 -- What the calls of `pier` and `pantry` say of their whole input (specs/Programs.antt). Assumes nothing.
-use mathlib.Core.Path.{_≡_, sym, ap, ap₂, _∙_, subst}
-use mathlib.Core.Bool.{true}
+use mathlib.Core.Path.{_≡_, refl, sym, ap, ap₂, _∙_, subst}
+use mathlib.Core.Bool.{Bool, true, false}
 use mathlib.Core.List.{List, [], _∷_, _++_, flatten}
 use Prim.Native.Nat.{ℕ, _≤_}
 use native.Mathlib.Omega.{arith}
 use borrow.Author.Tests.{ne-eqb}
+use lib.Dec.{eqb}
 use lib.ListN.{length}
-use Rattle.wire.specs.Answer.{Answer, done}
-use Rattle.wire.specs.Writing.{bytes, fault}
+use Rattle.wire.specs.Answer.{choose, Answer, done}
+use Rattle.wire.specs.Writing.{Verdict, bytes, fault}
 use Rattle.state.specs.State.{Book}
 use Rattle.state.specs.Meaning.{BookIs}
 use Rattle.book.specs.Encode.{encode}
@@ -19,17 +20,22 @@ use Rattle.status.specs.Line.{statusLine, refusedLine}
 use Rattle.status.specs.Sets.{LineIs}
 use Rattle.status.proofs.Sets.{status-line-is}
 use Rattle.status.proofs.Told.{status-most, refused-most}
-use Rattle.scan.specs.Session.{At, fed, closed, reported}
+use Rattle.scan.specs.Id.{idVerdict}
+use Rattle.scan.specs.Session.{At, at, lineOf, scanned, started, ended, fed, closed, reported}
+use Rattle.scan.specs.declared.session.Session.{Session}
 use Rattle.scan.specs.Input.{documentOf, scansOf, collectionOf, new, session}
 use Rattle.scan.proofs.Inputs.{fed-append, session-collects, session-refused, all-bytes, document-eight, list-says}
 use Rattle.shelf.specs.Shelf.{resuming, answered}
 use Rattle.shelf.specs.Pantry.{takenUp, Prints}
-use Rattle.shelf.proofs.Answers.{answered-most}
+use Rattle.shelf.proofs.Shows.{answered-most}
 use Rattle.shelf.proofs.Pantry.{all-append, scans-print, alone-prints, file-joined, damaged-13, another-12, none-prints, none-19}
+use Rattle.scan.proofs.session.feed as scan-session-feed
+use Rattle.scan.proofs.session.close as scan-session-close
+use Rattle.promises.specs.Calls.{Call}
 use Rattle.promises.specs.Collecting.{library}
 use Rattle.promises.specs.Demand3.{Left}
-use Rattle.promises.specs.Programs.{FeedsAll, Runs, Reports, Resumes, Answers, Laid, Collects, Waits, Programs}
-use Rattle.promises.proofs.Writers.{written-room}
+use Rattle.promises.specs.Programs.{FeedsAll, Runs, Reports, Resumes, Shows, Laid, Collects, Waits, Programs}
+use Rattle.promises.proofs.Writers.{slice, written-room}
 use Rattle.promises.proofs.Interfaces.{library-lawful}
 use Rattle.promises.proofs.Demand3.{left-bytes}
 use Rattle.promises.proofs.Links.Scan.{scan-session-feed-link, scan-session-close-link, scan-session-report-link}
@@ -47,12 +53,65 @@ fed-all (part ∷ parts) s t (m, (k, i, j, l), r) =
 run-is : (parts : List (List ℕ)) (line c : List ℕ) (t : At) → Runs parts line c t → t ≡ session line c (flatten parts)
 run-is parts line c t (s, f, (k, i, j)) = sym j ∙ scan-session-close-link k ∙ ap closed (i ∙ fed-all parts (new line c) s f)
 
+-- ---- and every input can be read so
+
+abbrev sessionOf : At → Session
+sessionOf s = record { phase = s .phase; len = s .len }
+
+abbrev feeding : List ℕ → At → Call scan-session-feed.Kinds.ps scan-session-feed.Kinds.r scan-session-feed.Reads.Learnt
+feeding part s = record {
+  lifetimes = ([], ([], ([], tt)));
+  args = (slice part, (sessionOf s, (slice (s .line), (slice (s .collection), tt))));
+  answer = sessionOf (fed s part);
+  left = (tt, (tt, (fed s part .line, (fed s part .collection, tt))));
+  kept = refl;
+}
+
+-- the end of a line keeps the line buffer
+started-line : (s : At) (v : Verdict) → at (sessionOf (started s v)) (s .line) (started s v .collection) ≡ started s v
+started-line s (bytes id) = refl
+started-line s (fault e) = refl
+
+-- what a session is after its last line, by the three tests that the definition makes
+abbrev lastOf : At → Bool → Bool → Bool → At
+lastOf s t u w =
+    choose t s
+    (choose u (started s (idVerdict (lineOf s)))
+    (choose w (record { phase = 1; len = 0; line = s .line; collection = scanned (s .collection) (lineOf s) })
+    (record { phase = s .phase; len = 0; line = s .line; collection = s .collection })))
+
+last-line : (s : At) (t u w : Bool) → at (sessionOf (lastOf s t u w)) (s .line) (lastOf s t u w .collection) ≡ lastOf s t u w
+last-line s true u w = refl
+last-line s false true w = started-line s (idVerdict (lineOf s))
+last-line s false false true = refl
+last-line s false false false = refl
+
+closed-line : (s : At) → at (sessionOf (closed s)) (s .line) (closed s .collection) ≡ closed s
+unfolding closed ended
+closed-line s = last-line s (eqb (s .len) 0) (eqb (s .phase) 0) (eqb (s .phase) 1)
+
+abbrev ending : At → Call scan-session-close.Kinds.ps scan-session-close.Kinds.r scan-session-close.Reads.Learnt
+ending s = record {
+  lifetimes = ([], ([], tt));
+  args = (sessionOf s, (slice (s .line), (slice (s .collection), tt)));
+  answer = sessionOf (closed s);
+  left = (tt, (tt, (closed s .collection, tt)));
+  kept = closed-line s;
+}
+
+feeds-happen : (parts : List (List ℕ)) (s : At) → (t : At) × FeedsAll parts s t
+feeds-happen [] s = (s, refl)
+feeds-happen (part ∷ parts) s = let r = feeds-happen parts (fed s part) in (r .0, (fed s part, (feeding part s, refl, refl, refl), r .1))
+
+runs-happen : (parts : List (List ℕ)) (line c : List ℕ) → (t : At) × Runs parts line c t
+runs-happen parts line c = let r = feeds-happen parts (new line c) in (closed (r .0), (r .0, r .1, (ending (r .0), refl, closed-line (r .0))))
+
 -- ---- what each call says
 
 reports-laid : (phase : ℕ) (c out x : List ℕ) (a : Answer ℕ) → length (reported phase c) ≤ length out → Reports phase c out x a → Laid (reported phase c) out x a
 reports-laid phase c out x a h (k, i, j, l, m, e) = written-room (reported phase c) out x a h (k .answer) (rw (i, j, l, m) at (scan-session-report-link k)) e
 
-answers-laid : (phase : ℕ) (c out x : List ℕ) (a : Answer ℕ) → 46080 ≤ length out → Answers phase c out x a → Laid (answered phase c) out x a
+answers-laid : (phase : ℕ) (c out x : List ℕ) (a : Answer ℕ) → 46080 ≤ length out → Shows phase c out x a → Laid (answered phase c) out x a
 answers-laid phase c out x a h (k, i, j, l, m, e) =
     let n = answered-most phase c in
     written-room (answered phase c) out x a (omega arith) (k .answer) (rw (i, j, l, m) at (shelf-answer-link k)) e
@@ -66,38 +125,38 @@ resumes-says phase c saved y r d q (k, i, j, l, m, e) =
 -- ---- an input that names a document
 
 module _ (line c : List ℕ) (room : 1025 ≤ length line) (size : length c ≡ 49664) (input id : List ℕ) (named : documentOf input ≡ bytes id) where
-  abbrev ended : At
-  ended = session line c input
+  abbrev reached : At
+  reached = session line c input
 
   eight : length id ≡ 8
   eight = document-eight input id named
 
-  came : (ended .phase ≡ 1) × (ended .collection ≡ collectionOf c id (scansOf input))
+  came : (reached .phase ≡ 1) × (reached .collection ≡ collectionOf c id (scansOf input))
   came = session-collects line c room input id named
 
-  session-saved : (b : Book) → BookIs (PageAmong id (scansOf input)) b → ended .collection ≡ encode id b
+  session-saved : (b : Book) → BookIs (PageAmong id (scansOf input)) b → reached .collection ≡ encode id b
   session-saved b m = came .1 ∙ list-saved id eight c (scansOf input) size (all-bytes input) b m
 
-  session-says : (okBook (ended .collection) ≡ true) × BookIs (PageAmong id (scansOf input)) (readBook (ended .collection))
+  session-says : (okBook (reached .collection) ≡ true) × BookIs (PageAmong id (scansOf input)) (readBook (reached .collection))
   session-says = let s = list-says id eight c size (scansOf input) (all-bytes input) in rw (came .1) (s .0, s .2)
 
-  session-line : reported (ended .phase) (ended .collection) ≡ statusLine (ended .collection)
+  session-line : reported (reached .phase) (reached .collection) ≡ statusLine (reached .collection)
   unfolding reported
   session-line = rw (came .0)
 
-  pier-line : (out x : List ℕ) (a : Answer ℕ) → 64 ≤ length out → Reports (ended .phase) (ended .collection) out x a
+  pier-line : (out x : List ℕ) (a : Answer ℕ) → 64 ≤ length out → Reports (reached .phase) (reached .collection) out x a
       → (text : List ℕ) × LineIs (PageAmong id (scansOf input)) text × Laid text out x a
   pier-line out x a h k =
-      let n = status-most (ended .collection) in
-      let l = reports-laid (ended .phase) (ended .collection) out x a (omega (arith, ap length session-line)) k in
-      (statusLine (ended .collection), status-line-is (PageAmong id (scansOf input)) (ended .collection) (session-says .0) (session-says .1), rw session-line at l)
+      let n = status-most (reached .collection) in
+      let l = reports-laid (reached .phase) (reached .collection) out x a (omega (arith, ap length session-line)) k in
+      (statusLine (reached .collection), status-line-is (PageAmong id (scansOf input)) (reached .collection) (session-says .0) (session-says .1), rw session-line at l)
 
   -- a file of earlier scans
   module _ (ys : List (List ℕ)) (d saved y : List ℕ) (r : Answer Unit) (all : AllBytes ys) (t : length d ≡ 49664) (left : Left library id (offeredAll ys (opened d)) saved)
-      (k : Resumes (ended .phase) (ended .collection) saved y r) where
+      (k : Resumes (reached .phase) (reached .collection) saved y r) where
     taken : (r ≡ done tt) × (y ≡ collectionOf d id (scansOf input ++ ys))
     taken =
-        resumes-says (ended .phase) (ended .collection) saved y r (leaves (collectionOf d id (scansOf input ++ ys)) tt)
+        resumes-says (reached .phase) (reached .collection) saved y r (leaves (collectionOf d id (scansOf input ++ ys)) tt)
         (ap (takenUp line c input) (left-bytes library library-lawful id (offeredAll ys (opened d)) saved left) ∙ file-joined line c room size input id named d t ys all d t) k
 
     both : AllBytes (scansOf input ++ ys)
@@ -106,19 +165,19 @@ module _ (line c : List ℕ) (room : 1025 ≤ length line) (size : length c ≡ 
     file-saved : (b : Book) → BookIs (PageAmong id (scansOf input ++ ys)) b → y ≡ encode id b
     file-saved b m = taken .1 ∙ list-saved id eight d (scansOf input ++ ys) t both b m
 
-    file-printed : Prints id (PageAmong id (scansOf input ++ ys)) (answered (ended .phase) y)
+    file-printed : Prints id (PageAmong id (scansOf input ++ ys)) (answered (reached .phase) y)
     file-printed = rw (came .0, taken .1) (scans-print id eight d t (scansOf input ++ ys) both)
 
-  session-collected : Collects id (scansOf input) ended
+  session-collected : Collects id (scansOf input) reached
   session-collected = record {
     collecting = came .0;
     saved = session-saved;
     pier = pier-line;
-    pantry = λ out x a h k. (answered (ended .phase) (ended .collection), alone-prints line c room size input id named, answers-laid (ended .phase) (ended .collection) out x a h k);
+    pantry = λ out x a h k. (answered (reached .phase) (reached .collection), alone-prints line c room size input id named, answers-laid (reached .phase) (reached .collection) out x a h k);
     keeps = λ ys d saved y r all t left k. (taken ys d saved y r all t left k .0, file-saved ys d saved y r all t left k);
-    prints = λ ys d saved y r out x a all t left k h j. (answered (ended .phase) y, file-printed ys d saved y r all t left k, answers-laid (ended .phase) y out x a h j);
-    damaged = λ saved y r bad k. resumes-says (ended .phase) (ended .collection) saved y r (refuses 13) (damaged-13 line c room size input id named saved bad) k;
-    another = λ saved y r ok n k. resumes-says (ended .phase) (ended .collection) saved y r (refuses 12) (another-12 line c room size input id named saved ok n) k;
+    prints = λ ys d saved y r out x a all t left k h j. (answered (reached .phase) y, file-printed ys d saved y r all t left k, answers-laid (reached .phase) y out x a h j);
+    damaged = λ saved y r bad k. resumes-says (reached .phase) (reached .collection) saved y r (refuses 13) (damaged-13 line c room size input id named saved bad) k;
+    another = λ saved y r ok n k. resumes-says (reached .phase) (reached .collection) saved y r (refuses 12) (another-12 line c room size input id named saved ok n) k;
   }
 
 -- ---- an input that names none
@@ -144,6 +203,7 @@ module _ (line c : List ℕ) (room : 1025 ≤ length line) (input : List ℕ) (n
 pub programs : Programs
 programs = record {
   parts = record {
+    happens = runs-happen;
     same = λ ps qs line c s t e k l. run-is ps line c s k ∙ ap (session line c) e ∙ sym (run-is qs line c t l);
   };
   named = λ ps line c id t room size k e.

@@ -65,8 +65,8 @@ Resumes phase c saved x a =
     × (k .args .0 .phase ≡ phase) × (now (k .args .1 .0) ≡ saved) × (now (k .args .1 .1 .0) ≡ c) × (k .left .1 .1 .0 ≡ x) × (collection.told (k .answer) ≡ a)
 
 -- what the pantry prints
-abbrev pub Answers : ℕ → List ℕ → List ℕ → List ℕ → Answer ℕ → Type 0
-Answers phase c out x a =
+abbrev pub Shows : ℕ → List ℕ → List ℕ → List ℕ → Answer ℕ → Type 0
+Shows phase c out x a =
     (k : Call shelf-answer.Kinds.ps shelf-answer.Kinds.r shelf-answer.Reads.Learnt)
     × (k .args .0 .phase ≡ phase) × (now (k .args .1 .0) ≡ c) × (now (k .args .1 .1 .0) ≡ out) × (k .left .1 .1 .0 ≡ x) × (told (k .answer) ≡ a)
 
@@ -76,8 +76,9 @@ Laid text out x a = (a ≡ done (length text)) × (x ≡ over 0 text out)
 
 -- ---- what they say
 
--- in whatever parts the input came, the session ends the same
+-- in whatever parts the input came, the session ends the same; and it can be read in any
 pub record Parts : Type 0 where
+  pub happens : (ps : List (List ℕ)) (line c : List ℕ) → (t : At) × Runs ps line c t
   pub same : (ps qs : List (List ℕ)) (line c : List ℕ) (s t : At) → flatten ps ≡ flatten qs → Runs ps line c s → Runs qs line c t → s ≡ t
 
 -- a session t whose input names the document id and has the scans xs; line and c are the buffers that it was lent
@@ -89,13 +90,13 @@ pub record Collects (id : List ℕ) (xs : List (List ℕ)) (t : At) : Type 0 whe
   pub pier : (out x : List ℕ) (a : Answer ℕ) → 64 ≤ length out → Reports (t .phase) (t .collection) out x a
       → (line : List ℕ) × LineIs (PageAmong id xs) line × Laid line out x a
   -- the pantry without a file prints finish, or the status, of that set: 46,080 bytes are room for any
-  pub pantry : (out x : List ℕ) (a : Answer ℕ) → 46080 ≤ length out → Answers (t .phase) (t .collection) out x a
+  pub pantry : (out x : List ℕ) (a : Answer ℕ) → 46080 ≤ length out → Shows (t .phase) (t .collection) out x a
       → (text : List ℕ) × Prints id (PageAmong id xs) text × Laid text out x a
   -- with a file that holds what calls with the scans ys left: it keeps the collection of both, and prints that
   pub keeps : (ys : List (List ℕ)) (d saved y : List ℕ) (r : Answer Unit) → AllBytes ys → length d ≡ 49664 → Left library id (offeredAll ys (opened d)) saved
       → Resumes (t .phase) (t .collection) saved y r → (r ≡ done tt) × ((b : Book) → BookIs (PageAmong id (xs ++ ys)) b → y ≡ encode id b)
   pub prints : (ys : List (List ℕ)) (d saved y : List ℕ) (r : Answer Unit) (out x : List ℕ) (a : Answer ℕ) → AllBytes ys → length d ≡ 49664
-      → Left library id (offeredAll ys (opened d)) saved → Resumes (t .phase) (t .collection) saved y r → 46080 ≤ length out → Answers (t .phase) y out x a
+      → Left library id (offeredAll ys (opened d)) saved → Resumes (t .phase) (t .collection) saved y r → 46080 ≤ length out → Shows (t .phase) y out x a
       → (text : List ℕ) × Prints id (PageAmong id (xs ++ ys)) text × Laid text out x a
   -- a file that is no collection is refused with 13, one of another document with 12, and the session's collection stays
   pub damaged : (saved y : List ℕ) (r : Answer Unit) → okBook saved ≡ false → Resumes (t .phase) (t .collection) saved y r → (r ≡ failed 13) × (y ≡ t .collection)
@@ -106,7 +107,7 @@ pub record Collects (id : List ℕ) (xs : List (List ℕ)) (t : At) : Type 0 whe
 pub record Waits (c : List ℕ) (t : At) : Type 0 where
   pub unchanged : t .collection ≡ c
   pub pier : (out x : List ℕ) (a : Answer ℕ) → 64 ≤ length out → Reports (t .phase) (t .collection) out x a → Laid (refusedLine 19) out x a
-  pub pantry : (out x : List ℕ) (a : Answer ℕ) → 46080 ≤ length out → Answers (t .phase) (t .collection) out x a → Laid (refusedAt 19 0) out x a
+  pub pantry : (out x : List ℕ) (a : Answer ℕ) → 46080 ≤ length out → Shows (t .phase) (t .collection) out x a → Laid (refusedAt 19 0) out x a
   pub keeps : (saved y : List ℕ) (r : Answer Unit) → Resumes (t .phase) (t .collection) saved y r → (r ≡ failed 19) × (y ≡ t .collection)
 
 pub record Programs : Type 0 where
