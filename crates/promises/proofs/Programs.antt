@@ -27,7 +27,7 @@ use Rattle.scan.specs.Input.{documentOf, scansOf, collectionOf, new, session}
 use Rattle.scan.proofs.Inputs.{fed-append, session-collects, session-refused, all-bytes, document-eight, list-says}
 use Rattle.shelf.specs.Shelf.{resuming, answered}
 use Rattle.shelf.specs.Pantry.{takenUp, Prints}
-use Rattle.shelf.proofs.Shows.{answered-most}
+use Rattle.shelf.proofs.Answers.{answered-most}
 use Rattle.shelf.proofs.Pantry.{all-append, scans-print, alone-prints, file-joined, damaged-13, another-12, none-prints, none-19}
 use Rattle.scan.proofs.session.feed as scan-session-feed
 use Rattle.scan.proofs.session.close as scan-session-close
