@@ -13,13 +13,16 @@ use Rattle.wire.proofs.Writes.{bytes-injective}
 use Rattle.frame.specs.Frame as F
 use Rattle.frame.specs.Layout.{layout}
 use Rattle.frame.specs.Allowed.{Allowed}
+use Rattle.frame.specs.Answer as frame
 use Rattle.frame.proofs.ReadsBack.{reads-back}
 use Rattle.frame.proofs.OnlyLayouts.{only-layouts}
 use Rattle.envelope.specs.Placed.{Placed, fine, faulty, unplaced, said}
+use Rattle.frame.proofs.read as frame-read
 use Rattle.frame.proofs.lay as frame-lay
 use Rattle.promises.specs.Calls.{Call}
 use Rattle.promises.specs.Formats.{Slice, Format, Exact, Frame, frameSays, frames}
 use Rattle.promises.proofs.Writers.{slice, Stands, stands-front, wrote-done, can-write}
+use Rattle.promises.proofs.Answered.{frame-answer}
 use Rattle.promises.proofs.Links.Frame.{frame-lay-link, frame-read-link}
 
 -- ---- what all formats share
@@ -41,6 +44,7 @@ pub record Ruled (f : Format) (Form : f .Value → List ℕ → Type 0) : Type 0
   pub back : (v : f .Value) (s : List ℕ) → Form v s → (p : f .Place) × (f .read s ≡ fine p) × (f .says s p ≡ v)
   pub only : (s : List ℕ) (p : f .Place) → Slice s → f .read s ≡ fine p → Form (f .says s p) (f .counting s)
   pub form : (v : f .Value) (s t : List ℕ) → Form v s → Form v t → s ≡ t
+  pub can-read : (s : List ℕ) → (a : Answer (f .Place)) × f .Reads s a
   pub reads : (s : List ℕ) (a : Answer (f .Place)) → f .Reads s a → a ≡ said (f .read s)
   pub writes : (v : f .Value) (out x : List ℕ) (n : ℕ) → f .Writes v out x (done n) → (s : List ℕ) × Form v s × Stands s out x n
   pub write : (v : f .Value) (s : List ℕ) → Form v s → (out : List ℕ) → length s ≤ length out → f .Writes v out (over 0 s out) (done (length s))
@@ -77,7 +81,7 @@ module _ (f : Format) (Form : f .Value → List ℕ → Type 0) (w : Ruled f For
       go (faulty n place) e = (n, place, w .reads s a r ∙ ap said e)
 
   pub exact : Exact f
-  exact = record { reason = w .reads; back = exact-back; only = exact-only; form = exact-form; refused = exact-refused }
+  exact = record { happens = w .can-read; reason = w .reads; back = exact-back; only = exact-only; form = exact-form; refused = exact-refused }
 
 -- ---- frames
 
@@ -105,11 +109,15 @@ module _ (v : Frame) (s out : List ℕ) (e : s ≡ layout (v .kind) (v .id) (v .
     kept = can-write (bytes (layout (v .kind) (v .id) (v .index) (v .total) (v .contents))) s out (ap bytes (sym e)) h;
   }
 
+abbrev reading : List ℕ → Call frame-read.Kinds.ps frame-read.Kinds.r frame-read.Reads.Learnt
+reading s = record { lifetimes = ([], tt); args = (slice s, tt); answer = frame-answer s .0; left = (tt, tt); kept = frame-answer s .1 }
+
 frames-ruled : Ruled frames FrameForm
 frames-ruled = record {
   back = frame-back;
   only = frame-only;
   form = λ v s t a b. a .1 ∙ sym (b .1);
+  can-read = λ s. (said (unplaced (frame.told (frame-answer s .0))), (reading s, refl, refl));
   reads = λ s a (k, i, e). sym e ∙ ap (λ (g : Got F.Frame). said (unplaced g)) (frame-read-link k ∙ ap F.frameOf i);
   writes = λ v out x n (al, (k, a, b, c, d, g, i, j, e)).
       let t = wrote-done (bytes (layout (v .kind) (v .id) (v .index) (v .total) (v .contents))) out x n (k .answer) (rw (a, b, c, d, g, i, j) at (frame-lay-link k)) e in

@@ -1,5 +1,6 @@
 pub mod Writers
 pub mod Links
+pub mod Answered
 pub mod Formats
 pub mod Texts
 pub mod Payloads

@@ -17,7 +17,7 @@ use Rattle.wire.proofs.Writes.{passed, bytes-injective}
 use Rattle.cover.specs.Cover.{Cover, coverOf}
 use Rattle.envelope.specs.Placed.{Placed, fine, faulty, on, unplaced, said}
 use Rattle.envelope.specs.Envelope.{judged, envelopeAt, verdict}
-use Rattle.envelope.specs.Answer.{wroteTold, EnvelopeWritten}
+use Rattle.envelope.specs.Answer.{readTold, wroteTold, EnvelopeWritten}
 use Rattle.envelope.specs.declared.EnvelopeWrote.{EnvelopeWrote}
 use Rattle.envelope.specs.declared.EnvelopeWrote.the-variants as W
 use Rattle.envelope.proofs.Answers.{wrote-injective}
@@ -36,13 +36,20 @@ use Rattle.auth.proofs.Lengths.{auth-length}
 use Rattle.auth.proofs.Rounds.{auth-back, auth-only}
 use Rattle.shard.specs.Shard.{Shard, shardAt, shardVerdict}
 use Rattle.shard.proofs.Rounds.{shard-written-back, shard-again}
+use Rattle.envelope.proofs.read as envelope-read
 use Rattle.envelope.proofs.write as envelope-write
+use Rattle.manifest.proofs.read as manifest-read
 use Rattle.manifest.proofs.write as manifest-write
+use Rattle.auth.proofs.read as auth-read
 use Rattle.auth.proofs.write as auth-write
+use Rattle.shard.proofs.read as shard-read
 use Rattle.shard.proofs.write as shard-write
 use Rattle.promises.specs.Calls.{Call}
 use Rattle.promises.specs.Formats.{Slice, Exact, Enclosed, envelopes, manifestTold, manifests, Auth, auths, Share, ShardArgs, shards}
 use Rattle.promises.proofs.Writers.{slice, Stands, wrote-done, can-write}
+use Rattle.auth.specs.Answer.{claimTold}
+use Rattle.shard.specs.Answer.{shardTold}
+use Rattle.promises.proofs.Answered.{claim-answer, shard-answer, envelope-answer}
 use Rattle.promises.proofs.Formats.{unplaced-got, got-unplaced, Ruled, exact}
 use Rattle.promises.proofs.Links.Auth.{auth-read-link, auth-write-link}
 use Rattle.promises.proofs.Links.Envelope.{envelope-read-link, envelope-write-link}
@@ -102,11 +109,15 @@ module _ (v : Enclosed) (s out : List ℕ) (e : verdict (v .manifest) (v .payloa
     kept = can-enclose (verdict (v .manifest) (v .payload)) s out e h;
   }
 
+abbrev envelope-reading : List ℕ → Call envelope-read.Kinds.ps envelope-read.Kinds.r envelope-read.Reads.Learnt
+envelope-reading s = record { lifetimes = ([], tt); args = (slice s, tt); answer = envelope-answer (envelopeAt s) .0; left = (tt, tt); kept = envelope-answer (envelopeAt s) .1 }
+
 envelopes-ruled : Ruled envelopes EnvelopeForm
 envelopes-ruled = record {
   back = enclosed-back;
   only = enclosed-only;
   form = λ v s t a b. fine-one (sym (a .1) ∙ b .1);
+  can-read = λ s. (readTold (envelope-answer (envelopeAt s) .0), (envelope-reading s, refl, refl));
   reads = λ s a (k, i, e). sym e ∙ envelope-read-link k ∙ ap (λ (x : List ℕ). said (envelopeAt x)) i;
   writes = λ v out x n (l, (k, i, j, o, p, e)).
       let t = enclosed-done (verdict (v .manifest) (v .payload)) out x n (k .answer) (rw (i, j, o, p) at (envelope-write-link k)) e in
@@ -157,11 +168,15 @@ module _ (pool : List ℕ) (m : Manifest) (s out : List ℕ) (e : manifestVerdic
     kept = can-write (manifestVerdict pool m) s out e h;
   }
 
+abbrev manifest-reading : List ℕ → Call manifest-read.Kinds.ps manifest-read.Kinds.r manifest-read.Reads.Learnt
+manifest-reading s = record { lifetimes = ([], tt); args = (slice s, tt); answer = answerFor (manifestAt s); left = (tt, tt); kept = refl }
+
 manifests-ruled : Ruled manifests ManifestForm
 manifests-ruled = record {
   back = listed-back;
   only = listed-only;
   form = λ v s t a b. sym (listed-form v s a) ∙ listed-form v t b;
+  can-read = λ s. (manifestTold (answerFor (manifestAt s) .answer) (answerFor (manifestAt s) .value), (manifest-reading s, refl, refl));
   reads = λ s a (k, i, e).
       sym e
       ∙ ap (λ (r : ManifestRead). manifestTold (r .answer) (r .value)) (manifest-read-link k ∙ ap (λ (x : List ℕ). answerFor (manifestAt x)) i)
@@ -225,11 +240,15 @@ module _ (v : Auth) (s out : List ℕ) (e : AuthForm v s) (h : length s ≤ leng
     kept = can-write (authVerdict (v .public) (v .sig) (v .hash)) s out e h;
   }
 
+abbrev auth-reading : List ℕ → Call auth-read.Kinds.ps auth-read.Kinds.r auth-read.Reads.Learnt
+auth-reading s = record { lifetimes = ([], tt); args = (slice s, tt); answer = claim-answer (authAt s) .0; left = (tt, tt); kept = claim-answer (authAt s) .1 }
+
 auths-ruled : Ruled auths AuthForm
 auths-ruled = record {
   back = signed-back;
   only = signed-only;
   form = λ v s t a b. bytes-injective (sym a ∙ b);
+  can-read = λ s. (said (unplaced (claimTold (claim-answer (authAt s) .0))), (auth-reading s, refl, refl));
   reads = λ s a (k, i, e). sym e ∙ ap (λ (g : Got Claim). said (unplaced g)) (auth-read-link k ∙ ap authAt i);
   writes = λ v out x n (k, i, j, g, o, p, e).
       wrote-done (authVerdict (v .public) (v .sig) (v .hash)) out x n (k .answer) (rw (i, j, g, o, p) at (auth-write-link k)) e;
@@ -286,11 +305,15 @@ module _ (v : Share) (s out : List ℕ) (e : ShardForm v s) (h : length s ≤ le
     index-is = refl;
   }
 
+abbrev shard-reading : List ℕ → Call shard-read.Kinds.ps shard-read.Kinds.r shard-read.Reads.Learnt
+shard-reading s = record { lifetimes = ([], tt); args = (slice s, tt); answer = shard-answer (shardAt s) .0; left = (tt, tt); kept = shard-answer (shardAt s) .1 }
+
 shards-ruled : Ruled shards ShardForm
 shards-ruled = record {
   back = share-back;
   only = share-only;
   form = λ v s t a b. bytes-injective (sym a ∙ b);
+  can-read = λ s. (said (unplaced (shardTold (shard-answer (shardAt s) .0))), (shard-reading s, refl, refl));
   reads = λ s a (k, i, e). sym e ∙ ap (λ (g : Got Shard). said (unplaced g)) (shard-read-link k ∙ ap shardAt i);
   writes = λ v out x n (k, g, o, p, e).
       wrote-done (verdictOf v) out x n (k .answer)

@@ -8,7 +8,7 @@ use lib.ListN.{length}
 use Rattle.wire.specs.Answer.{Answer, done}
 use Rattle.wire.specs.Number.{Bytes}
 use Rattle.wire.specs.Over.{over}
-use Rattle.wire.specs.Writing.{Verdict, bytes, fault, told, Written}
+use Rattle.wire.specs.Writing.{Verdict, bytes, fault, roomed, told, after, Written}
 use Rattle.wire.specs.declared.Wrote.{Wrote}
 use Rattle.wire.specs.declared.Wrote.the-variants.{Done, Refused}
 use Rattle.wire.proofs.Writes.{bytes-injective, refused-why}
@@ -16,11 +16,14 @@ use Rattle.text.specs.Text.{Form, base64, zbase32, readText, textOf, kept}
 use Rattle.text.proofs.Forms.{Lawful, base64-lawful, zbase32-lawful}
 use Rattle.text.proofs.Round.{read-written, written-read, text-short}
 use Rattle.envelope.specs.Placed.{fine, said}
+use Rattle.text.proofs.base64_read as text-base64-read
 use Rattle.text.proofs.base64_write as text-base64-write
+use Rattle.text.proofs.zbase32_read as text-zbase32-read
 use Rattle.text.proofs.zbase32_write as text-zbase32-write
 use Rattle.promises.specs.Calls.{Call}
 use Rattle.promises.specs.Formats.{Exact, textRead, textSaid, texts, scans, typing}
 use Rattle.promises.proofs.Writers.{slice, stands-front, wrote-done, can-write}
+use Rattle.promises.proofs.Answered.{can-answer}
 use Rattle.promises.proofs.Formats.{Ruled, exact}
 use Rattle.promises.proofs.Links.Text.{text-base64-read-link, text-base64-write-link, text-zbase32-read-link, text-zbase32-write-link}
 
@@ -39,6 +42,7 @@ module _ (f : Form) (law : Lawful f) (s out x : List ℕ) (h : length s ≤ leng
 module _ (f : Form) (law : Lawful f) (Reader Writer : List ℕ → List ℕ → List ℕ → Answer ℕ → Type 0)
     (reader : (s out x : List ℕ) (a : Answer ℕ) → Reader s out x a → (r : Wrote) × Written 0 (readText f s) out x r × (told r ≡ a))
     (writer : (s out x : List ℕ) (a : Answer ℕ) → Writer s out x a → (r : Wrote) × Written 0 (bytes (textOf f s)) out x r × (told r ≡ a))
+    (read : (s : List ℕ) → (x : List ℕ) × (a : Answer ℕ) × Reader s s x a)
     (write : (s out : List ℕ) → length (textOf f s) ≤ length out → Writer s out (over 0 (textOf f s) out) (done (length (textOf f s)))) where
   abbrev TextForm : List ℕ → List ℕ → Type 0
   TextForm v s = Bytes v × (s ≡ textOf f v)
@@ -52,6 +56,7 @@ module _ (f : Form) (law : Lawful f) (Reader Writer : List ℕ → List ℕ → 
     back = λ v s (y, e). (v, ap (λ (x : List ℕ). textRead (readText f x)) e ∙ ap textRead (read-written f law v y), refl);
     only = λ s p y e. let w = written-read f law s p (read-bytes (readText f s) p e) in (w .1, w .0);
     form = λ v s t a b. a .1 ∙ sym (b .1);
+    can-read = λ s. let r = read s in (textSaid (r .1) (r .0), (s, r .0, r .1, r .2, omega arith, refl));
     reads = λ s a (out, x, r, k, h, e). let t = reader s out x r k in sym e ∙ text-said f law s out x h (t .0) r (t .1) (t .2);
     writes = λ v out x n (y, k).
         let t = writer v out x (done n) k in
@@ -64,6 +69,15 @@ module _ (f : Form) (law : Lawful f) (Reader Writer : List ℕ → List ℕ → 
   texts-exact = exact (texts f Reader Writer) TextForm texts-ruled
 
 module _ (s out : List ℕ) where
+  abbrev base64-reading : Call text-base64-read.Kinds.ps text-base64-read.Kinds.r text-base64-read.Reads.Learnt
+  base64-reading = record {
+    lifetimes = ([], ([], tt));
+    args = (slice s, (slice out, tt));
+    answer = can-answer (readText base64 s) out .0;
+    left = (tt, (after 0 out (roomed 0 out (readText base64 s)), tt));
+    kept = can-answer (readText base64 s) out .1;
+  }
+
   abbrev base64-writing : length (textOf base64 s) ≤ length out → Call text-base64-write.Kinds.ps text-base64-write.Kinds.r text-base64-write.Reads.Learnt
   base64-writing h = record {
     lifetimes = ([], ([], tt));
@@ -71,6 +85,15 @@ module _ (s out : List ℕ) where
     answer = Done (length (textOf base64 s));
     left = (tt, (over 0 (textOf base64 s) out, tt));
     kept = can-write (bytes (textOf base64 s)) (textOf base64 s) out refl h;
+  }
+
+  abbrev zbase32-reading : Call text-zbase32-read.Kinds.ps text-zbase32-read.Kinds.r text-zbase32-read.Reads.Learnt
+  zbase32-reading = record {
+    lifetimes = ([], ([], tt));
+    args = (slice s, (slice out, tt));
+    answer = can-answer (readText zbase32 s) out .0;
+    left = (tt, (after 0 out (roomed 0 out (readText zbase32 s)), tt));
+    kept = can-answer (readText zbase32 s) out .1;
   }
 
   abbrev zbase32-writing : length (textOf zbase32 s) ≤ length out → Call text-zbase32-write.Kinds.ps text-zbase32-write.Kinds.r text-zbase32-write.Reads.Learnt
@@ -87,6 +110,7 @@ scans-exact =
     texts-exact base64 base64-lawful _ _
     (λ s out x a (k, i, j, l, e). (k .answer, rw (i, j, l) at (text-base64-read-link k), e))
     (λ s out x a (k, i, j, l, e). (k .answer, rw (i, j, l) at (text-base64-write-link k), e))
+    (λ s. (after 0 s (roomed 0 s (readText base64 s)), told (can-answer (readText base64 s) s .0), (base64-reading s s, refl, refl, refl, refl)))
     (λ s out h. (base64-writing s out h, refl, refl, refl, refl))
 
 pub typing-exact : Exact typing
@@ -94,4 +118,5 @@ typing-exact =
     texts-exact zbase32 zbase32-lawful _ _
     (λ s out x a (k, i, j, l, e). (k .answer, rw (i, j, l) at (text-zbase32-read-link k), e))
     (λ s out x a (k, i, j, l, e). (k .answer, rw (i, j, l) at (text-zbase32-write-link k), e))
+    (λ s. (after 0 s (roomed 0 s (readText zbase32 s)), told (can-answer (readText zbase32 s) s .0), (zbase32-reading s s, refl, refl, refl, refl)))
     (λ s out h. (zbase32-writing s out h, refl, refl, refl, refl))

@@ -66,6 +66,8 @@ pub record Format : Type 1 where
   pub Writes : Value → List ℕ → List ℕ → Answer ℕ → Type 0
 
 pub record Exact (f : Format) : Type 0 where
+  -- nothing below is said of calls that cannot be: the reader can be called on any bytes
+  pub happens : (s : List ℕ) → (a : Answer (f .Place)) × f .Reads s a
   -- whatever is read, the reader's answer is the one that 01 defines: accepted with this value, or refused with this number and place
   pub reason : (s : List ℕ) (a : Answer (f .Place)) → f .Reads s a → a ≡ said (f .read s)
   -- what is written reads back equal
