@@ -7,10 +7,11 @@ use native.Mathlib.Omega.{arith}
 use lib.ListN.{take}
 use Rattle.wire.specs.Answer.{choose, Answer}
 use Rattle.state.specs.Complete.{Counted, nothing, has, lacks}
+use Rattle.block.specs.Read.{readSlot}
 use Rattle.book.specs.Read.{idOf, totalIn, pageAt, okAt, okBook}
 use Rattle.closing.specs.Mend.{badPages, mended, repair, BadAt, Mends}
 use Rattle.closing.proofs.Mending.{bad-more}
-use Rattle.closing.proofs.Mends.{unmended, refused, mended-count, mended-front, mended-kept, mended-absent, mended-ok}
+use Rattle.closing.proofs.Mends.{unmended, refused, mended-count, mended-front, mended-kept, mended-absent, mended-held, mended-ok}
 
 -- the number of bad blocks counts them
 bad-counted : (c : List ℕ) (n : ℕ) → Counted (BadAt c) n (badPages (idOf c) (totalIn c) 0 n c)
@@ -44,4 +45,7 @@ mend-says c x a p o = record {
   empties = λ h k l b. ap (pageAt k) o ∙ mended-absent c h k l b;
   keeps = λ h k l n. ap (pageAt k) o ∙ mended-kept c h k l (not-bad c k n);
   leaves = λ h. ap okBook o ∙ mended-ok c h;
+  nothing-new = λ h k d l e.
+      let m = mended-held c h k d l (ap (λ (b : List ℕ). readSlot (pageAt k b)) (sym o) ∙ e) in
+      ((λ f. false≢true (sym f ∙ m .0)), m .1);
 }

@@ -5,9 +5,10 @@ use mathlib.Core.Bool.{true, false}
 use mathlib.Core.List.{List, [], _++_}
 use lib.ListN.{take}
 use Rattle.wire.specs.Answer.{choose, Answer, done, failed}
-use Rattle.state.specs.State.{absent}
+use Rattle.state.specs.State.{absent, held}
 use Rattle.state.specs.Complete.{Counted}
 use Rattle.block.specs.Block.{pageBlock}
+use Rattle.block.specs.Read.{readSlot}
 use Rattle.book.specs.Head.{hasHead}
 use Rattle.book.specs.Read.{idOf, totalIn, pageAt, okAt, okBook}
 use Rattle.closing.specs.declared.Mended.{Mended}
@@ -54,3 +55,5 @@ pub record Mends (c x : List ℕ) (a : Answer ℕ) : Type 0 where
   pub empties : hasHead c ≡ true → (k : ℕ) → k < 96 → BadAt c k → pageAt k x ≡ pageBlock (idOf c) k absent
   pub keeps : hasHead c ≡ true → (k : ℕ) → k < 96 → (BadAt c k → ⊥) → pageAt k x ≡ pageAt k c
   pub leaves : hasHead c ≡ true → okBook x ≡ true
+  -- data that it holds stood in a block that was well formed, and was not changed
+  pub nothing-new : hasHead c ≡ true → (k : ℕ) (d : List ℕ) → k < 96 → readSlot (pageAt k x) ≡ held d → (BadAt c k → ⊥) × (readSlot (pageAt k c) ≡ held d)

@@ -1,7 +1,7 @@
 -- What both interfaces to a collection keep to: the bytes that 01's definitions give, finish's answer, and that every call can be made. Assumes nothing.
 use mathlib.Core.Path.{_≡_, refl, sym, ap, _∙_}
 use mathlib.Core.Bool.{true}
-use mathlib.Core.List.{List, []}
+use mathlib.Core.List.{List}
 use Prim.Native.Nat.{ℕ, _/_, _%_, _≤_, _<_}
 use native.Mathlib.Omega.{arith}
 use borrow.Author.Tests.{ne-eqb}
@@ -31,9 +31,8 @@ use Rattle.phone.proofs.stilt_open as phone-stilt-open
 use Rattle.phone.proofs.stilt_offer as phone-stilt-offer
 use Rattle.phone.proofs.stilt_join as phone-stilt-join
 use Rattle.phone.proofs.stilt_finish as phone-stilt-finish
-use Rattle.promises.specs.Calls.{Call}
 use Rattle.promises.specs.Collecting.{Interface, library, phone}
-use Rattle.promises.proofs.Writers.{slice}
+use Rattle.promises.proofs.Writers.{secondLent, firstLent}
 use Rattle.promises.proofs.Links.Closing.{closing-finish-link}
 use Rattle.promises.proofs.Links.Collection.{collection-join-link, collection-offer-link, collection-open-link}
 use Rattle.promises.proofs.Links.Phone.{phone-stilt-finish-link, phone-stilt-join-link, phone-stilt-offer-link, phone-stilt-open-link}
@@ -64,44 +63,6 @@ ended : (v : Finish) → (r : Finished) × (told r ≡ outcome v)
 ended (whole d) = (F.Done _, refl)
 ended (lacking e k) = (F.Refused e k, refl)
 
--- a call of open or join, and of offer, whose contract holds: it left what its decision says
-module _ (s c : List ℕ) where
-  abbrev opening-call : Call collection-open.Kinds.ps collection-open.Kinds.r collection-open.Reads.Learnt
-  opening-call = record {
-    lifetimes = ([], ([], tt));
-    args = (slice s, (slice c, tt));
-    answer = answered (opening s c) .0;
-    left = (tt, (bytesAfter c (opening s c), tt));
-    kept = record { answer = answered (opening s c) .1; bytes = refl };
-  }
-
-  abbrev joining-call : Call collection-join.Kinds.ps collection-join.Kinds.r collection-join.Reads.Learnt
-  joining-call = record {
-    lifetimes = ([], ([], tt));
-    args = (slice c, (slice s, tt));
-    answer = answered (joining c s) .0;
-    left = (bytesAfter c (joining c s), (tt, tt));
-    kept = record { answer = answered (joining c s) .1; bytes = refl };
-  }
-
-  abbrev offering-call : Call collection-offer.Kinds.ps collection-offer.Kinds.r collection-offer.Reads.Learnt
-  offering-call = record {
-    lifetimes = ([], ([], tt));
-    args = (slice c, (slice s, tt));
-    answer = kind (offering c s) .0;
-    left = (bytesAfter c (offering c s), (tt, tt));
-    kept = record { answer = kind (offering c s) .1; bytes = refl };
-  }
-
-  abbrev finishing-call : Call closing-finish.Kinds.ps closing-finish.Kinds.r closing-finish.Reads.Learnt
-  finishing-call = record {
-    lifetimes = ([], ([], tt));
-    args = (slice c, (slice s, tt));
-    answer = ended (finished c s) .0;
-    left = (tt, (after s (finished c s), tt));
-    kept = record { answer = ended (finished c s) .1; output = refl };
-  }
-
 pub library-lawful : Lawful library
 library-lawful = record {
   opens = λ id c x (k, i, j, l). sym l ∙ collection-open-link k .bytes ∙ rw (i, j);
@@ -110,10 +71,22 @@ library-lawful = record {
   finishes = λ S c out x a ok m (k, i, j, l, e).
       let w = closing-finish-link k in
       (sym e ∙ w .answer ∙ rw (i, j), sym l ∙ w .output ∙ rw (i, j));
-  can-open = λ id c. (bytesAfter c (opening id c), (opening-call id c, refl, refl, refl));
-  can-offer = λ c raw. (bytesAfter c (offering c raw), (offering-call raw c, refl, refl, refl));
-  can-join = λ c o. (bytesAfter c (joining c o), (joining-call o c, refl, refl, refl));
-  can-finish = λ c out. (after out (finished c out), told (ended (finished c out) .0), (finishing-call out c, refl, refl, refl, refl));
+  can-open = λ id c.
+      let r = answered (opening id c) in
+      let x : List ℕ = bytesAfter c (opening id c) in
+      (x, (secondLent collection-open.Kinds.r collection-open.Reads.Learnt id c x (r .0) (record { answer = r .1; bytes = refl }), refl, refl, refl));
+  can-offer = λ c raw.
+      let r = kind (offering c raw) in
+      let x : List ℕ = bytesAfter c (offering c raw) in
+      (x, (firstLent collection-offer.Kinds.r collection-offer.Reads.Learnt c raw x (r .0) (record { answer = r .1; bytes = refl }), refl, refl, refl));
+  can-join = λ c o.
+      let r = answered (joining c o) in
+      let x : List ℕ = bytesAfter c (joining c o) in
+      (x, (firstLent collection-join.Kinds.r collection-join.Reads.Learnt c o x (r .0) (record { answer = r .1; bytes = refl }), refl, refl, refl));
+  can-finish = λ c out.
+      let r = ended (finished c out) in
+      let x : List ℕ = after out (finished c out) in
+      (x, told (r .0), (secondLent closing-finish.Kinds.r closing-finish.Reads.Learnt c out x (r .0) (record { answer = r .1; output = refl }), refl, refl, refl, refl));
 }
 
 -- ---- the functions for C
@@ -128,43 +101,6 @@ finish-apart (lacking n k) h =
     let b = h n k refl in
     apart (packed n k 0) n k 0 (omega arith) (omega arith) (omega arith) ∙ rw (ne-eqb n 0 (λ e. omega (arith, e)))
 
-module _ (s c : List ℕ) where
-  abbrev stilt-opening : Call phone-stilt-open.Kinds.ps phone-stilt-open.Kinds.r phone-stilt-open.Reads.Learnt
-  stilt-opening = record {
-    lifetimes = ([], ([], tt));
-    args = (slice s, (slice c, tt));
-    answer = packedAnswer (answerOf (opening s c));
-    left = (tt, (bytesAfter c (opening s c), tt));
-    kept = (refl, refl);
-  }
-
-  abbrev stilt-joining : Call phone-stilt-join.Kinds.ps phone-stilt-join.Kinds.r phone-stilt-join.Reads.Learnt
-  stilt-joining = record {
-    lifetimes = ([], ([], tt));
-    args = (slice c, (slice s, tt));
-    answer = packedAnswer (answerOf (joining c s));
-    left = (bytesAfter c (joining c s), (tt, tt));
-    kept = (refl, refl);
-  }
-
-  abbrev stilt-offering : Call phone-stilt-offer.Kinds.ps phone-stilt-offer.Kinds.r phone-stilt-offer.Reads.Learnt
-  stilt-offering = record {
-    lifetimes = ([], ([], tt));
-    args = (slice c, (slice s, tt));
-    answer = packedKind (answerOf (offering c s));
-    left = (bytesAfter c (offering c s), (tt, tt));
-    kept = (refl, refl);
-  }
-
-  abbrev stilt-finishing : Call phone-stilt-finish.Kinds.ps phone-stilt-finish.Kinds.r phone-stilt-finish.Reads.Learnt
-  stilt-finishing = record {
-    lifetimes = ([], ([], tt));
-    args = (slice c, (slice s, tt));
-    answer = packedFinish (outcome (finished c s));
-    left = (tt, (after s (finished c s), tt));
-    kept = (refl, refl);
-  }
-
 pub phone-lawful : Lawful phone
 phone-lawful = record {
   opens = λ id c x (k, i, j, l). sym l ∙ phone-stilt-open-link k .1 ∙ rw (i, j);
@@ -174,8 +110,17 @@ phone-lawful = record {
       let w = phone-stilt-finish-link k in
       let n : k .answer ≡ packedFinish (outcome (finished c out)) = w .0 ∙ rw (i, j) in
       (sym e ∙ ap finishIn n ∙ finish-apart (finished c out) (finish-bytes S c out ok m), sym l ∙ w .1 ∙ rw (i, j));
-  can-open = λ id c. (bytesAfter c (opening id c), (stilt-opening id c, refl, refl, refl));
-  can-offer = λ c raw. (bytesAfter c (offering c raw), (stilt-offering raw c, refl, refl, refl));
-  can-join = λ c o. (bytesAfter c (joining c o), (stilt-joining o c, refl, refl, refl));
-  can-finish = λ c out. (after out (finished c out), finishIn (packedFinish (outcome (finished c out))), (stilt-finishing out c, refl, refl, refl, refl));
+  can-open = λ id c.
+      let x : List ℕ = bytesAfter c (opening id c) in
+      (x, (secondLent phone-stilt-open.Kinds.r phone-stilt-open.Reads.Learnt id c x (packedAnswer (answerOf (opening id c))) (refl, refl), refl, refl, refl));
+  can-offer = λ c raw.
+      let x : List ℕ = bytesAfter c (offering c raw) in
+      (x, (firstLent phone-stilt-offer.Kinds.r phone-stilt-offer.Reads.Learnt c raw x (packedKind (answerOf (offering c raw))) (refl, refl), refl, refl, refl));
+  can-join = λ c o.
+      let x : List ℕ = bytesAfter c (joining c o) in
+      (x, (firstLent phone-stilt-join.Kinds.r phone-stilt-join.Reads.Learnt c o x (packedAnswer (answerOf (joining c o))) (refl, refl), refl, refl, refl));
+  can-finish = λ c out.
+      let x : List ℕ = after out (finished c out) in
+      let n : ℕ = packedFinish (outcome (finished c out)) in
+      (x, finishIn n, (secondLent phone-stilt-finish.Kinds.r phone-stilt-finish.Reads.Learnt c out x n (refl, refl), refl, refl, refl, refl));
 }

@@ -2,7 +2,7 @@
 use Prim.Native.Nat.{ℕ, _≤_}
 use mathlib.Core.Path.{_≡_, refl, sym, ap, _∙_}
 use mathlib.Core.Logic.{⊎-elim}
-use mathlib.Core.List.{List, []}
+use mathlib.Core.List.{List}
 use native.Mathlib.Omega.{arith}
 use lib.ListN.{length}
 use Rattle.wire.specs.Answer.{Answer, done}
@@ -12,7 +12,7 @@ use Rattle.wire.specs.Writing.{Verdict, bytes, fault, roomed, told, after, Writ
 use Rattle.wire.specs.declared.Wrote.{Wrote}
 use Rattle.wire.specs.declared.Wrote.the-variants.{Done, Refused}
 use Rattle.wire.proofs.Writes.{bytes-injective, refused-why}
-use Rattle.text.specs.Text.{Form, base64, zbase32, readText, textOf, kept}
+use Rattle.text.specs.Text.{Form, base64, zbase32, readText, textOf}
 use Rattle.text.proofs.Forms.{Lawful, base64-lawful, zbase32-lawful}
 use Rattle.text.proofs.Round.{read-written, written-read, text-short}
 use Rattle.envelope.specs.Placed.{fine, said}
@@ -20,9 +20,8 @@ use Rattle.text.proofs.base64_read as text-base64-read
 use Rattle.text.proofs.base64_write as text-base64-write
 use Rattle.text.proofs.zbase32_read as text-zbase32-read
 use Rattle.text.proofs.zbase32_write as text-zbase32-write
-use Rattle.promises.specs.Calls.{Call}
 use Rattle.promises.specs.Formats.{Exact, textRead, textSaid, texts, scans, typing}
-use Rattle.promises.proofs.Writers.{slice, stands-front, wrote-done, can-write}
+use Rattle.promises.proofs.Writers.{secondLent, stands-front, wrote-done, can-write}
 use Rattle.promises.proofs.Answered.{can-answer}
 use Rattle.promises.proofs.Formats.{Ruled, exact}
 use Rattle.promises.proofs.Links.Text.{text-base64-read-link, text-base64-write-link, text-zbase32-read-link, text-zbase32-write-link}
@@ -68,55 +67,28 @@ module _ (f : Form) (law : Lawful f) (Reader Writer : List ℕ → List ℕ → 
   texts-exact : Exact (texts f Reader Writer)
   texts-exact = exact (texts f Reader Writer) TextForm texts-ruled
 
-module _ (s out : List ℕ) where
-  abbrev base64-reading : Call text-base64-read.Kinds.ps text-base64-read.Kinds.r text-base64-read.Reads.Learnt
-  base64-reading = record {
-    lifetimes = ([], ([], tt));
-    args = (slice s, (slice out, tt));
-    answer = can-answer (readText base64 s) out .0;
-    left = (tt, (after 0 out (roomed 0 out (readText base64 s)), tt));
-    kept = can-answer (readText base64 s) out .1;
-  }
-
-  abbrev base64-writing : length (textOf base64 s) ≤ length out → Call text-base64-write.Kinds.ps text-base64-write.Kinds.r text-base64-write.Reads.Learnt
-  base64-writing h = record {
-    lifetimes = ([], ([], tt));
-    args = (slice s, (slice out, tt));
-    answer = Done (length (textOf base64 s));
-    left = (tt, (over 0 (textOf base64 s) out, tt));
-    kept = can-write (bytes (textOf base64 s)) (textOf base64 s) out refl h;
-  }
-
-  abbrev zbase32-reading : Call text-zbase32-read.Kinds.ps text-zbase32-read.Kinds.r text-zbase32-read.Reads.Learnt
-  zbase32-reading = record {
-    lifetimes = ([], ([], tt));
-    args = (slice s, (slice out, tt));
-    answer = can-answer (readText zbase32 s) out .0;
-    left = (tt, (after 0 out (roomed 0 out (readText zbase32 s)), tt));
-    kept = can-answer (readText zbase32 s) out .1;
-  }
-
-  abbrev zbase32-writing : length (textOf zbase32 s) ≤ length out → Call text-zbase32-write.Kinds.ps text-zbase32-write.Kinds.r text-zbase32-write.Reads.Learnt
-  zbase32-writing h = record {
-    lifetimes = ([], ([], tt));
-    args = (slice s, (slice out, tt));
-    answer = Done (length (textOf zbase32 s));
-    left = (tt, (over 0 (textOf zbase32 s) out, tt));
-    kept = can-write (bytes (textOf zbase32 s)) (textOf zbase32 s) out refl h;
-  }
-
 pub scans-exact : Exact scans
 scans-exact =
     texts-exact base64 base64-lawful _ _
     (λ s out x a (k, i, j, l, e). (k .answer, rw (i, j, l) at (text-base64-read-link k), e))
     (λ s out x a (k, i, j, l, e). (k .answer, rw (i, j, l) at (text-base64-write-link k), e))
-    (λ s. (after 0 s (roomed 0 s (readText base64 s)), told (can-answer (readText base64 s) s .0), (base64-reading s s, refl, refl, refl, refl)))
-    (λ s out h. (base64-writing s out h, refl, refl, refl, refl))
+    (λ s.
+    let r = can-answer (readText base64 s) s in
+    let x : List ℕ = after 0 s (roomed 0 s (readText base64 s)) in
+    (x, told (r .0), (secondLent text-base64-read.Kinds.r text-base64-read.Reads.Learnt s s x (r .0) (r .1), refl, refl, refl, refl)))
+    (λ s out h.
+    let t : List ℕ = textOf base64 s in
+    (secondLent text-base64-write.Kinds.r text-base64-write.Reads.Learnt s out (over 0 t out) (Done (length t)) (can-write (bytes t) t out refl h), refl, refl, refl, refl))
 
 pub typing-exact : Exact typing
 typing-exact =
     texts-exact zbase32 zbase32-lawful _ _
     (λ s out x a (k, i, j, l, e). (k .answer, rw (i, j, l) at (text-zbase32-read-link k), e))
     (λ s out x a (k, i, j, l, e). (k .answer, rw (i, j, l) at (text-zbase32-write-link k), e))
-    (λ s. (after 0 s (roomed 0 s (readText zbase32 s)), told (can-answer (readText zbase32 s) s .0), (zbase32-reading s s, refl, refl, refl, refl)))
-    (λ s out h. (zbase32-writing s out h, refl, refl, refl, refl))
+    (λ s.
+    let r = can-answer (readText zbase32 s) s in
+    let x : List ℕ = after 0 s (roomed 0 s (readText zbase32 s)) in
+    (x, told (r .0), (secondLent text-zbase32-read.Kinds.r text-zbase32-read.Reads.Learnt s s x (r .0) (r .1), refl, refl, refl, refl)))
+    (λ s out h.
+    let t : List ℕ = textOf zbase32 s in
+    (secondLent text-zbase32-write.Kinds.r text-zbase32-write.Reads.Learnt s out (over 0 t out) (Done (length t)) (can-write (bytes t) t out refl h), refl, refl, refl, refl))

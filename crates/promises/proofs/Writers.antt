@@ -1,12 +1,15 @@
 -- What a call that writes says, and that it can be made. Assumes nothing.
 use mathlib.Core.Path.{_≡_, refl, sym, _∙_}
-use mathlib.Core.List.{List}
+use mathlib.Core.List.{List, []}
 use Prim.Native.Nat.{ℕ, _≤_}
 use native.Mathlib.Nat.{zero-add}
 use native.Mathlib.Omega.{arith}
 use borrow.Author.Tests.{le-leb}
 use lib.ListN.{length, take}
+use contract.Lifetimes.{Lfts}
 use denote.Ref.{RefT}
+use denote.Triple.Clauses.{atExit}
+use borrow.Fn.Kinds.{RK, Out, resT, endedOf}
 use Rattle.wire.specs.Answer.{Answer, done}
 use Rattle.wire.specs.Over.{over}
 use Rattle.wire.specs.Writing.{Verdict, bytes, told, Written}
@@ -14,6 +17,9 @@ use Rattle.wire.specs.declared.Wrote.{Wrote}
 use Rattle.wire.specs.declared.Wrote.the-variants.{Done}
 use Rattle.wire.proofs.Overs.{read-over}
 use Rattle.wire.proofs.Writes.{told-injective, done-stood, written}
+use Rattle.text.proofs.base64_write as text-base64-write
+use Rattle.collection.proofs.offer as collection-offer
+use Rattle.promises.specs.Calls.{Call}
 
 -- a slice that holds given bytes, somewhere
 abbrev pub slice : List ℕ → RefT (List ℕ)
@@ -46,3 +52,16 @@ written-room s out x a h r w e =
 -- the answer and the output of a writer that has room
 pub can-write : (v : Verdict) (s out : List ℕ) → v ≡ bytes s → length s ≤ length out → Written 0 v out (over 0 s out) (Done (length s))
 can-write v s out e h = rw e (written 0 out s (over 0 s out) (length s) (omega arith) refl refl)
+
+-- ---- a call of a function of two slices, of which one is lent to be written: what was passed, left and answered, and that its contract holds of that
+
+abbrev both : Lfts 2
+both = ([], ([], tt))
+
+abbrev pub secondLent : (r : RK 2) (contract : Out 2 text-base64-write.Kinds.ps r) (s c x : List ℕ) (a : resT r both .Denot)
+    → contract both (slice s, (slice c, tt)) a (atExit (endedOf 2 text-base64-write.Kinds.ps r) both (slice s, (slice c, tt)) (tt, (x, tt))) → Call text-base64-write.Kinds.ps r contract
+secondLent r contract s c x a k = record { lifetimes = both; args = (slice s, (slice c, tt)); answer = a; left = (tt, (x, tt)); kept = k }
+
+abbrev pub firstLent : (r : RK 2) (contract : Out 2 collection-offer.Kinds.ps r) (c s x : List ℕ) (a : resT r both .Denot)
+    → contract both (slice c, (slice s, tt)) a (atExit (endedOf 2 collection-offer.Kinds.ps r) both (slice c, (slice s, tt)) (x, (tt, tt))) → Call collection-offer.Kinds.ps r contract
+firstLent r contract c s x a k = record { lifetimes = both; args = (slice c, (slice s, tt)); answer = a; left = (x, (tt, tt)); kept = k }

@@ -5,6 +5,7 @@ use mathlib.Core.Path.{_≡_}
 use mathlib.Core.List.{List}
 use lib.ListN.{length, take}
 use denote.Ref.{now}
+use borrow.Fn.Kinds.{Out}
 use Rattle.wire.specs.Answer.{Answer, done}
 use Rattle.wire.specs.Number.{Bytes}
 use Rattle.wire.specs.Writing.{told}
@@ -27,23 +28,20 @@ ReadAs f s v = (a : Answer (f .Place)) → f .Reads s a → (p : f .Place) × (a
 abbrev pub Printing : Type 1
 Printing = List ℕ → ℕ → ℕ → List ℕ → List ℕ → Answer ℕ → Type 0
 
-abbrev pub Framed : Printing
-Framed c size i out x a =
-    (k : Call page-write.Kinds.ps page-write.Kinds.r page-write.Reads.Learnt)
+abbrev pub PageCall : Out 2 page-write.Kinds.ps page-write.Kinds.r → Printing
+PageCall contract c size i out x a =
+    (k : Call page-write.Kinds.ps page-write.Kinds.r contract)
     × (now (k .args .0) ≡ c) × (k .args .1 .0 ≡ size) × (k .args .1 .1 .0 ≡ i) × (now (k .args .1 .1 .1 .0) ≡ out) × (k .left .1 .1 .1 .0 ≡ x)
     × (told (k .answer) ≡ a)
+
+abbrev pub Framed : Printing
+Framed = PageCall page-write.Reads.Learnt
 
 abbrev pub Scanned : Printing
-Scanned c size i out x a =
-    (k : Call page-write-base64.Kinds.ps page-write-base64.Kinds.r page-write-base64.Reads.Learnt)
-    × (now (k .args .0) ≡ c) × (k .args .1 .0 ≡ size) × (k .args .1 .1 .0 ≡ i) × (now (k .args .1 .1 .1 .0) ≡ out) × (k .left .1 .1 .1 .0 ≡ x)
-    × (told (k .answer) ≡ a)
+Scanned = PageCall page-write-base64.Reads.Learnt
 
 abbrev pub Typed : Printing
-Typed c size i out x a =
-    (k : Call page-write-zbase32.Kinds.ps page-write-zbase32.Kinds.r page-write-zbase32.Reads.Learnt)
-    × (now (k .args .0) ≡ c) × (k .args .1 .0 ≡ size) × (k .args .1 .1 .0 ≡ i) × (now (k .args .1 .1 .1 .0) ≡ out) × (k .left .1 .1 .1 .0 ≡ x)
-    × (told (k .answer) ≡ a)
+Typed = PageCall page-write-zbase32.Reads.Learnt
 
 -- which frame page i is
 abbrev pub pageOf : List ℕ → ℕ → ℕ → Frame
@@ -65,15 +63,16 @@ pub record Pages (c : List ℕ) (size : ℕ) : Type 0 where
 
 -- ---- key and auth frames
 
-abbrev pub Keyed : List ℕ → List ℕ → List ℕ → List ℕ → Answer ℕ → Type 0
-Keyed id contents out x a =
-    (k : Call slip-key.Kinds.ps slip-key.Kinds.r slip-key.Reads.Learnt)
+abbrev pub SlipCall : Out 3 slip-key.Kinds.ps slip-key.Kinds.r → List ℕ → List ℕ → List ℕ → List ℕ → Answer ℕ → Type 0
+SlipCall contract id contents out x a =
+    (k : Call slip-key.Kinds.ps slip-key.Kinds.r contract)
     × (now (k .args .0) ≡ id) × (now (k .args .1 .0) ≡ contents) × (now (k .args .1 .1 .0) ≡ out) × (k .left .1 .1 .0 ≡ x) × (told (k .answer) ≡ a)
 
+abbrev pub Keyed : List ℕ → List ℕ → List ℕ → List ℕ → Answer ℕ → Type 0
+Keyed = SlipCall slip-key.Reads.Learnt
+
 abbrev pub Signed : List ℕ → List ℕ → List ℕ → List ℕ → Answer ℕ → Type 0
-Signed id contents out x a =
-    (k : Call slip-auth.Kinds.ps slip-auth.Kinds.r slip-auth.Reads.Learnt)
-    × (now (k .args .0) ≡ id) × (now (k .args .1 .0) ≡ contents) × (now (k .args .1 .1 .0) ≡ out) × (k .left .1 .1 .0 ≡ x) × (told (k .answer) ≡ a)
+Signed = SlipCall slip-auth.Reads.Learnt
 
 -- a frame that stands alone: the first of one
 abbrev pub slipOf : ℕ → List ℕ → List ℕ → Frame

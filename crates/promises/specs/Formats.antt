@@ -5,6 +5,7 @@ use mathlib.Core.Path.{_≡_}
 use mathlib.Core.List.{List}
 use lib.ListN.{length, take, drop}
 use denote.Ref.{now}
+use borrow.Fn.Kinds.{Out}
 use Rattle.wire.specs.Answer.{Answer, reply, with, none, done, failed, failedAt}
 use Rattle.wire.specs.Number.{Bytes}
 use Rattle.wire.specs.Over.{over}
@@ -135,25 +136,17 @@ texts f Reader Writer = record {
   Writes = λ v out x a. Bytes v × Writer v out x a;
 }
 
+-- a call of any of the four functions: all take a slice and are lent one
+abbrev pub TextCall : Out 2 text-base64-read.Kinds.ps text-base64-read.Kinds.r → List ℕ → List ℕ → List ℕ → Answer ℕ → Type 0
+TextCall contract s out x a =
+    (k : Call text-base64-read.Kinds.ps text-base64-read.Kinds.r contract)
+    × (now (k .args .0) ≡ s) × (now (k .args .1 .0) ≡ out) × (k .left .1 .0 ≡ x) × (told (k .answer) ≡ a)
+
 abbrev pub scans : Format
-scans =
-    texts base64
-    (λ s out x a.
-    (k : Call text-base64-read.Kinds.ps text-base64-read.Kinds.r text-base64-read.Reads.Learnt)
-    × (now (k .args .0) ≡ s) × (now (k .args .1 .0) ≡ out) × (k .left .1 .0 ≡ x) × (told (k .answer) ≡ a))
-    (λ s out x a.
-    (k : Call text-base64-write.Kinds.ps text-base64-write.Kinds.r text-base64-write.Reads.Learnt)
-    × (now (k .args .0) ≡ s) × (now (k .args .1 .0) ≡ out) × (k .left .1 .0 ≡ x) × (told (k .answer) ≡ a))
+scans = texts base64 (TextCall text-base64-read.Reads.Learnt) (TextCall text-base64-write.Reads.Learnt)
 
 abbrev pub typing : Format
-typing =
-    texts zbase32
-    (λ s out x a.
-    (k : Call text-zbase32-read.Kinds.ps text-zbase32-read.Kinds.r text-zbase32-read.Reads.Learnt)
-    × (now (k .args .0) ≡ s) × (now (k .args .1 .0) ≡ out) × (k .left .1 .0 ≡ x) × (told (k .answer) ≡ a))
-    (λ s out x a.
-    (k : Call text-zbase32-write.Kinds.ps text-zbase32-write.Kinds.r text-zbase32-write.Reads.Learnt)
-    × (now (k .args .0) ≡ s) × (now (k .args .1 .0) ≡ out) × (k .left .1 .0 ≡ x) × (told (k .answer) ≡ a))
+typing = texts zbase32 (TextCall text-zbase32-read.Reads.Learnt) (TextCall text-zbase32-write.Reads.Learnt)
 
 -- ---- the envelope
 

@@ -81,7 +81,7 @@ pub record Parts : Type 0 where
   pub happens : (ps : List (List ℕ)) (line c : List ℕ) → (t : At) × Runs ps line c t
   pub same : (ps qs : List (List ℕ)) (line c : List ℕ) (s t : At) → flatten ps ≡ flatten qs → Runs ps line c s → Runs qs line c t → s ≡ t
 
--- a session t whose input names the document id and has the scans xs; line and c are the buffers that it was lent
+-- a session t whose input names the document id and has the scans xs
 pub record Collects (id : List ℕ) (xs : List (List ℕ)) (t : At) : Type 0 where
   -- it has collected the set of the good pages among its scans
   pub collecting : t .phase ≡ 1

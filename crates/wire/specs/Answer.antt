@@ -41,6 +41,6 @@ done a = reply 0 0 (with a)
 abbrev pub failedAt : {A : Type 0} → ℕ → ℕ → Answer A
 failedAt e place = reply e place none
 
--- "only 15, 16 and 21 return one, otherwise it is 0"
+-- the place is 0 for every refusal but 15, 16 and 21
 abbrev pub failed : {A : Type 0} → ℕ → Answer A
 failed e = failedAt e 0
