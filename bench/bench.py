@@ -11,6 +11,7 @@ import re
 import shutil
 import subprocess
 import sys
+import tempfile
 import zlib
 
 import counting
@@ -20,6 +21,9 @@ sys.path.insert(0, os.path.join(ROOT, "tests"))
 from second import answers, forms  # noqa: E402
 
 FUNCTIONS = ("crc32", "sha256", "blake2b", "base64_write", "base64_read")
+
+# What the plain side has besides: the checksum as ours was made before Ticket 2.
+BIT_BY_BIT = "crc32_bits"
 
 # Each library, the name to link it by, and the functions that it is the peer for.
 PEERS = {
@@ -54,12 +58,12 @@ def build(output, sources, *more, **options):
     return output if done.returncode == 0 else None
 
 
-def archive(crate):
+def archive(crate, root):
     """A crate's archive, proved and built where it is lacking or older than a source."""
-    path = os.path.join(ROOT, "target", "staticlib", f"lib{crate}.a")
-    sources = glob.glob(os.path.join(ROOT, "crates", "*", "src", "**", "*.rt"), recursive=True)
+    path = os.path.join(root, "target", "staticlib", f"lib{crate}.a")
+    sources = glob.glob(os.path.join(root, "crates", "*", "src", "**", "*.rt"), recursive=True)
     if not os.path.exists(path) or os.path.getmtime(path) < max(map(os.path.getmtime, sources)):
-        done = subprocess.run(["rt", "staticlib", crate], cwd=ROOT, text=True, check=False,
+        done = subprocess.run(["rt", "staticlib", crate], cwd=root, text=True, check=False,
                               capture_output=True)
         if done.returncode != 0:
             raise SystemExit(f"rt staticlib {crate} failed: {done.stderr.strip()[-300:]}")
@@ -73,14 +77,16 @@ def build_plain(folder):
     return build(os.path.join(folder, "plain"), sources)
 
 
-def build_ours(folder):
-    """Our side."""
-    return build(os.path.join(folder, "ours"), ["functions.c", "ours.c"], archive("speed"))
+def build_ours(folder, root=ROOT):
+    """Our side, as it is in a checkout: this one if no other is named."""
+    output = tempfile.mkstemp(prefix="ours", dir=folder)[1]
+    return build(output, ["functions.c", "ours.c"], archive("speed", root))
 
 
-def build_jobs(folder):
-    """The jobs, over the phone's library."""
-    return build(os.path.join(folder, "jobs"), ["jobs.c"], archive("phone"), archive("speed"))
+def build_jobs(folder, root=ROOT):
+    """The jobs, over the phone's library of a checkout."""
+    output = tempfile.mkstemp(prefix="jobs", dir=folder)[1]
+    return build(output, ["jobs.c"], archive("phone", root), archive("speed", root))
 
 
 def build_peer(folder, library):
@@ -127,8 +133,14 @@ def read_text(text):
         return b""
 
 
+def checksum(data):
+    """The checksum by Python's zlib."""
+    return zlib.crc32(data).to_bytes(4, "big")
+
+
 RIGHT = {
-    "crc32": lambda data: zlib.crc32(data).to_bytes(4, "big"),
+    "crc32": checksum,
+    BIT_BY_BIT: checksum,
     "sha256": lambda data: hashlib.sha256(data).digest(),
     "blake2b": lambda data: hashlib.blake2b(data, digest_size=32).digest(),
     "base64_write": forms.base64_write,

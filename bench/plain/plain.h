@@ -5,8 +5,9 @@
 #include <stddef.h>
 #include <stdint.h>
 
-/* CRC-32/ISO-HDLC, four bytes, big-endian. */
+/* CRC-32/ISO-HDLC, four bytes, big-endian: by a table, and bit by bit. */
 void plain_crc32(const uint8_t *data, size_t length, uint8_t out[4]);
+void plain_crc32_bits(const uint8_t *data, size_t length, uint8_t out[4]);
 
 /* SHA-256 of FIPS 180-4, 32 bytes. */
 void plain_sha256(const uint8_t *data, size_t length, uint8_t out[32]);
