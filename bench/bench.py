@@ -79,13 +79,13 @@ def build_plain(folder):
 
 def build_ours(folder, root=ROOT):
     """Our side, as it is in a checkout: this one if no other is named."""
-    output = tempfile.mkstemp(prefix="ours", dir=folder)[1]
+    output = os.path.join(tempfile.mkdtemp(dir=folder), "ours")
     return build(output, ["functions.c", "ours.c"], archive("speed", root))
 
 
 def build_jobs(folder, root=ROOT):
     """The jobs, over the phone's library of a checkout."""
-    output = tempfile.mkstemp(prefix="jobs", dir=folder)[1]
+    output = os.path.join(tempfile.mkdtemp(dir=folder), "jobs")
     return build(output, ["jobs.c"], archive("phone", root), archive("speed", root))
 
 
