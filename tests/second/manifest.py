@@ -17,6 +17,7 @@ MOST_FILES = 64
 MOST_PATH = 200
 MOST_SIZE = 2**32 - 1
 LOW, HIGH = -2**63, 2**63 - 1
+NO_NAMES = {b"", b".", b".."}
 
 File = namedtuple("File", "hash path size mtime")
 Manifest = namedtuple("Manifest", "seed files sealed created")
@@ -26,13 +27,13 @@ Manifest = namedtuple("Manifest", "seed files sealed created")
 
 
 def path_allowed(path):
-    """UTF-8, 1 to 200 bytes, no leading `/`, only code points below U+0300."""
+    """UTF-8 below U+0300 in 1 to 200 bytes, none 00; each part a name (02, Ticket 6)."""
     try:
         letters = path.decode("utf-8", errors="strict")
     except UnicodeDecodeError:
         return False
-    return (1 <= len(path) <= MOST_PATH and not letters.startswith("/")
-            and all(ord(letter) < 0x300 for letter in letters))
+    return (1 <= len(path) <= MOST_PATH and all(0 < ord(letter) < 0x300 for letter in letters)
+            and NO_NAMES.isdisjoint(path.split(b"/")))
 
 
 def judge_path(path, before):

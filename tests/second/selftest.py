@@ -3,10 +3,12 @@
 import base64
 import hashlib
 import os
+import posixpath
 import random
 import sys
 import tempfile
 from collections import defaultdict
+from itertools import product
 
 from . import cases, collection, compare, desk, envelope, forms, frames, manifest, payloads, sums
 from .answers import Refusal
@@ -241,6 +243,9 @@ def bounds_of_manifests():
 
     for length, number in ((0, 20), (1, 0), (200, 0), (201, 20)):
         same(judged(plain._replace(files=(entry._replace(path=b"p" * length),))), number)
+    for path, number in ((b"lists/../../pier", 20), (b"..", 20), (b"a/.", 20), (b"a/", 20), (b"/a", 20),
+                         (b"a//a", 20), (b"a\0", 20), (b"..a", 0), (b"a..", 0), (b"...", 0), (b".a", 0)):
+        same(judged(plain._replace(files=(entry._replace(path=path),))), number)
     for count, number in ((0, 19), (1, 0), (64, 0), (65, 19)):
         files = tuple(entry._replace(path=b"%02d" % i) for i in range(count))
         same(judged(plain._replace(files=files)), number)
@@ -251,6 +256,15 @@ def bounds_of_manifests():
         same(judged(plain._replace(files=(entry._replace(size=size),))), number)
     for target, number in ((16383, 0), (16384, 0), (16385, 9)):
         same(judged(plain._replace(files=samples.sized_files(target, plain))), number)
+
+
+@check
+def paths_stay_where_a_system_puts_them():
+    """Of slashes, dots and letters those are allowed that a system's own reading below a folder leaves as they stand."""
+    for length in range(9):
+        for path in map(bytes, product(b"/.a", repeat=length)):
+            below = b"/folder/" + path
+            same(manifest.path_allowed(path), posixpath.normpath(below) == below, path)
 
 
 @check

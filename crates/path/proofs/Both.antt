@@ -18,4 +18,8 @@ pub second-fails : (t u : Bool) → u ≡ false → (t && u) ≡ false
 second-fails true u e = e
 second-fails false u e = refl
 
+pub and-true : (t : Bool) → (t && true) ≡ t
+and-true true = refl
+and-true false = refl
+
 pub ruleset tests = (choose-yes, choose-no, both-hold, first-fails, second-fails, lt-ltb, le-ltb, le-leb, lt-leb, eq-eqb, ne-eqb)

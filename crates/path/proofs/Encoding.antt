@@ -13,7 +13,7 @@ use Rattle.wire.specs.Number.{Bytes}
 use Rattle.wire.proofs.Cases.{lt-or-le}
 use Rattle.path.specs.Utf8.{outside, leads, follows, joined, twoBytes, codePoints}
 use Rattle.path.specs.Order.{below}
-use Rattle.path.specs.Path.{within}
+use Rattle.path.specs.Every.{every, within}
 use Rattle.path.proofs.Both.{both, tests}
 use Rattle.path.proofs.Orders.{Compared, less, same, more, compared, below-less, below-more, below-same, below-front, below-asymmetric}
 use Rattle.path.proofs.Points.{points-one, points-two, points-cut}
@@ -29,13 +29,13 @@ utf8 (c ∷ cs) = utf8Point c ++ utf8 cs
 -- ---- tests and facts
 
 pub within-cons : (n c : ℕ) (cs : List ℕ) → within n (c ∷ cs) ≡ true → (c < n) × (within n cs ≡ true)
-unfolding within
+unfolding every
 within-cons n c cs e =
     let p = both (ltb c n) (within n cs) e in
     (ltb-true c n (p .0), p .1)
 
 pub within-more : (m n : ℕ) → m ≤ n → (cs : List ℕ) → within m cs ≡ true → within n cs ≡ true
-unfolding within
+unfolding every
 within-more m n h [] e = refl
 within-more m n h (c ∷ cs) e =
     let p = within-cons m c cs e in

@@ -1,5 +1,8 @@
 pub mod Both
+pub mod Every
 pub mod Orders
 pub mod Points
 pub mod Encoding
+pub mod Names
+pub mod Walks
 pub mod Paths

@@ -1,36 +1,47 @@
 -- What every caller may know of an allowed path without looking into the rule. Assumes nothing.
-use mathlib.Core.Path.{_≡_, sym, subst, ap, ap₂, _∙_}
-use mathlib.Core.Bool.{true, not}
-use mathlib.Core.List.{List}
-use Prim.Native.Nat.{ℕ, _≤_}
+use mathlib.Core.Path.{_≡_, refl, sym, subst, ap, ap₂, _∙_}
+use mathlib.Core.Bool.{true, false, not}
+use mathlib.Core.List.{List, [], _∷_, _++_}
+use Prim.Native.Nat.{ℕ, _+_, _≤_, _<_}
+use native.Mathlib.Omega.{arith}
 use lib.Dec.{leb, eqb, lit≤}
-use lib.ListN.{length, getD}
-use borrow.Author.Tests.{leb-true, eqb-false, not-true}
+use lib.ListN.{length}
+use borrow.Author.Tests.{leb-true, le-leb}
 use Rattle.wire.specs.Number.{Bytes}
+use Rattle.path.specs.Every.{every, within, without}
 use Rattle.path.specs.Utf8.{codePoints}
 use Rattle.path.specs.Order.{below}
-use Rattle.path.specs.Path.{pathLeast, pathMost, within, plainText, pathAllowed}
-use Rattle.path.proofs.Both.{both}
+use Rattle.path.specs.Names.{slash, parts, slashed, isName, staysBelow}
+use Rattle.path.specs.Path.{pathLeast, pathMost, plainText, pathAllowed}
+use Rattle.path.proofs.Both.{both, tests}
+use Rattle.path.proofs.Every.{every-fails}
 use Rattle.path.proofs.Encoding.{within-more, utf8, utf8-decoded, decoded-utf8, utf8-bytes, utf8-below}
+use Rattle.path.proofs.Names.{joined-parts, parts-joined, parts-append, parts-some}
+use Rattle.path.proofs.Walks.{names-stay}
 
 module _ (s : List ℕ) (ok : pathAllowed s ≡ true) where
-  tests-passed : (leb pathLeast (length s) ≡ true) × (leb (length s) pathMost ≡ true) × (not (eqb (getD s 0 0) 0x2F) ≡ true) × (plainText s ≡ true)
+  tests-passed : (leb pathLeast (length s) ≡ true) × (leb (length s) pathMost ≡ true) × (plainText s ≡ true) × (every isName (parts s) ≡ true) × (without 0 s ≡ true)
   unfolding pathAllowed
   tests-passed =
       let p = both (leb pathLeast (length s)) _ ok in
       let q = both (leb (length s) pathMost) _ (p .1) in
-      let r = both (not (eqb (getD s 0 0) 0x2F)) (plainText s) (q .1) in
-      (p .0, q .0, r .0, r .1)
+      let r = both (plainText s) _ (q .1) in
+      let t = both (every isName (parts s)) (without 0 s) (r .1) in
+      (p .0, q .0, r .0, t .0, t .1)
 
   pub allowed-length : (pathLeast ≤ length s) × (length s ≤ pathMost)
   allowed-length = (leb-true pathLeast (length s) (tests-passed .0), leb-true (length s) pathMost (tests-passed .1))
 
-  pub allowed-start : getD s 0 0 ≡ 0x2F → ⊥
-  allowed-start = eqb-false (getD s 0 0) 0x2F (not-true (eqb (getD s 0 0) 0x2F) (tests-passed .2))
-
   pub allowed-points : within 0x300 (codePoints s) ≡ true
   unfolding plainText
-  allowed-points = tests-passed .3
+  allowed-points = tests-passed .2
+
+  pub allowed-names : every isName (parts s) ≡ true
+  allowed-names = tests-passed .3
+
+  -- taken below any folder, an allowed path stays below it (n is 0), and so below any folder that lies n higher
+  pub allowed-stays-below : (n : ℕ) → staysBelow n (parts s) ≡ true
+  allowed-stays-below n = names-stay n (parts s) allowed-names (omega (arith, parts-some [] s))
 
   small-points : within 0x800 (codePoints s) ≡ true
   small-points = within-more 0x300 0x800 (lit≤ tt) (codePoints s) allowed-points
@@ -41,6 +52,36 @@ module _ (s : List ℕ) (ok : pathAllowed s ≡ true) where
 
   pub allowed-bytes : Bytes s
   allowed-bytes = subst (λ (l : List ℕ). Bytes l) allowed-utf8 (utf8-bytes (codePoints s) small-points)
+
+-- ---- which texts are allowed, and which are not
+
+-- of a plain text that is as long as it may be and has names for parts byte 00 decides
+pub zero-decides : (s : List ℕ) → pathLeast ≤ length s → length s ≤ pathMost → plainText s ≡ true → every isName (parts s) ≡ true
+    → pathAllowed s ≡ without 0 s
+unfolding pathAllowed
+zero-decides s l m p e = rw (le-leb pathLeast (length s) l, le-leb (length s) pathMost m, p, e)
+
+-- names joined by slashes are a path, if they are plain and not too long
+pub joined-allowed : (p : List ℕ) (ps : List (List ℕ)) → every (without slash) (p ∷ ps) ≡ true → every isName (p ∷ ps) ≡ true
+    → pathLeast ≤ length (slashed (p ∷ ps)) → length (slashed (p ∷ ps)) ≤ pathMost → plainText (slashed (p ∷ ps)) ≡ true
+    → without 0 (slashed (p ∷ ps)) ≡ true → pathAllowed (slashed (p ∷ ps)) ≡ true
+joined-allowed p ps apart names l m plain z =
+    zero-decides (slashed (p ∷ ps)) l m plain (ap (every isName) (parts-joined p ps apart) ∙ names) ∙ z
+
+module _ (s : List ℕ) where
+  -- one part that is no name is enough, wherever it stands
+  pub part-refused : (ps : List (List ℕ)) (q : List ℕ) (qs : List (List ℕ)) → parts s ≡ ps ++ (q ∷ qs) → isName q ≡ false → pathAllowed s ≡ false
+  unfolding pathAllowed
+  part-refused ps q qs e n =
+      let names = ap (every isName) e ∙ every-fails isName ps q qs n in
+      search tests
+
+  -- so is one byte 00
+  pub zero-refused : (t : List ℕ) → pathAllowed (s ++ (0 ∷ t)) ≡ false
+  unfolding pathAllowed
+  zero-refused t =
+      let zero = every-fails (λ (c : ℕ). not (eqb c 0)) s 0 t refl in
+      search tests
 
 -- and every text of code points below U+0300 is plain, so the rule leaves no such text out
 pub plain-utf8 : (cs : List ℕ) → within 0x300 cs ≡ true → plainText (utf8 cs) ≡ true

@@ -10,8 +10,9 @@ use lib.ListN.{length, drop, getD, drop-of-length-le}
 use lib.Seq.{drop-cons}
 use borrow.Author.Tests.{lt-ltb, le-ltb}
 use Rattle.path.specs.Utf8.{outside, oneByte, twoBytes, codePoints}
-use Rattle.path.specs.Path.{within, plainText}
-use Rattle.path.specs.Parts.{Spans}
+use Rattle.path.specs.Every.{every, within}
+use Rattle.path.specs.Path.{plainText}
+use Rattle.path.specs.Spans.{Spans}
 
 -- ---- the code point in front
 
@@ -33,11 +34,11 @@ points-cut a h = rw (le-ltb a 0x80 h)
 
 module _ (n c : ℕ) (cs : List ℕ) where
   pub within-on : c < n → within n (c ∷ cs) ≡ within n cs
-  unfolding within
+  unfolding every
   within-on h = rw (lt-ltb c n h)
 
   pub within-out : n ≤ c → within n (c ∷ cs) ≡ false
-  unfolding within
+  unfolding every
   within-out h = rw (le-ltb c n h)
 
 -- ---- at index i of a text
@@ -84,5 +85,5 @@ module _ (s : List ℕ) (i : ℕ) where
   plain-stop {r} w h = rw (le-ltb 0 r (omega arith)) at (w .decides)
 
   pub plain-end : length s ≤ i → plainText (drop i s) ≡ true
-  unfolding plainText codePoints within
+  unfolding plainText codePoints every
   plain-end h = rw (drop-of-length-le s {i = i} h)

@@ -1,4 +1,6 @@
+pub mod Every
 pub mod Utf8
 pub mod Order
+pub mod Names
 pub mod Path
-pub mod Parts
+pub mod Spans

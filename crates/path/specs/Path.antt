@@ -1,27 +1,25 @@
--- The path rule: document 01, "CBOR payloads" and "House sizes". `pathAllowed` is its one definition.
+-- The path rule: document 01, "CBOR payloads" and "House sizes", narrowed by document 02, Ticket 6. `pathAllowed` is its one definition.
 use Prim.Native.Nat.{ℕ}
-use mathlib.Core.Bool.{Bool, true, not, _&&_}
-use mathlib.Core.List.{List, [], _∷_}
-use lib.Dec.{ltb, leb, eqb}
-use lib.ListN.{length, getD}
+use mathlib.Core.Bool.{Bool, _&&_}
+use mathlib.Core.List.{List}
+use lib.Dec.{leb}
+use lib.ListN.{length}
+use Rattle.path.specs.Every.{every, within, without}
 use Rattle.path.specs.Utf8.{codePoints}
+use Rattle.path.specs.Names.{parts, isName}
 
--- "path 1 to 200 bytes"
+-- how many bytes it may have
 abbrev pub pathLeast : ℕ
 pathLeast = 1
 
 abbrev pub pathMost : ℕ
 pathMost = 200
 
--- each is below n
-unfoldable pub within : ℕ → List ℕ → Bool
-within n [] = true
-within n (c ∷ cs) = ltb c n && within n cs
-
--- "UTF-8, .. only code points below U+0300"
+-- UTF-8 of code points below U+0300
 unfoldable pub plainText : List ℕ → Bool
 plainText s = within 0x300 (codePoints s)
 
--- "not empty, no leading `/`"
+-- as long as it may be, plain text, each part of it a name, and no byte of it 00
 unfoldable pub pathAllowed : List ℕ → Bool
-pathAllowed s = leb pathLeast (length s) && (leb (length s) pathMost && (not (eqb (getD s 0 0) 0x2F) && plainText s))
+pathAllowed s =
+    leb pathLeast (length s) && (leb (length s) pathMost && (plainText s && (every isName (parts s) && without 0 s)))

@@ -1,11 +1,13 @@
-// Which paths a manifest may name, and their order: document 01, "CBOR payloads" and "House sizes".
+// Which paths a manifest may name, and their order: document 01, "CBOR payloads" and "House sizes"; document 02, Ticket 6.
 ghost use mathlib.Core.Path.{_≡_};
 ghost use Prim.Native.Nat.{_<_};
 ghost use lib.ListN.{length};
 ghost use Rattle.path.specs.Utf8.{twoBytes};
 ghost use Rattle.path.specs.Order.{below};
+ghost use Rattle.path.specs.Every.{every, without};
+ghost use Rattle.path.specs.Names.{parts, isName};
 ghost use Rattle.path.specs.Path.{plainText, pathAllowed};
-ghost use Rattle.path.specs.Parts.{Spans};
+ghost use Rattle.path.specs.Spans.{Spans};
 
 // How many bytes a path has. A reader judges its length by these before the bytes are there.
 pub const LEAST: u64 = 1;
@@ -74,6 +76,57 @@ fn plain(s: &[u8]) -> bool
     true
 }
 
+// Whether a part names something: it is not empty, not `.` and not `..`.
+fn is_name(p: &[u8]) -> bool
+    ensures { λ r. ⌜ r ≡ isName (now (p .entry)) ⌝ }
+{
+    if 2 < p.len() {
+        return true;
+    }
+    if p.len() == 0 {
+        return false;
+    }
+    if p[0] != b'.' {
+        return true;
+    }
+    if p.len() == 1 {
+        return false;
+    }
+    p[1] != b'.'
+}
+
+// Whether each part of s is a name.
+fn are_names(s: &[u8]) -> bool
+    ensures { λ r. ⌜ r ≡ every isName (parts (now (s .entry))) ⌝ }
+{
+    let mut from = 0;
+    let mut to = 0;
+    while to < s.len() {
+        if s[to] == b'/' {
+            if !is_name(&s[from..to]) {
+                return false;
+            }
+            from = to + 1;
+        }
+        to += 1;
+    }
+    is_name(&s[from..])
+}
+
+// Whether byte b is nowhere in s.
+fn lacks(s: &[u8], b: u8) -> bool
+    ensures { λ r. ⌜ r ≡ without b (now (s .entry)) ⌝ }
+{
+    let mut at = 0;
+    while at < s.len() {
+        if s[at] == b {
+            return false;
+        }
+        at += 1;
+    }
+    true
+}
+
 // Whether s is a path that a manifest may name.
 pub fn allowed(s: &[u8]) -> bool
     ensures { λ r. ⌜ r ≡ pathAllowed (now (s .entry)) ⌝ }
@@ -85,10 +138,13 @@ pub fn allowed(s: &[u8]) -> bool
     if MOST < n {
         return false;
     }
-    if s[0] == b'/' {
+    if !plain(s) {
         return false;
     }
-    plain(s)
+    if !are_names(s) {
+        return false;
+    }
+    lacks(s, 0)
 }
 
 // Whether b may follow a in a manifest: a is strictly below b by bytes.

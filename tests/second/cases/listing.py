@@ -1,6 +1,6 @@
 """Calls of the manifest and envelope verbs (01, "CBOR payloads")."""
 
-from itertools import product
+from itertools import chain, product
 
 from ..cbor import ARRAY
 from ..envelope import envelope_bytes
@@ -60,10 +60,24 @@ def paths(rng):
         yield b"p" * (length - 1) + b"\xc3"
 
 
+def parted_paths():
+    """Paths by their parts: a part that is no name in every place, and names that look like one."""
+    yield from (bytes(path) for n in range(7) for path in product(b"/.a", repeat=n))
+    names = [b"a", b"..a", b"a..", b"...", b".a", b"\xc3\xa9", b"\xcb\xbf", b"\xc3\xa9.", b".\xc3\xa9"]
+    bad = [b"", b".", b"..", b"\0", b"a\0", b"\0a", b"\xc3", b"\xa9", b"\xcc\x80"]
+    for part, name in product(bad + names, names):
+        for parts in ((part,), (part, name), (name, part, name), (name, part),
+                      (name, name, part, part), (part, name, part)):
+            yield b"/".join(parts)
+    for length, end in product((199, 200, 201), [b"/" + part for part in bad + names] + [b"\0"]):
+        yield b"p" * (length - len(end)) + end
+        yield end[1:] + b"/" + b"p" * (length - len(end))
+
+
 def path_lines(rng):
     """Each path alone; pairs and triples in and out of order."""
     good = plain(rng)
-    for path in paths(rng):
+    for path in chain(paths(rng), parted_paths()):
         yield from both(good._replace(files=(File(bytes(32), path, 0, None),)))
     names = [b"a", b"a/b", b"a0", b"aa", b"b", b"B", "\u00e9".encode("utf-8"), b"z", b"/z", b"",
              "\u0300".encode("utf-8")]
@@ -172,6 +186,13 @@ def manifest_edges(rng):
         yield from single(part(rng))
 
 
+def some_parts(rng):
+    """A few short parts, names or not, with slashes between them."""
+    part = (lambda: "".join(rng.choices("..a\u00e9", k=rng.choice((0, 1, 1, 2, 2, 3, 5)))))
+    path = "/".join(part() for _ in range(rng.choice((1, 2, 2, 3, 5)))).encode("utf-8")
+    return path if rng.random() < 0.9 else damaged(rng, path)
+
+
 def some_fault(rng, manifest):
     """One value of a manifest changed."""
     place = rng.randrange(len(manifest.files))
@@ -179,6 +200,7 @@ def some_fault(rng, manifest):
     changed = rng.choice((
         entry._replace(hash=damaged(rng, entry.hash)),
         entry._replace(path=damaged(rng, entry.path)),
+        entry._replace(path=some_parts(rng)),
         entry._replace(size=rng.choice((2**32 - 1, 2**32, 2**64 - 1))), entry))
     files = manifest.files[:place] + (changed,) + manifest.files[place + 1:]
     if rng.random() < 0.3:
@@ -260,7 +282,8 @@ def faulty(rng):
     entry = manifest.files[0]
     faults = [manifest._replace(sealed=not manifest.sealed), manifest._replace(files=()),
               manifest._replace(created=("f", b"\xff" * 8))]
-    for changes in ({"hash": bytes(31)}, {"path": b"/a"}, {"path": b""}, {"size": 2**32}):
+    for changes in ({"hash": bytes(31)}, {"path": b"/a"}, {"path": b""}, {"size": 2**32},
+                    {"path": b"a/../../b"}, {"path": b"a/"}, {"path": b"a//b"}, {"path": b"a\0"}):
         faults.append(manifest._replace(files=(entry._replace(**changes),)))
     for bad in faults:
         yield from ((bad, payload), (bad, payload + b"x"))

@@ -1,6 +1,6 @@
 """Good payloads by chance, and payloads of any values."""
 
-from ..manifest import File, Manifest, manifest_pairs
+from ..manifest import File, Manifest, manifest_pairs, path_allowed
 from ..payloads import TYPES, Auth, Shard, auth_pairs, encode, shard_pairs
 from ..sums import sha256
 
@@ -36,7 +36,7 @@ def some_path(rng):
     while True:
         count = rng.choice((1, 2, 5, 9, rng.randrange(1, 24), rng.randrange(1, 100)))
         path = "".join(rng.choices(LETTERS, k=count)).encode("utf-8")
-        if not path.startswith(b"/"):
+        if path_allowed(path):
             return path
 
 

@@ -186,6 +186,22 @@ def manifest_values():
                    is_="18")
 
 
+def manifest_parts():
+    yield note("02, Ticket 6: a part that is empty, `.` or `..` is 20 wherever it stands, byte 00 too")
+    bad = [b"lists/../../pier", b"a\0", b"\0a", b"a\0b", b"\0", b"a/\0"]
+    for part in (b"", b".", b".."):
+        bad += [part, part + b"/a", b"a/" + part + b"/a", b"a/" + part, b"\xc3\xa9/" + part]
+        bad += [b"p" * (n - 1 - len(part)) + b"/" + part for n in (199, 200, 201)]
+    for path in bad:
+        yield reading(one_file(path=path), is_="20")
+        yield writing(one_file(path=path), 0, is_="20")
+    yield note("dots in a name, UTF-8 beside a slash and 200 bytes pass")
+    for path in (b"..a", b"a..", b"...", b".a", b"a/..a/...", b"\xc3\xa9/\xcb\xbf", b"a/" * 99 + b"bc"):
+        manifest = one_file(path=path)
+        yield reading(manifest)
+        yield writing(manifest, 500, is_=f"0 {manifest_payload(manifest).hex()}")
+
+
 def manifest_files():
     yield note("a size of 2^32 - 1 passes, 2^32 is 19, a negative one 19")
     yield reading(one_file(size=2**32 - 1))
@@ -197,9 +213,10 @@ def manifest_files():
                  b"\xed\xa0\x80"):
         yield reading(one_file(path=path), is_="20")
         yield writing(one_file(path=path), 0, is_="20")
-    for path in (b"\xcb\xbf", b"p" * 200, b"a/../b", b"\x00", b"p" * 23, b"p" * 24):
+    for path in (b"\xcb\xbf", b"p" * 200, b"p" * 23, b"p" * 24):
         yield reading(one_file(path=path))
         yield writing(one_file(path=path), 500)
+    yield from manifest_parts()
     yield note("paths not above the one before: equal, lower, a beginning of it")
     for pair in ((b"a", b"a"), (b"b", b"a"), (b"aa", b"a"), (b"\xc3\xa9", b"z")):
         files = tuple(file._replace(path=path) for file, path in zip(FILES, pair))
@@ -265,6 +282,9 @@ def envelope():
     yield call("envelope-read", envelope_bytes(b"\xa5", b"x")[:-1], is_="3")
     bad_path = manifest_payload(one_file(path=b"/"))
     yield call("envelope-read", envelope_bytes(bad_path, b"x"), is_="20")
+    climbing = manifest_payload(one_file(path=b"lists/../../pier"))
+    yield call("envelope-read", envelope_bytes(climbing, b"hello"), is_="20")
+    yield call("envelope-write", climbing, b"hello", 1000, is_="20")
     yield call("envelope-write", manifest_payload(one_file(size=2**32)), b"x", 0, is_="19")
     yield call("envelope-write", b"\xff" * 16385, b"", 0, is_="9")
 
