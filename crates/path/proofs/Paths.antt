@@ -2,7 +2,7 @@
 use mathlib.Core.Path.{_≡_, refl, sym, subst, ap, ap₂, _∙_}
 use mathlib.Core.Bool.{true, false, not}
 use mathlib.Core.List.{List, [], _∷_, _++_}
-use Prim.Native.Nat.{ℕ, _+_, _≤_, _<_}
+use Prim.Native.Nat.{ℕ, _≤_}
 use native.Mathlib.Omega.{arith}
 use lib.Dec.{leb, eqb, lit≤}
 use lib.ListN.{length}
@@ -11,12 +11,12 @@ use Rattle.wire.specs.Number.{Bytes}
 use Rattle.path.specs.Every.{every, within, without}
 use Rattle.path.specs.Utf8.{codePoints}
 use Rattle.path.specs.Order.{below}
-use Rattle.path.specs.Names.{slash, parts, slashed, isName, staysBelow}
+use Rattle.path.specs.Names.{slash, partsAfter, parts, slashed, isName, staysBelow}
 use Rattle.path.specs.Path.{pathLeast, pathMost, plainText, pathAllowed}
 use Rattle.path.proofs.Both.{both, tests}
 use Rattle.path.proofs.Every.{every-fails}
 use Rattle.path.proofs.Encoding.{within-more, utf8, utf8-decoded, decoded-utf8, utf8-bytes, utf8-below}
-use Rattle.path.proofs.Names.{joined-parts, parts-joined, parts-append, parts-some}
+use Rattle.path.proofs.Names.{part-ends, parts-joined, parts-append, parts-some, name-empty}
 use Rattle.path.proofs.Walks.{names-stay}
 
 module _ (s : List ℕ) (ok : pathAllowed s ≡ true) where
@@ -68,22 +68,30 @@ pub joined-allowed : (p : List ℕ) (ps : List (List ℕ)) → every (without sl
 joined-allowed p ps apart names l m plain z =
     zero-decides (slashed (p ∷ ps)) l m plain (ap (every isName) (parts-joined p ps apart) ∙ names) ∙ z
 
-module _ (s : List ℕ) where
-  -- one part that is no name is enough, wherever it stands
-  pub part-refused : (ps : List (List ℕ)) (q : List ℕ) (qs : List (List ℕ)) → parts s ≡ ps ++ (q ∷ qs) → isName q ≡ false → pathAllowed s ≡ false
-  unfolding pathAllowed
-  part-refused ps q qs e n =
-      let names = ap (every isName) e ∙ every-fails isName ps q qs n in
-      search tests
+-- one part that is no name is enough to refuse a text, wherever it stands
+pub part-refused : (s : List ℕ) (ps : List (List ℕ)) (q : List ℕ) (qs : List (List ℕ)) → parts s ≡ ps ++ (q ∷ qs) → isName q ≡ false
+    → pathAllowed s ≡ false
+unfolding pathAllowed
+part-refused s ps q qs e n =
+    let names = ap (every isName) e ∙ every-fails isName ps q qs n in
+    search tests
 
-  -- so is one byte 00
-  pub zero-refused : (t : List ℕ) → pathAllowed (s ++ (0 ∷ t)) ≡ false
-  unfolding pathAllowed
-  zero-refused t =
-      let zero = every-fails (λ (c : ℕ). not (eqb c 0)) s 0 t refl in
-      search tests
+-- a slash in front or at the end makes an empty part there
+pub leading-slash-refused : (s : List ℕ) → pathAllowed (slash ∷ s) ≡ false
+leading-slash-refused s = part-refused (slash ∷ s) [] [] (parts s) (part-ends [] slash s refl) (name-empty [] refl)
 
--- and every text of code points below U+0300 is plain, so the rule leaves no such text out
+pub trailing-slash-refused : (s : List ℕ) → pathAllowed (s ++ (slash ∷ [])) ≡ false
+unfolding partsAfter
+trailing-slash-refused s = part-refused (s ++ (slash ∷ [])) (parts s) [] [] (parts-append s []) (name-empty [] refl)
+
+-- one byte 00 is enough, wherever it stands
+pub zero-refused : (s t : List ℕ) → pathAllowed (s ++ (0 ∷ t)) ≡ false
+unfolding pathAllowed
+zero-refused s t =
+    let zero = every-fails (λ (c : ℕ). not (eqb c 0)) s 0 t refl in
+    search tests
+
+-- every text of code points below U+0300 is plain, so the rule leaves no such text out
 pub plain-utf8 : (cs : List ℕ) → within 0x300 cs ≡ true → plainText (utf8 cs) ≡ true
 unfolding plainText
 plain-utf8 cs e = ap (within 0x300) (decoded-utf8 cs (within-more 0x300 0x800 (lit≤ tt) cs e)) ∙ e

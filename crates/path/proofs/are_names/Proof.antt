@@ -1,4 +1,5 @@
-use mathlib.Core.Path.{_≡_, refl, sym, ap, _∙_}
+-- `path::are_names` meets its contract. The loop's invariant: the answer is that of the part at hand and of what is left. Assumes nothing.
+use mathlib.Core.Path.{_≡_, refl, sym, _∙_}
 use mathlib.Core.Logic.{⊎-elim}
 use Prim.Native.Nat.{_≤_, _-_}
 use native.Mathlib.Omega.{arith}
@@ -12,7 +13,8 @@ use Rattle.path.proofs.are_names.Statement.{statement}
 use Rattle.path.proofs.are_names.Tie as tie
 
 abbrev Inv-loop : tie.InvT-loop
-Inv-loop s from₀ to₀ from to = (from ≤ to) × (to ≤ length s) × (every isName (parts s) ≡ every isName (partsAfter (take (to - from) (drop from s)) (drop to s)))
+Inv-loop s from₀ to₀ from to =
+    (from ≤ to) × (to ≤ length s) × (every isName (parts s) ≡ every isName (partsAfter (take (to - from) (drop from s)) (drop to s)))
 
 abbrev μ-loop : tie.MeasureT-loop
 μ-loop s from₀ to₀ from to = length s - to
@@ -38,7 +40,8 @@ is-name-requires c κs = search needs
 returns : tie.Need-returns Inv-loop μ-loop
 returns c =
     let l = c .before .before .before .before .before .before .loop in
-    sym (l .inv .2 ∙ names-stop _ (l .from) (l .to) (l .inv .0) (omega arith) (c .before .before .before .if1 .taken) (sym (c .before .is-name .ensures) ∙ not-true _ (c .if2 .taken)))
+    let none = sym (c .before .is-name .ensures) ∙ not-true _ (c .if2 .taken) in
+    sym (l .inv .2 ∙ names-stop _ (l .from) (l .to) (l .inv .0) (omega arith) (c .before .before .before .if1 .taken) none)
 
 add-from : tie.Need-add-from Inv-loop μ-loop
 add-from c = omega arith
@@ -54,7 +57,9 @@ loop-again c =
     let l = c .before .before .before .loop in
     let s = c .before .before .before .before .before .args .s .now in
     ⊎-elim
-    (λ w. (omega arith, omega arith, rw (w .4) (l .inv .2 ∙ names-on s (l .from) (l .to) (l .inv .0) (omega arith) (w .0 .taken) (sym (w .2 .ensures) ∙ not-false _ (w .3 .left)))))
+    (λ w.
+    let name = sym (w .2 .ensures) ∙ not-false _ (w .3 .left) in
+    (omega arith, omega arith, rw (w .4) (l .inv .2 ∙ names-on s (l .from) (l .to) (l .inv .0) (omega arith) (w .0 .taken) name)))
     (λ w. (omega arith, omega arith, rw (w .1) (l .inv .2 ∙ names-within s (l .from) (l .to) (l .inv .0) (omega arith) (w .0 .left))))
     (c .if1 .came)
 
