@@ -1,12 +1,8 @@
--- Two tests at once, from each of them and back; the ruleset `tests` lets `search` pick the case of a definition. Assumes nothing.
+-- Two tests at once, from each of them; the ruleset `tests` lets `search` pick the case of a definition. Assumes nothing.
 use mathlib.Core.Path.{_≡_, refl}
-use mathlib.Core.Bool.{Bool, true, false, _&&_, false≢true}
+use mathlib.Core.Bool.{Bool, true, false, _&&_}
 use borrow.Author.Tests.{lt-ltb, le-ltb, le-leb, lt-leb, eq-eqb, ne-eqb}
 use Rattle.wire.proofs.Branch.{choose-yes, choose-no}
-
-pub both : (t u : Bool) → (t && u) ≡ true → (t ≡ true) × (u ≡ true)
-both true u e = (refl, e)
-both false u e = (e, absurd (false≢true e))
 
 pub both-hold : (t u : Bool) → t ≡ true → u ≡ true → (t && u) ≡ true
 both-hold t u d e = rw d e

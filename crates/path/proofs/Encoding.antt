@@ -10,11 +10,11 @@ use lib.ListN.{getD}
 use borrow.Author.Tests.{lt-ltb, le-ltb, ltb-true, leb-true}
 use Rattle.wire.specs.Answer.{choose}
 use Rattle.wire.specs.Number.{Bytes}
-use Rattle.wire.proofs.Cases.{lt-or-le}
+use Rattle.wire.proofs.Cases.{both-hold, lt-or-le}
 use Rattle.path.specs.Utf8.{outside, leads, follows, joined, twoBytes, codePoints}
 use Rattle.path.specs.Order.{below}
 use Rattle.path.specs.Every.{every, within}
-use Rattle.path.proofs.Both.{both, tests}
+use Rattle.path.proofs.Both.{tests}
 use Rattle.path.proofs.Orders.{Compared, less, same, more, compared, below-less, below-more, below-same, below-front, below-asymmetric}
 use Rattle.path.proofs.Points.{points-one, points-two, points-cut}
 
@@ -31,7 +31,7 @@ utf8 (c ∷ cs) = utf8Point c ++ utf8 cs
 pub within-cons : (n c : ℕ) (cs : List ℕ) → within n (c ∷ cs) ≡ true → (c < n) × (within n cs ≡ true)
 unfolding every
 within-cons n c cs e =
-    let p = both (ltb c n) (within n cs) e in
+    let p = both-hold (ltb c n) (within n cs) e in
     (ltb-true c n (p .0), p .1)
 
 pub within-more : (m n : ℕ) → m ≤ n → (cs : List ℕ) → within m cs ≡ true → within n cs ≡ true
@@ -78,10 +78,10 @@ module _ (a b : ℕ) (h : twoBytes a b < 0x800) where
   two-forth : utf8Point (twoBytes a b) ≡ a ∷ b ∷ []
   unfolding twoBytes leads follows joined
   two-forth =
-      let p = both (leads a) (follows b && leb 0x80 (joined a b)) passed in
-      let q = both (follows b) (leb 0x80 (joined a b)) (p .1) in
-      let l = both (leb 0xC0 a) (ltb a 0xE0) (p .0) in
-      let f = both (leb 0x80 b) (ltb b 0xC0) (q .0) in
+      let p = both-hold (leads a) (follows b && leb 0x80 (joined a b)) passed in
+      let q = both-hold (follows b) (leb 0x80 (joined a b)) (p .1) in
+      let l = both-hold (leb 0xC0 a) (ltb a 0xE0) (p .0) in
+      let f = both-hold (leb 0x80 b) (ltb b 0xC0) (q .0) in
       let la : 0xC0 ≤ a = leb-true 0xC0 a (l .0) in
       let lb : a < 0xE0 = ltb-true a 0xE0 (l .1) in
       let fa : 0x80 ≤ b = leb-true 0x80 b (f .0) in

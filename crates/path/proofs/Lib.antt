@@ -6,3 +6,4 @@ pub mod Encoding
 pub mod Names
 pub mod Walks
 pub mod Paths
+pub mod Verdicts

@@ -1,7 +1,7 @@
 -- A text is its parts joined by slashes; which parts are names; and how a loop over a text's bytes comes to know its parts. Assumes nothing.
 use mathlib.Core.Path.{_≡_, refl, sym, ap, _∙_}
 use mathlib.Core.Logic.{_⊎_, inl, inr}
-use mathlib.Core.Bool.{true, false, not, _&&_}
+use mathlib.Core.Bool.{Bool, true, false, not, _&&_}
 use mathlib.Core.List.{List, [], _∷_, _++_, append-nil}
 use Prim.Native.Nat.{ℕ, suc, _+_, _-_, _≤_, _<_}
 use native.Mathlib.Numerals.{add-one}
@@ -9,13 +9,13 @@ use native.Mathlib.Omega.{arith}
 use lib.Dec.{eqb}
 use lib.ListN.{length, take, drop, getD, length-drop}
 use lib.Seq.{drop-cons, drop-length, take-suc, getD-drop, append-snoc}
-use borrow.Author.Tests.{eq-eqb, ne-eqb, eqb-false, not-true}
-use Rattle.wire.proofs.Cases.{eq-or-ne}
+use borrow.Author.Tests.{eq-eqb, ne-eqb, eqb-false, not-true, not-false}
+use Rattle.wire.proofs.Cases.{both-hold, eq-or-ne}
 use Rattle.lend.specs.Same.{same}
 use Rattle.lend.proofs.Sames.{same-lengths}
 use Rattle.path.specs.Every.{every, without}
 use Rattle.path.specs.Names.{slash, here, above, partsAfter, parts, slashed, isName}
-use Rattle.path.proofs.Both.{both, and-true}
+use Rattle.path.proofs.Both.{and-true}
 
 -- ---- the part at hand
 
@@ -81,15 +81,15 @@ part-whole : (p s : List ℕ) → without slash s ≡ true → partsAfter p s �
 unfolding partsAfter every
 part-whole p [] e = rw (append-nil p)
 part-whole p (b ∷ s) e =
-    let q = both (not (eqb b slash)) (without slash s) e in
+    let q = both-hold (not (eqb b slash)) (without slash s) e in
     let n = eqb-false b slash (not-true (eqb b slash) (q .0)) in
     part-grows p b s n ∙ part-whole (p ++ (b ∷ [])) s (q .1) ∙ ap (λ (l : List ℕ). l ∷ []) (append-snoc p b s)
 
 pub parts-joined : (p : List ℕ) (ps : List (List ℕ)) → every (without slash) (p ∷ ps) ≡ true → parts (slashed (p ∷ ps)) ≡ p ∷ ps
 unfolding slashed every
-parts-joined p [] e = part-whole [] p (both (without slash p) true e .0)
+parts-joined p [] e = part-whole [] p (both-hold (without slash p) true e .0)
 parts-joined p (q ∷ ps) e =
-    let k = both (without slash p) (every (without slash) (q ∷ ps)) e in
+    let k = both-hold (without slash p) (every (without slash) (q ∷ ps)) e in
     parts-append p (slashed (q ∷ ps)) ∙ rw (part-whole [] p (k .0), parts-joined q ps (k .1))
 
 -- ---- which parts are names, by their length and their first two bytes
@@ -121,41 +121,44 @@ name-two (a ∷ []) h e = absurd (omega arith)
 name-two (a ∷ b ∷ []) h e = rw (eq-eqb a 0x2E e, and-true (eqb b 0x2E))
 name-two (a ∷ b ∷ c ∷ p) h e = absurd (omega arith)
 
--- ---- a loop over the bytes: the part at hand began at index from, and the bytes before index to were read
+-- ---- a loop over the bytes: the part at hand began at index from, and the bytes before index to were read. `whole` is the answer for the
+-- whole text, as the invariant knows it, and r what `is_name` said of the part at hand
 
-module _ (s : List ℕ) (from to : ℕ) (m : from ≤ to) where
+module _ (s : List ℕ) (from to : ℕ) where
   abbrev at-hand : List ℕ
   at-hand = take (to - from) (drop from s)
 
-  module _ (h : to < length s) where
-    next : drop to s ≡ getD s to 0 ∷ drop (to + 1) s
-    next = rw (add-one, drop-cons s to 0 h)
+  next : to < length s → drop to s ≡ getD s to 0 ∷ drop (to + 1) s
+  next h = rw (add-one, drop-cons s to 0 h)
 
-    longer : take (to + 1 - from) (drop from s) ≡ at-hand ++ (getD s to 0 ∷ [])
-    longer =
-        let j : to + 1 - from ≡ suc (to - from) = omega arith in
-        let k : from + (to - from) ≡ to = omega arith in
-        let l : to - from < length (drop from s) = omega (arith, length-drop from s) in
-        let e : getD (drop from s) (to - from) 0 ≡ getD s to 0 = getD-drop from s (to - from) 0 ∙ ap (λ (x : ℕ). getD s x 0) k in
-        rw (j, take-suc (drop from s) (to - from) 0 l, e)
+  longer : from ≤ to → to < length s → take (to + 1 - from) (drop from s) ≡ at-hand ++ (getD s to 0 ∷ [])
+  longer m h =
+      let j : to + 1 - from ≡ suc (to - from) = omega arith in
+      let k : from + (to - from) ≡ to = omega arith in
+      let l : to - from < length (drop from s) = omega (arith, length-drop from s) in
+      let e : getD (drop from s) (to - from) 0 ≡ getD s to 0 = getD-drop from s (to - from) 0 ∙ ap (λ (x : ℕ). getD s x 0) k in
+      rw (j, take-suc (drop from s) (to - from) 0 l, e)
 
-    names-end : getD s to 0 ≡ slash → every isName (partsAfter at-hand (drop to s)) ≡ (isName at-hand && every isName (parts (drop (to + 1) s)))
-    unfolding every
-    names-end e = rw next (ap (every isName) (part-ends at-hand (getD s to 0) (drop (to + 1) s) e))
+  module _ (whole : Bool) (x : whole ≡ every isName (partsAfter at-hand (drop to s))) where
+    module _ (h : to < length s) (r : Bool) (d : r ≡ isName at-hand) (e : getD s to 0 ≡ slash) where
+      ends : whole ≡ (r && every isName (parts (drop (to + 1) s)))
+      unfolding every
+      ends = x ∙ rw (next h, d) (ap (every isName) (part-ends at-hand (getD s to 0) (drop (to + 1) s) e))
 
-    pub names-stop : getD s to 0 ≡ slash → isName at-hand ≡ false → every isName (partsAfter at-hand (drop to s)) ≡ false
-    names-stop e n = names-end e ∙ rw n
+      pub names-stop : not r ≡ true → false ≡ whole
+      names-stop n = sym (ends ∙ rw (not-true r n))
 
-    pub names-on : getD s to 0 ≡ slash → isName at-hand ≡ true
-        → every isName (partsAfter at-hand (drop to s)) ≡ every isName (partsAfter (take (to + 1 - (to + 1)) (drop (to + 1) s)) (drop (to + 1) s))
-    names-on e n =
-        let z : to + 1 - (to + 1) ≡ 0 = omega arith in
-        names-end e ∙ rw (n, z)
+      pub names-on : not r ≡ false → whole ≡ every isName (partsAfter (take (to + 1 - (to + 1)) (drop (to + 1) s)) (drop (to + 1) s))
+      names-on n =
+          let z : to + 1 - (to + 1) ≡ 0 = omega arith in
+          ends ∙ rw (not-false r n, z)
 
-    pub names-within : (getD s to 0 ≡ slash → ⊥)
-        → every isName (partsAfter at-hand (drop to s)) ≡ every isName (partsAfter (take (to + 1 - from) (drop from s)) (drop (to + 1) s))
-    names-within n = rw (longer, next) (ap (every isName) (part-grows at-hand (getD s to 0) (drop (to + 1) s) n))
+    pub names-within : from ≤ to → to < length s → (getD s to 0 ≡ slash → ⊥)
+        → whole ≡ every isName (partsAfter (take (to + 1 - from) (drop from s)) (drop (to + 1) s))
+    names-within m h n = x ∙ rw (longer m h, next h) (ap (every isName) (part-grows at-hand (getD s to 0) (drop (to + 1) s) n))
 
-  pub names-last : to ≡ length s → every isName (partsAfter at-hand (drop to s)) ≡ isName (take (length s - from) (drop from s))
-  unfolding every partsAfter
-  names-last e = rw (e, drop-length s, and-true (isName (take (length s - from) (drop from s))))
+    pub names-last : (r : Bool) → r ≡ isName (take (length s - from) (drop from s)) → to ≤ length s → length s ≤ to → r ≡ whole
+    unfolding every partsAfter
+    names-last r d m h =
+        let e : to ≡ length s = omega arith in
+        d ∙ sym (x ∙ rw (e, drop-length s, and-true (isName (take (length s - from) (drop from s)))))

@@ -1,6 +1,6 @@
 -- What every caller may know of an allowed path without looking into the rule. Assumes nothing.
 use mathlib.Core.Path.{_≡_, refl, sym, subst, ap, ap₂, _∙_}
-use mathlib.Core.Bool.{true, false, not}
+use mathlib.Core.Bool.{Bool, true, false, not, _&&_, false≢true}
 use mathlib.Core.List.{List, [], _∷_, _++_}
 use Prim.Native.Nat.{ℕ, _≤_}
 use native.Mathlib.Omega.{arith}
@@ -8,36 +8,42 @@ use lib.Dec.{leb, eqb, lit≤}
 use lib.ListN.{length}
 use borrow.Author.Tests.{leb-true, le-leb}
 use Rattle.wire.specs.Number.{Bytes}
+use Rattle.wire.proofs.Cases.{both-hold}
 use Rattle.path.specs.Every.{every, within, without}
 use Rattle.path.specs.Utf8.{codePoints}
 use Rattle.path.specs.Order.{below}
 use Rattle.path.specs.Names.{slash, partsAfter, parts, slashed, isName, staysBelow}
 use Rattle.path.specs.Path.{pathLeast, pathMost, plainText, pathAllowed}
-use Rattle.path.proofs.Both.{both, tests}
+use Rattle.path.proofs.Both.{tests}
 use Rattle.path.proofs.Every.{every-fails}
 use Rattle.path.proofs.Encoding.{within-more, utf8, utf8-decoded, decoded-utf8, utf8-bytes, utf8-below}
 use Rattle.path.proofs.Names.{part-ends, parts-joined, parts-append, parts-some, name-empty}
 use Rattle.path.proofs.Walks.{names-stay}
 
+-- a text whose parts are names has a byte
+some-byte : (s : List ℕ) → every isName (parts s) ≡ true → pathLeast ≤ length s
+unfolding partsAfter every
+some-byte [] e = absurd (false≢true (sym (ap (λ (t : Bool). t && true) (name-empty [] refl)) ∙ e))
+some-byte (b ∷ s) e = omega arith
+
 module _ (s : List ℕ) (ok : pathAllowed s ≡ true) where
-  tests-passed : (leb pathLeast (length s) ≡ true) × (leb (length s) pathMost ≡ true) × (plainText s ≡ true) × (every isName (parts s) ≡ true) × (without 0 s ≡ true)
+  tests-passed : (leb (length s) pathMost ≡ true) × (plainText s ≡ true) × (every isName (parts s) ≡ true) × (without 0 s ≡ true)
   unfolding pathAllowed
   tests-passed =
-      let p = both (leb pathLeast (length s)) _ ok in
-      let q = both (leb (length s) pathMost) _ (p .1) in
-      let r = both (plainText s) _ (q .1) in
-      let t = both (every isName (parts s)) (without 0 s) (r .1) in
-      (p .0, q .0, r .0, t .0, t .1)
+      let p = both-hold (leb (length s) pathMost) _ ok in
+      let q = both-hold (plainText s) _ (p .1) in
+      let r = both-hold (every isName (parts s)) (without 0 s) (q .1) in
+      (p .0, q .0, r .0, r .1)
 
   pub allowed-length : (pathLeast ≤ length s) × (length s ≤ pathMost)
-  allowed-length = (leb-true pathLeast (length s) (tests-passed .0), leb-true (length s) pathMost (tests-passed .1))
+  allowed-length = (some-byte s (tests-passed .2), leb-true (length s) pathMost (tests-passed .0))
 
   pub allowed-points : within 0x300 (codePoints s) ≡ true
   unfolding plainText
-  allowed-points = tests-passed .2
+  allowed-points = tests-passed .1
 
   pub allowed-names : every isName (parts s) ≡ true
-  allowed-names = tests-passed .3
+  allowed-names = tests-passed .2
 
   -- taken below any folder, an allowed path stays below it (n is 0), and so below any folder that lies n higher
   pub allowed-stays-below : (n : ℕ) → staysBelow n (parts s) ≡ true
@@ -55,18 +61,14 @@ module _ (s : List ℕ) (ok : pathAllowed s ≡ true) where
 
 -- ---- which texts are allowed, and which are not
 
--- of a plain text that is as long as it may be and has names for parts byte 00 decides
-pub zero-decides : (s : List ℕ) → pathLeast ≤ length s → length s ≤ pathMost → plainText s ≡ true → every isName (parts s) ≡ true
-    → pathAllowed s ≡ without 0 s
-unfolding pathAllowed
-zero-decides s l m p e = rw (le-leb pathLeast (length s) l, le-leb (length s) pathMost m, p, e)
-
 -- names joined by slashes are a path, if they are plain and not too long
 pub joined-allowed : (p : List ℕ) (ps : List (List ℕ)) → every (without slash) (p ∷ ps) ≡ true → every isName (p ∷ ps) ≡ true
-    → pathLeast ≤ length (slashed (p ∷ ps)) → length (slashed (p ∷ ps)) ≤ pathMost → plainText (slashed (p ∷ ps)) ≡ true
-    → without 0 (slashed (p ∷ ps)) ≡ true → pathAllowed (slashed (p ∷ ps)) ≡ true
-joined-allowed p ps apart names l m plain z =
-    zero-decides (slashed (p ∷ ps)) l m plain (ap (every isName) (parts-joined p ps apart) ∙ names) ∙ z
+    → length (slashed (p ∷ ps)) ≤ pathMost → plainText (slashed (p ∷ ps)) ≡ true → without 0 (slashed (p ∷ ps)) ≡ true
+    → pathAllowed (slashed (p ∷ ps)) ≡ true
+unfolding pathAllowed
+joined-allowed p ps apart names most plain zero =
+    let these = ap (every isName) (parts-joined p ps apart) ∙ names in
+    rw (le-leb (length (slashed (p ∷ ps))) pathMost most, plain, these, zero)
 
 -- one part that is no name is enough to refuse a text, wherever it stands
 pub part-refused : (s : List ℕ) (ps : List (List ℕ)) (q : List ℕ) (qs : List (List ℕ)) → parts s ≡ ps ++ (q ∷ qs) → isName q ≡ false
@@ -96,7 +98,7 @@ pub plain-utf8 : (cs : List ℕ) → within 0x300 cs ≡ true → plainText (utf
 unfolding plainText
 plain-utf8 cs e = ap (within 0x300) (decoded-utf8 cs (within-more 0x300 0x800 (lit≤ tt) cs e)) ∙ e
 
--- document 01: "strictly ascending by bytes, which is code point order"
+-- on paths the order by bytes is the order by code points
 pub code-point-order : (a b : List ℕ) → pathAllowed a ≡ true → pathAllowed b ≡ true → below a b ≡ below (codePoints a) (codePoints b)
 code-point-order a b p q =
     ap₂ below (sym (allowed-utf8 a p)) (sym (allowed-utf8 b q)) ∙ utf8-below (codePoints a) (codePoints b) (small-points a p) (small-points b q)

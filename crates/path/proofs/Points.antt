@@ -9,10 +9,11 @@ use lib.Dec.{lit≤}
 use lib.ListN.{length, drop, getD, drop-of-length-le}
 use lib.Seq.{drop-cons}
 use borrow.Author.Tests.{lt-ltb, le-ltb}
-use Rattle.path.specs.Utf8.{outside, oneByte, twoBytes, codePoints}
+use Rattle.path.specs.Utf8.{outside, oneByte, joined, twoBytes, codePoints}
 use Rattle.path.specs.Every.{every, within}
 use Rattle.path.specs.Path.{plainText}
 use Rattle.path.specs.Spans.{Spans}
+use Rattle.path.proofs.Both.{tests}
 
 -- ---- the code point in front
 
@@ -29,6 +30,11 @@ points-two a b s h = rw (le-ltb a 0x80 h)
 pub points-cut : (a : ℕ) → 0x80 ≤ a → codePoints (a ∷ []) ≡ outside ∷ []
 unfolding codePoints oneByte
 points-cut a h = rw (le-ltb a 0x80 h)
+
+-- two bytes for what one byte says
+pub too-short : (a b : ℕ) → joined a b < 0x80 → outside ≡ twoBytes a b
+unfolding twoBytes
+too-short a b h = search tests
 
 -- ---- whether it is below U+0300
 

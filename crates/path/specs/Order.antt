@@ -1,4 +1,4 @@
--- The order of paths: document 01, "CBOR payloads", "strictly ascending by bytes, which is code point order".
+-- The order in which a manifest names its paths, by their bytes: document 01, "CBOR payloads".
 use Prim.Native.Nat.{ℕ}
 use mathlib.Core.Bool.{Bool, true, false}
 use mathlib.Core.List.{List, [], _∷_}

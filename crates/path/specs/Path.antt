@@ -19,7 +19,7 @@ pathMost = 200
 unfoldable pub plainText : List ℕ → Bool
 plainText s = within 0x300 (codePoints s)
 
--- as long as it may be, plain text, each part of it a name, and no byte of it 00
+-- not too long, plain text, each part of it a name, and no byte of it 00. The empty text is one empty part, so it is no path
 unfoldable pub pathAllowed : List ℕ → Bool
 pathAllowed s =
-    leb pathLeast (length s) && (leb (length s) pathMost && (plainText s && (every isName (parts s) && without 0 s)))
+    leb (length s) pathMost && (plainText s && (every isName (parts s) && without 0 s))

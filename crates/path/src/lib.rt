@@ -131,11 +131,7 @@ fn lacks(s: &[u8], b: u8) -> bool
 pub fn allowed(s: &[u8]) -> bool
     ensures { λ r. ⌜ r ≡ pathAllowed (now (s .entry)) ⌝ }
 {
-    let n = s.len() as u64;
-    if n < LEAST {
-        return false;
-    }
-    if MOST < n {
+    if MOST < s.len() as u64 {
         return false;
     }
     if !plain(s) {

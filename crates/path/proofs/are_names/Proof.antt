@@ -1,11 +1,10 @@
 -- `path::are_names` meets its contract. The loop's invariant: the answer is that of the part at hand and of what is left. Assumes nothing.
-use mathlib.Core.Path.{_≡_, refl, sym, _∙_}
+use mathlib.Core.Path.{_≡_, refl}
 use mathlib.Core.Logic.{⊎-elim}
 use Prim.Native.Nat.{_≤_, _-_}
 use native.Mathlib.Omega.{arith}
 use lib.ListN.{length, take, drop}
 use borrow.Author.Needs.{needs}
-use borrow.Author.Tests.{not-true, not-false}
 use Rattle.path.specs.Every.{every}
 use Rattle.path.specs.Names.{partsAfter, parts, isName}
 use Rattle.path.proofs.Names.{names-stop, names-on, names-within, names-last}
@@ -38,10 +37,7 @@ is-name-requires : tie.Need-is-name-requires Inv-loop μ-loop
 is-name-requires c κs = search needs
 
 returns : tie.Need-returns Inv-loop μ-loop
-returns c =
-    let l = c .before .before .before .before .before .before .loop in
-    let none = sym (c .before .is-name .ensures) ∙ not-true _ (c .if2 .taken) in
-    sym (l .inv .2 ∙ names-stop _ (l .from) (l .to) (l .inv .0) (omega arith) (c .before .before .before .if1 .taken) none)
+returns c = search names-stop
 
 add-from : tie.Need-add-from Inv-loop μ-loop
 add-from c = omega arith
@@ -57,10 +53,12 @@ loop-again c =
     let l = c .before .before .before .loop in
     let s = c .before .before .before .before .before .args .s .now in
     ⊎-elim
-    (λ w.
-    let name = sym (w .2 .ensures) ∙ not-false _ (w .3 .left) in
-    (omega arith, omega arith, rw (w .4) (l .inv .2 ∙ names-on s (l .from) (l .to) (l .inv .0) (omega arith) (w .0 .taken) name)))
-    (λ w. (omega arith, omega arith, rw (w .1) (l .inv .2 ∙ names-within s (l .from) (l .to) (l .inv .0) (omega arith) (w .0 .left))))
+    (λ w. (
+      omega arith,
+      omega arith,
+      rw (w .4) (names-on s (l .from) (l .to) _ (l .inv .2) (omega arith) (w .2 .result) (w .2 .ensures) (w .0 .taken) (w .3 .left)),
+    ))
+    (λ w. (omega arith, omega arith, rw (w .1) (names-within s (l .from) (l .to) _ (l .inv .2) (l .inv .0) (omega arith) (w .0 .left))))
     (c .if1 .came)
 
 sub-is-name-2 : tie.Need-sub-is-name-2 Inv-loop μ-loop
@@ -76,9 +74,7 @@ is-name-requires-2 : tie.Need-is-name-requires-2 Inv-loop μ-loop
 is-name-requires-2 c κs = search needs
 
 returns-2 : tie.Need-returns-2 Inv-loop μ-loop
-returns-2 c =
-    let l = c .before .before .before .loop in
-    c .is-name2 .ensures ∙ sym (l .inv .2 ∙ names-last _ (l .from) (l .to) (l .inv .0) (omega arith))
+returns-2 c = search names-last
 
 pub are-names-spec : {M : Type 1} → statement M
 are-names-spec =

@@ -1,7 +1,9 @@
 -- `path::two_bytes` meets its contract: each test that fails is one that the definition has. Assumes nothing.
+use native.Mathlib.Omega.{arith}
 use borrow.Author.Needs.{needs}
 use Rattle.path.specs.Utf8.{outside, leads, follows, joined, twoBytes}
 use Rattle.path.proofs.Both.{tests}
+use Rattle.path.proofs.Points.{too-short}
 use Rattle.path.proofs.two_bytes.Statement.{statement}
 use Rattle.path.proofs.two_bytes.Tie as tie
 
@@ -34,8 +36,8 @@ add-c : tie.Need-add-c
 add-c c = search needs
 
 returns-5 : tie.Need-returns-5
-unfolding twoBytes leads follows joined outside
-returns-5 c = search tests
+unfolding joined outside
+returns-5 c = too-short _ _ (omega arith)
 
 returns-6 : tie.Need-returns-6
 unfolding twoBytes leads follows joined outside
