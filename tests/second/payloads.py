@@ -2,10 +2,9 @@
 
 from collections import namedtuple
 
-from .answers import OUT_OF_RANGE, TOO_LARGE, lend, refuse_if
+from .answers import OUT_OF_RANGE, lend, refuse_if
 from .cbor import BYTES, TEXT, Items, byte_string, integer, text
 
-MOST_BYTES = 480
 MOST_SHARE = 224
 TYPES = (b"passphrase", b"signing-seed")
 
@@ -70,16 +69,10 @@ def judge_auth(auth, signed=False):
     refuse_if(len(auth.hash) != 32, OUT_OF_RANGE)
 
 
-def written(payload, room):
-    """9 for an auth or shard payload above 480 bytes, then 11."""
-    refuse_if(len(payload) > MOST_BYTES, TOO_LARGE)
-    return lend(room, payload)
-
-
 def auth_write(auth, room):
-    """The values, then 9, then 11."""
+    """The values, then 11."""
     judge_auth(auth)
-    return written(encode(auth_pairs(auth)), room)
+    return lend(room, encode(auth_pairs(auth)))
 
 
 def auth_signed(auth, room):
@@ -154,9 +147,9 @@ def judge_shard(shard, signed=False):
 
 
 def shard_write(shard, room):
-    """The values, then 9, then 11."""
+    """The values, then 11: no payload of such values is too large for a page (02, Ticket 11)."""
     judge_shard(shard)
-    return written(encode(shard_pairs(shard)), room)
+    return lend(room, encode(shard_pairs(shard)))
 
 
 def shard_signed(shard, room):

@@ -290,6 +290,22 @@ def bounds_of_shards():
         same(judged(**dict(zip(("threshold", "count", "index"), numbers))), number, numbers)
 
 
+@check
+def no_shard_overflows():
+    """02, Ticket 11: of all lengths of what is shared, both types and numbers on each side of a longer head, the longest payload has 456 bytes."""
+    rng = random.Random(15)
+    plain = samples.shard_values(rng)
+    sizes = set()
+    for length, kind, count in product(range(1, 225), payloads.TYPES, (1, 23, 24, 255)):
+        for threshold, index in product({1, min(23, count), count}, repeat=2):
+            shard = plain._replace(type=kind, share=bytes(payloads.padded(length)), length=length,
+                                   threshold=threshold, count=count, index=index)
+            sizes.add(len(payloads.shard_write(shard, 456)))
+    same(max(sizes), 456)
+    same(len(samples.longest_payload(rng)), 456)
+    same(answer_of(frames.key_write, bytes(8), samples.longest_payload(rng), 476)[0], 0)
+
+
 # The collection.
 
 

@@ -17,8 +17,8 @@ LATER = []
 
 ALL = LANDED + LATER
 
-# The answers that each verb can give, by document 01: a comparison must see each of them. 9 is listed for no writer of an auth or a shard
-# payload: 01 has it, and no value leads to it.
+# The answers that each verb can give, by documents 01 and 02: a comparison must see each of them, and no other. The writers of an auth and of a
+# shard payload have no 9: what they write always fits a page (02, Ticket 11). Key and auth frames have it, for whatever bytes they are given.
 GIVES = {
     "varint-read": (0, 3, 7),
     "varint-write": (0, 11),

@@ -1,4 +1,5 @@
 pub mod Answers
 pub mod Lengths
+pub mod Verdicts
 pub mod Writers
 pub mod Rounds

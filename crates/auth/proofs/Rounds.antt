@@ -8,6 +8,7 @@ use lib.Dec.{eqb}
 use lib.ListN.{length, take, drop}
 use Rattle.wire.specs.Answer.{got}
 use Rattle.wire.specs.Number.{Bytes}
+use Rattle.wire.specs.Writing.{bytes}
 use Rattle.wire.proofs.Cases.{passed, then-passed}
 use Rattle.wire.proofs.Standing.{Stands, stands-whole, stands-all, stands-first, stands-second, stands-join, stands-as}
 use Rattle.cbor.specs.Form.{stringFieldOf, numberFieldOf}
@@ -16,7 +17,8 @@ use Rattle.cbor.specs.Names.{pubKey, sigKey, hashKey, versionKey}
 use Rattle.cbor.proofs.Within.{string-field-within, number-field-within}
 use Rattle.cbor.proofs.Written.{kind-bytes, one-back, string-field-back, number-field-back}
 use Rattle.cbor.proofs.Only.{one-only, string-field-only, number-field-only}
-use Rattle.auth.specs.Auth.{Claim, claimAt, authAt, authOf}
+use Rattle.auth.specs.Auth.{Claim, claimAt, authAt, authOf, authVerdict}
+use Rattle.auth.proofs.Verdicts.{auth-accepted, auth-accepts}
 
 -- the claim's bytes at its places
 pub record Claimed (s public sig hash : List ℕ) (v : Claim) : Type 0 where
@@ -77,6 +79,13 @@ auth-back public sig hash p g h = go (authOf public sig hash) (stands-whole (aut
           rw (one-back 0xA4 (stands-first (0xA4 ∷ []) (P ++ (G ++ (H ++ N))) t₀), c .1, n, eq-eqb (length s) (length s) refl),
           c .2,
         )
+
+-- whatever the writer accepts
+pub auth-written-back : (public sig hash : List ℕ) {bs : List ℕ} → authVerdict public sig hash ≡ bytes bs
+    → (v : Claim) × (authAt bs ≡ got v (length bs)) × Claimed bs public sig hash v
+auth-written-back public sig hash h =
+    let a = auth-accepts public sig hash h in
+    subst (λ (s : List ℕ). (v : Claim) × (authAt s ≡ got v (length s)) × Claimed s public sig hash v) (a .3) (auth-back public sig hash (a .0) (a .1) (a .2))
 
 -- ---- what is read was written
 
@@ -152,6 +161,13 @@ auth-only {s} {v} {next} y e =
       sym n ∙ l,
       c .1,
     )
+
+-- the writer gives the same bytes again
+pub auth-again : {s : List ℕ} {v : Claim} {next : ℕ} → Bytes s → authAt s ≡ got v next → authVerdict (publicIn s v) (sigIn s v) (hashIn s v) ≡ bytes s
+auth-again {s} {v} y e =
+    let r = auth-only y e in
+    let l = r .2 in
+    auth-accepted (publicIn s v) (sigIn s v) (hashIn s v) (l .public-long) (l .sig-long) (l .hash-long) ∙ ap bytes (sym (r .0))
 
 -- two inputs of bytes with one claim are one
 pub auth-once : {s t : List ℕ} {v w : Claim} {i j : ℕ} → Bytes s → Bytes t → authAt s ≡ got v i → authAt t ≡ got w j

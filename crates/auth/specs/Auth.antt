@@ -1,7 +1,7 @@
 -- The auth payload and the bytes that get signed: document 01, "CBOR payloads" (source 8).
 use Prim.Native.Nat.{ℕ}
 use mathlib.Core.List.{List, [], _∷_, _++_}
-use lib.Dec.{eqb, leb}
+use lib.Dec.{eqb}
 use lib.ListN.{length}
 use Rattle.wire.specs.Answer.{choose, Got, got, then}
 use Rattle.wire.specs.Writing.{Verdict, bytes, fault}
@@ -37,14 +37,10 @@ authOf public sig hash =
     (0xA4 ∷ [])
     ++ (stringFieldOf pubKey 2 public ++ (stringFieldOf sigKey 2 sig ++ (stringFieldOf hashKey 2 hash ++ numberFieldOf versionKey 1)))
 
--- a value of another length is 19, in the order of the keys; then a payload above 480 bytes is 9
+-- a value of another length is 19, in the order of the keys. There is no 9: the payload has 157 bytes (`auth-length`: proofs/Lengths; 02, Ticket 11)
 unfoldable pub authVerdict : List ℕ → List ℕ → List ℕ → Verdict
 authVerdict public sig hash =
-    choose (eqb (length public) 32)
-    (choose (eqb (length sig) 64)
-    (choose (eqb (length hash) 32) (choose (leb (length (authOf public sig hash)) 480) (bytes (authOf public sig hash)) (fault 9)) (fault 19))
-    (fault 19))
-    (fault 19)
+    choose (eqb (length public) 32) (choose (eqb (length sig) 64) (choose (eqb (length hash) 32) (bytes (authOf public sig hash)) (fault 19)) (fault 19)) (fault 19)
 
 -- `ETHERNITY-AUTH-V1`
 abbrev pub authDomain : List ℕ

@@ -131,7 +131,7 @@ fn write_fitting(public: &[u8], sig: &[u8], hash: &[u8], out: &mut [u8])
     cbor::write::number_field(out, d, b"version", 1);
 }
 
-// The payload has 157 bytes.
+// The payload, of 157 bytes, at the front of out; or 19, then 11. It always fits a page, so there is no 9.
 pub fn write(public: &[u8], sig: &[u8], hash: &[u8], out: &mut [u8]) -> Wrote
     ensures { λ r. ⌜ Written 0 (authVerdict (now (public .entry)) (now (sig .entry)) (now (hash .entry))) (now (out .entry)) (now (out .exit)) r ⌝ }
 {

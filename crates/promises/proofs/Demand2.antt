@@ -12,6 +12,7 @@ use Rattle.wire.specs.declared.Wrote.{Wrote}
 use Rattle.wire.proofs.Writes.{bytes-injective}
 use Rattle.text.specs.Text.{Form, base64, zbase32, readText, textOf}
 use Rattle.text.proofs.Forms.{Lawful, base64-lawful, zbase32-lawful}
+use Rattle.frame.specs.Layout.{layout}
 use Rattle.frame.specs.Allowed.{Kind}
 use Rattle.frame.proofs.ReadsBack.{ReadsAs}
 use Rattle.page.specs.Page.{pageCount, pageVerdict, pageFrame, Printed, typed}
@@ -21,14 +22,14 @@ use Rattle.page.proofs.Typing.{frame-short}
 use Rattle.auth.specs.Auth.{authAt}
 use Rattle.shard.specs.Shard.{shardAt}
 use Rattle.slip.specs.Slip.{slip}
-use Rattle.slip.proofs.Round.{slip-carried, slip-reads}
+use Rattle.slip.proofs.Round.{slip-carried, slip-reads, slip-short, shard-carried, auth-carried}
 use Rattle.envelope.specs.Placed.{fine, unplaced, said}
 use Rattle.promises.specs.Formats.{Format, Exact, frames, textRead, scans, typing, auths, shards}
 use Rattle.promises.specs.Demand2.{ReadAs, Framed, Scanned, Typed, pageOf, ThroughText, Pages, Keyed, Signed, slipOf, Carries, Demand2}
-use Rattle.promises.proofs.Writers.{stands-front, wrote-done, written-room}
+use Rattle.promises.proofs.Writers.{Stands, stands-front, wrote-done, written-room}
 use Rattle.promises.proofs.Formats.{got-unplaced, frames-exact}
 use Rattle.promises.proofs.Texts.{scans-exact, typing-exact}
-use Rattle.promises.proofs.Payloads.{envelopes-exact, manifests-exact, auths-exact, shards-exact}
+use Rattle.promises.proofs.Payloads.{envelopes-exact, manifests-exact, auths-ruled, auths-exact, shards-ruled, shards-exact}
 use Rattle.promises.proofs.Links.Page.{page-write-base64-link, page-write-link, page-write-zbase32-link}
 use Rattle.promises.proofs.Links.Slip.{slip-auth-link, slip-key-link}
 
@@ -104,31 +105,48 @@ module _ (c : List ℕ) (size : ℕ) (y : Bytes c) (p : Printed c size) where
 
 -- ---- slips
 
-module _ {A : Type 0} (kind : ℕ) (k : Kind kind) (id contents out x : List ℕ) (n : ℕ) (g : Got A) (r : Wrote) (w : Written 0 (slip kind id contents g) out x r) (e : told r ≡ done n) where
-  carried-frame : ReadAs frames (take n x) (slipOf kind id contents)
-  carried-frame =
-      let t = wrote-done (slip kind id contents g) out x n r w e in
-      subst (λ (s : List ℕ). ReadAs frames s (slipOf kind id contents)) (sym (stands-front (t .2))) (read-as (slip-reads kind id contents g (t .0) k (t .1)))
+-- a slip for the payload f: each call of its writer keeps what `slip` says, and whatever the payload's writer wrote is carried
+module _ (f : Format) (exactly : Exact f) (kind : ℕ) (k : Kind kind) (reader : List ℕ → Got (f .Place)) (rule : (s : List ℕ) → f .read s ≡ unplaced (reader s))
+    (Writer : List ℕ → List ℕ → List ℕ → List ℕ → Answer ℕ → Type 0)
+    (keeps : (id contents out x : List ℕ) (a : Answer ℕ) → Writer id contents out x a → (r : Wrote) × Written 0 (slip kind id contents (reader contents)) out x r × (told r ≡ a))
+    (carried : (v : f .Value) (lent y : List ℕ) (m : ℕ) → f .Writes v lent y (done m) → (id : List ℕ) → length id ≡ 8
+    → (frame : List ℕ) × (slip kind id (take m y) (reader (take m y)) ≡ bytes frame)) where
+  wrote-slip : (id contents out x : List ℕ) (n : ℕ) → Writer id contents out x (done n) → (frame : List ℕ) × (slip kind id contents (reader contents) ≡ bytes frame) × Stands frame out x n
+  wrote-slip id contents out x n c = let t = keeps id contents out x (done n) c in wrote-done (slip kind id contents (reader contents)) out x n (t .0) (t .1) (t .2)
 
-  carried-payload : (p : A) × (unplaced g ≡ fine p)
-  carried-payload =
-      let t = wrote-done (slip kind id contents g) out x n r w e in
-      let c = slip-carried kind id contents g (t .0) (t .1) in
-      (c .value, got-unplaced (c .accepted))
+  carries : Carries f kind Writer
+  carries = record {
+    taken = λ v lent y m w id out x a i l c.
+        let t = keeps id (take m y) out x a c in
+        let h = carried v lent y m w id i in
+        let s = slip-short kind id (take m y) (reader (take m y)) (h .0) (h .1) in
+        (length (h .0), written-room (h .0) out x a (omega arith) (t .0) (rw (h .1) at (t .1)) (t .2) .0);
+    back = λ id contents out x n c.
+        let t = wrote-slip id contents out x n c in
+        subst (λ (s : List ℕ). ReadAs frames s (slipOf kind id contents)) (sym (stands-front (t .2))) (read-as (slip-reads kind id contents (reader contents) (t .0) k (t .1)));
+    accepted = λ id contents out x n c a r.
+        let t = wrote-slip id contents out x n c in
+        let u = slip-carried kind id contents (reader contents) (t .0) (t .1) in
+        (u .value, exactly .reason contents a r ∙ ap said (rule contents ∙ got-unplaced (u .accepted)));
+  }
 
 key-carries : Carries shards 0x4B Keyed
-key-carries id contents out x n (l, a, b, c, d, e) =
-    let k : Kind 0x4B = inr (inl refl) in
-    let w = rw (a, b, c, d) at (slip-key-link l) in
-    let p = carried-payload 0x4B k id contents out x n (shardAt contents) (l .answer) w e in
-    (carried-frame 0x4B k id contents out x n (shardAt contents) (l .answer) w e, λ b r. (p .0, shards-exact .reason contents b r ∙ ap said (p .1)))
+key-carries =
+    carries shards shards-exact 0x4B (inr (inl refl)) shardAt (λ s. refl) Keyed
+    (λ id contents out x a (k, i, c, o, l, e). (k .answer, rw (i, c, o, l) at (slip-key-link k), e))
+    (λ v lent y m w id i.
+    let t = shards-ruled .writes v lent y m w in
+    let h = shard-carried id i (v .signed .public) (v .signed .sig) (v .signed .hash) (v .kind) (v .share) (v .len) (v .quorum) (t .1) in
+    (layout 0x4B id 0 1 (t .0), rw (stands-front (t .2)) h))
 
 auth-carries : Carries auths 0x41 Signed
-auth-carries id contents out x n (l, a, b, c, d, e) =
-    let k : Kind 0x41 = inr (inr refl) in
-    let w = rw (a, b, c, d) at (slip-auth-link l) in
-    let p = carried-payload 0x41 k id contents out x n (authAt contents) (l .answer) w e in
-    (carried-frame 0x41 k id contents out x n (authAt contents) (l .answer) w e, λ b r. (p .0, auths-exact .reason contents b r ∙ ap said (p .1)))
+auth-carries =
+    carries auths auths-exact 0x41 (inr (inr refl)) authAt (λ s. refl) Signed
+    (λ id contents out x a (k, i, c, o, l, e). (k .answer, rw (i, c, o, l) at (slip-auth-link k), e))
+    (λ v lent y m w id i.
+    let t = auths-ruled .writes v lent y m w in
+    let h = auth-carried id i (v .public) (v .sig) (v .hash) (t .1) in
+    (layout 0x41 id 0 1 (t .0), rw (stands-front (t .2)) h))
 
 -- ---- the demand
 

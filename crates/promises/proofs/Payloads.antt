@@ -5,15 +5,14 @@ use mathlib.Core.Path.{_≡_, refl, sym, ap, _∙_, subst}
 use mathlib.Core.List.{List, []}
 use native.Mathlib.Omega.{arith}
 use native.Mathlib.Nat.{min-le-right}
-use borrow.Author.Tests.{eqb-true, eq-eqb, le-leb}
-use lib.Dec.{eqb, leb}
+use borrow.Author.Tests.{le-leb}
 use lib.ListN.{length, take, drop, length-take, length-drop}
 use denote.Ref.{now}
 use Rattle.wire.specs.Answer.{Got, got, refused, done}
 use Rattle.wire.specs.Over.{over}
 use Rattle.wire.specs.Writing.{Verdict, bytes}
 use Rattle.wire.specs.declared.Wrote.the-variants.{Done}
-use Rattle.wire.proofs.Writes.{passed, bytes-injective}
+use Rattle.wire.proofs.Writes.{bytes-injective}
 use Rattle.cover.specs.Cover.{Cover, coverOf}
 use Rattle.envelope.specs.Placed.{Placed, fine, faulty, on, unplaced, said}
 use Rattle.envelope.specs.Envelope.{judged, envelopeAt, verdict}
@@ -31,9 +30,8 @@ use Rattle.manifest.proofs.Rounds.{manifest-back, manifest-only, manifest-withi
 use Rattle.manifest.proofs.Answers.{padded-long}
 use Rattle.manifest.proofs.Parts.{created-only}
 use Rattle.manifest.proofs.Lengths.{verdict-fit}
-use Rattle.auth.specs.Auth.{Claim, authAt, authOf, authVerdict}
-use Rattle.auth.proofs.Lengths.{auth-length}
-use Rattle.auth.proofs.Rounds.{auth-back, auth-only}
+use Rattle.auth.specs.Auth.{Claim, authAt, authVerdict}
+use Rattle.auth.proofs.Rounds.{auth-written-back, auth-again}
 use Rattle.shard.specs.Shard.{Shard, shardAt, shardVerdict}
 use Rattle.shard.proofs.Rounds.{shard-written-back, shard-again}
 use Rattle.envelope.proofs.read as envelope-read
@@ -192,43 +190,16 @@ manifests-exact = exact manifests ManifestForm manifests-ruled
 
 -- ---- the auth payload
 
--- what the writer takes has its lengths, and is laid out
-auth-taken : (public sig hash s : List ℕ) → authVerdict public sig hash ≡ bytes s
-    → (length public ≡ 32) × (length sig ≡ 64) × (length hash ≡ 32) × (authOf public sig hash ≡ s)
-unfolding authVerdict
-auth-taken public sig hash s e =
-    let a = passed (eqb (length public) 32) _ 19 e in
-    let b = passed (eqb (length sig) 64) _ 19 (a .1) in
-    let c = passed (eqb (length hash) 32) _ 19 (b .1) in
-    let d = passed (leb (length (authOf public sig hash)) 480) _ 9 (c .1) in
-    (eqb-true (length public) 32 (a .0), eqb-true (length sig) 64 (b .0), eqb-true (length hash) 32 (c .0), bytes-injective (d .1))
-
-auth-takes : (public sig hash : List ℕ) → length public ≡ 32 → length sig ≡ 64 → length hash ≡ 32 → authVerdict public sig hash ≡ bytes (authOf public sig hash)
-unfolding authVerdict
-auth-takes public sig hash p g h =
-    rw (
-      eq-eqb (length public) 32 p,
-      eq-eqb (length sig) 64 g,
-      eq-eqb (length hash) 32 h,
-      le-leb (length (authOf public sig hash)) 480 (omega (arith, auth-length public sig hash p g h)),
-    )
-
-abbrev AuthForm : Auth → List ℕ → Type 0
+abbrev pub AuthForm : Auth → List ℕ → Type 0
 AuthForm v s = authVerdict (v .public) (v .sig) (v .hash) ≡ bytes s
 
 signed-back : (v : Auth) (s : List ℕ) → AuthForm v s → (p : Claim) × (auths .read s ≡ fine p) × (auths .says s p ≡ v)
 signed-back v s e =
-    let t = auth-taken (v .public) (v .sig) (v .hash) s e in
-    let r = auth-back (v .public) (v .sig) (v .hash) (t .0) (t .1) (t .2) in
-    subst (λ (x : List ℕ). (p : Claim) × (auths .read x ≡ fine p) × (auths .says x p ≡ v)) (t .3)
+    let r = auth-written-back (v .public) (v .sig) (v .hash) e in
     (r .0, got-unplaced (r .1), rw (r .2 .public-is, r .2 .sig-is, r .2 .hash-is))
 
 signed-only : (s : List ℕ) (p : Claim) → Slice s → auths .read s ≡ fine p → AuthForm (auths .says s p) s
-signed-only s p y e =
-    let g = unplaced-got (authAt s) p e in
-    let r = auth-only (y .0) (g .1) in
-    let l = r .2 in
-    auth-takes (take 32 (drop (p .public) s)) (take 64 (drop (p .sig) s)) (take 32 (drop (p .hash) s)) (l .public-long) (l .sig-long) (l .hash-long) ∙ ap bytes (sym (r .0))
+signed-only s p y e = let g = unplaced-got (authAt s) p e in auth-again (y .0) (g .1)
 
 module _ (v : Auth) (s out : List ℕ) (e : AuthForm v s) (h : length s ≤ length out) where
   abbrev signing : Call auth-write.Kinds.ps auth-write.Kinds.r auth-write.Reads.Learnt
@@ -243,7 +214,7 @@ module _ (v : Auth) (s out : List ℕ) (e : AuthForm v s) (h : length s ≤ leng
 abbrev auth-reading : List ℕ → Call auth-read.Kinds.ps auth-read.Kinds.r auth-read.Reads.Learnt
 auth-reading s = record { lifetimes = ([], tt); args = (slice s, tt); answer = claim-answer (authAt s) .0; left = (tt, tt); kept = claim-answer (authAt s) .1 }
 
-auths-ruled : Ruled auths AuthForm
+pub auths-ruled : Ruled auths AuthForm
 auths-ruled = record {
   back = signed-back;
   only = signed-only;
@@ -263,7 +234,7 @@ auths-exact = exact auths AuthForm auths-ruled
 abbrev verdictOf : Share → Verdict
 verdictOf v = shardVerdict (v .signed .public) (v .signed .sig) (v .signed .hash) (v .kind) (v .share) (v .len) (v .quorum)
 
-abbrev ShardForm : Share → List ℕ → Type 0
+abbrev pub ShardForm : Share → List ℕ → Type 0
 ShardForm v s = verdictOf v ≡ bytes s
 
 share-back : (v : Share) (s : List ℕ) → ShardForm v s → (p : Shard) × (shards .read s ≡ fine p) × (shards .says s p ≡ v)
@@ -308,7 +279,7 @@ module _ (v : Share) (s out : List ℕ) (e : ShardForm v s) (h : length s ≤ le
 abbrev shard-reading : List ℕ → Call shard-read.Kinds.ps shard-read.Kinds.r shard-read.Reads.Learnt
 shard-reading s = record { lifetimes = ([], tt); args = (slice s, tt); answer = shard-answer (shardAt s) .0; left = (tt, tt); kept = shard-answer (shardAt s) .1 }
 
-shards-ruled : Ruled shards ShardForm
+pub shards-ruled : Ruled shards ShardForm
 shards-ruled = record {
   back = share-back;
   only = share-only;

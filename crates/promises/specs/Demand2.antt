@@ -78,11 +78,13 @@ Signed = SlipCall slip-auth.Reads.Learnt
 abbrev pub slipOf : ℕ → List ℕ → List ℕ → Frame
 slipOf kind id contents = record { kind = kind; id = id; index = 0; total = 1; contents = contents }
 
--- a slip that is written reads back, and carries what the payload's reader accepts
-abbrev pub Carries : (f : Format) → ℕ → (List ℕ → List ℕ → List ℕ → List ℕ → Answer ℕ → Type 0) → Type 0
-Carries f kind Writer =
-    (id contents out x : List ℕ) (n : ℕ) → Writer id contents out x (done n)
-    → ReadAs frames (take n x) (slipOf kind id contents) × ((a : Answer (f .Place)) → f .Reads contents a → (p : f .Place) × (a ≡ done p))
+-- no payload that was written is too long for a slip: under an id of 8 bytes it is taken where 500 bytes are lent. And a slip that is written reads back, and carries
+-- what the payload's reader accepts
+pub record Carries (f : Format) (kind : ℕ) (Writer : List ℕ → List ℕ → List ℕ → List ℕ → Answer ℕ → Type 0) : Type 0 where
+  pub taken : (v : f .Value) (lent y : List ℕ) (m : ℕ) → f .Writes v lent y (done m)
+      → (id out x : List ℕ) (a : Answer ℕ) → length id ≡ 8 → 500 ≤ length out → Writer id (take m y) out x a → (n : ℕ) × (a ≡ done n)
+  pub back : (id contents out x : List ℕ) (n : ℕ) → Writer id contents out x (done n) → ReadAs frames (take n x) (slipOf kind id contents)
+  pub accepted : (id contents out x : List ℕ) (n : ℕ) → Writer id contents out x (done n) → (a : Answer (f .Place)) → f .Reads contents a → (p : f .Place) × (a ≡ done p)
 
 pub record Demand2 : Type 0 where
   -- pages: any frame; those of a printed document; key and auth frames

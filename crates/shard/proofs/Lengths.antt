@@ -1,4 +1,4 @@
--- How long the payload and the signed bytes are: a payload that the writer accepts has at most 456 bytes. Assumes nothing.
+-- How long the payload and the signed bytes are: a payload of allowed values has at most 456 bytes, and some have that many. Assumes nothing.
 use Prim.Native.Nat.{ℕ, _+_, _≤_, _<_}
 use mathlib.Core.Path.{_≡_}
 use mathlib.Core.Logic.{⊎-elim}
@@ -9,7 +9,7 @@ use Rattle.wire.proofs.Cases.{lt-or-le}
 use Rattle.cbor.specs.Form.{headSize, stringFieldOf, numberFieldOf}
 use Rattle.cbor.specs.Names.{pubKey, sigKey, hashKey, typeKey, shareKey, lengthKey, versionKey, thresholdKey, shareCountKey, shareIndexKey}
 use Rattle.cbor.proofs.Sizes.{size-one, size-two, size-most, length-string-field, length-number-field, length-field-two, length-number-field-one}
-use Rattle.shard.specs.Shard.{contentOf, quorumOf, restOf, shardOf, signedOf}
+use Rattle.shard.specs.Shard.{signingSeed, padded, contentOf, quorumOf, restOf, shardOf, signedOf}
 use Rattle.shard.specs.declared.Quorum.{Quorum}
 use Rattle.shard.proofs.Allowed.{AllowedRest, Allowed, kind-most, length-most}
 
@@ -125,9 +125,29 @@ rest-most hash kind share len q a =
       size-small (q .index) (omega (arith, b .last, b .most)),
     )
 
+-- a page holds 480 bytes, so the payload of allowed values always fits one
 pub shard-most : (public sig hash kind share : List ℕ) (len : ℕ) (q : Quorum) → Allowed public sig hash kind share len q → length (shardOf public sig hash kind share len q) ≤ 456
 shard-most public sig hash kind share len q a =
     omega (arith, shard-length hash kind share len q public (a .public-long) sig (a .sig-long), rest-most hash kind share len q (a .rest))
+
+-- and the bound is reached, wherever each value is as long as it can be
+pub shard-longest : (public sig hash share : List ℕ) (len : ℕ) (q : Quorum) → Allowed public sig hash signingSeed share len q → length share ≡ 224 → 24 ≤ q .threshold → 24 ≤ q .index
+    → length (shardOf public sig hash signingSeed share len q) ≡ 456
+unfolding padded
+shard-longest public sig hash share len q a s t i =
+    let c = a .rest .content in
+    let b = a .rest .quorum in
+    let l = length-most signingSeed share len c in
+    omega (
+      arith,
+      shard-length hash signingSeed share len q public (a .public-long) sig (a .sig-long),
+      rest-length hash signingSeed share len q (a .rest .hash-long) (omega arith),
+      size-two (length share) (omega arith) (omega arith),
+      size-two len (omega (arith, c .whole)) (omega arith),
+      size-two (q .threshold) t (omega (arith, b .enough, b .most)),
+      size-two (q .count) (omega (arith, b .enough)) (omega (arith, b .most)),
+      size-two (q .index) i (omega (arith, b .last, b .most)),
+    )
 
 pub signed-most : (public hash kind share : List ℕ) (len : ℕ) (q : Quorum) → length public ≡ 32 → AllowedRest hash kind share len q → length (signedOf public hash kind share len q) ≤ 404
 signed-most public hash kind share len q p a = omega (arith, signed-length hash kind share len q public p, rest-most hash kind share len q a)

@@ -4,7 +4,7 @@ pub mod Spans
 pub mod Allowed
 pub mod Lengths
 pub mod Runs
-pub mod Writers
 pub mod Verdicts
+pub mod Writers
 pub mod Rounds
 pub mod Examples

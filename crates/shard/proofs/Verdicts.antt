@@ -4,8 +4,8 @@ use mathlib.Core.Path.{_≡_, ap}
 use mathlib.Core.List.{List}
 use mathlib.Core.Bool.{_&&_}
 use native.Mathlib.Omega.{arith}
-use borrow.Author.Tests.{eq-eqb, le-leb, eqb-true}
-use lib.Dec.{leb, eqb}
+use borrow.Author.Tests.{eq-eqb, eqb-true}
+use lib.Dec.{eqb}
 use lib.ListN.{length}
 use Rattle.wire.specs.Writing.{bytes}
 use Rattle.wire.proofs.Cases.{both-hold}
@@ -17,33 +17,25 @@ use Rattle.shard.proofs.Lengths.{shard-most}
 
 module _ (hash kind share : List ℕ) (len : ℕ) (q : Quorum) (public : List ℕ) where
   module _ (sig : List ℕ) where
-    -- a payload of allowed values is never above 480 bytes
     pub shard-accepted : Allowed public sig hash kind share len q → shardVerdict public sig hash kind share len q ≡ bytes (shardOf public sig hash kind share len q)
     unfolding shardVerdict
-    shard-accepted a =
-        rw (
-          eq-eqb (length public) 32 (a .public-long),
-          eq-eqb (length sig) 64 (a .sig-long),
-          rest-yes hash kind share len q (a .rest),
-          le-leb (length (shardOf public sig hash kind share len q)) 480 (omega (arith, shard-most public sig hash kind share len q a)),
-        )
+    shard-accepted a = rw (eq-eqb (length public) 32 (a .public-long), eq-eqb (length sig) 64 (a .sig-long), rest-yes hash kind share len q (a .rest))
 
     pub shard-accepts : {bs : List ℕ} → shardVerdict public sig hash kind share len q ≡ bytes bs → Allowed public sig hash kind share len q × (shardOf public sig hash kind share len q ≡ bs)
     unfolding shardVerdict
     shard-accepts h =
         let t = passed (eqb (length public) 32 && (eqb (length sig) 64 && restFits hash kind share len q)) _ 19 h in
         let a = both-hold (eqb (length public) 32) _ (t .0) in
-        let b = both-hold (eqb (length sig) 64) _ (a .1) in
-        let u = passed (leb (length (shardOf public sig hash kind share len q)) 480) _ 9 (t .1) in (
+        let b = both-hold (eqb (length sig) 64) _ (a .1) in (
           record {
             public-long = eqb-true (length public) 32 (a .0);
             sig-long = eqb-true (length sig) 64 (b .0);
             rest = rest-passed hash kind share len q (b .1);
           },
-          bytes-injective (u .1),
+          bytes-injective (t .1),
         )
 
-    -- nor above 456
+    -- whatever the writer writes fits a page
     pub shard-written-most : {bs : List ℕ} → shardVerdict public sig hash kind share len q ≡ bytes bs → length bs ≤ 456
     shard-written-most h =
         let a = shard-accepts h in

@@ -4,7 +4,7 @@ use mathlib.Core.Path.{_≡_, sym, _∙_}
 use mathlib.Core.Bool.{Bool, true, false, not}
 use mathlib.Core.List.{List}
 use native.Mathlib.Omega.{arith}
-use borrow.Author.Tests.{eq-eqb, ne-eqb, le-leb, lt-leb, not-true, not-false}
+use borrow.Author.Tests.{eq-eqb, ne-eqb, not-true, not-false}
 use lib.ListN.{length}
 use Rattle.wire.specs.Over.{over}
 use Rattle.wire.specs.Writing.{bytes, Written}
@@ -12,15 +12,18 @@ use Rattle.wire.specs.declared.Wrote.the-variants.{Done, Refused}
 use Rattle.wire.proofs.Writes.{written, no-room, denied}
 use Rattle.shard.specs.Shard.{restFits, restOf, shardOf, shardVerdict, signedOf, signedVerdict}
 use Rattle.shard.specs.declared.Quorum.{Quorum}
-use Rattle.shard.proofs.Allowed.{rest-passed, kind-most}
+use Rattle.shard.proofs.Allowed.{AllowedRest, rest-passed, kind-most}
 use Rattle.shard.proofs.Lengths.{shard-length, signed-length}
+use Rattle.shard.proofs.Verdicts.{shard-accepted, signed-accepted}
 
 module _ (hash kind share : List ℕ) (len : ℕ) (q : Quorum) where
+  -- the code's test passed
+  rest-allowed : (r : Bool) → r ≡ restFits hash kind share len q → not r ≡ false → AllowedRest hash kind share len q
+  rest-allowed r e h = rest-passed hash kind share len q (sym e ∙ not-false r h)
+
   -- what is asked for the form's length
   pub rest-sized : (r : Bool) → r ≡ restFits hash kind share len q → not r ≡ false → (length hash ≡ 32) × (length kind ≤ 12) × (length share ≤ 224)
-  rest-sized r e h =
-      let a = rest-passed hash kind share len q (sym e ∙ not-false r h) in
-      (a .hash-long, kind-most kind (a .content .type), a .content .most)
+  rest-sized r e h = let a = rest-allowed r e h in (a .hash-long, kind-most kind (a .content .type), a .content .most)
 
   -- there is room: n is the length of the form from `hash` on
   module _ (public : List ℕ) (n room : ℕ) (p : length public ≡ 32) (e : n ≡ length (restOf hash kind share len q)) where
@@ -49,23 +52,14 @@ module _ (hash kind share : List ℕ) (len : ℕ) (q : Quorum) where
           whole : length (shardOf public sig hash kind share len q) ≡ 109 + n
           whole = omega (arith, shard-length hash kind share len q public p sig g)
 
-          pub shard-large : 480 < 109 + n → Written 0 (shardVerdict public sig hash kind share len q) x x (Refused 9)
-          unfolding shardVerdict
-          shard-large l =
-              rw (eq-eqb (length public) 32 p, eq-eqb (length sig) 64 g, ← f, not-false r h, lt-leb (length (shardOf public sig hash kind share len q)) 480 (omega (arith, whole)))
-              (denied 0 x 9)
+          judged : shardVerdict public sig hash kind share len q ≡ bytes (shardOf public sig hash kind share len q)
+          judged = shard-accepted hash kind share len q public sig (record { public-long = p; sig-long = g; rest = rest-allowed r f h })
 
-          module _ (m : 109 + n ≤ 480) where
-            judged : shardVerdict public sig hash kind share len q ≡ bytes (shardOf public sig hash kind share len q)
-            unfolding shardVerdict
-            judged =
-                rw (eq-eqb (length public) 32 p, eq-eqb (length sig) 64 g, ← f, not-false r h, le-leb (length (shardOf public sig hash kind share len q)) 480 (omega (arith, whole)))
+          pub shard-short : length x < 109 + n → Written 0 (shardVerdict public sig hash kind share len q) x x (Refused 11)
+          shard-short l = rw judged (no-room 0 x (shardOf public sig hash kind share len q) (omega (arith, whole)))
 
-            pub shard-short : length x < 109 + n → Written 0 (shardVerdict public sig hash kind share len q) x x (Refused 11)
-            shard-short l = rw judged (no-room 0 x (shardOf public sig hash kind share len q) (omega (arith, whole)))
-
-            pub shard-done : (z : List ℕ) → 109 + n ≤ length x → z ≡ over 0 (shardOf public sig hash kind share len q) x → Written 0 (shardVerdict public sig hash kind share len q) x z (Done (109 + n))
-            shard-done z l o = rw judged (written 0 x (shardOf public sig hash kind share len q) z (109 + n) (omega (arith, whole)) (sym whole) o)
+          pub shard-done : (z : List ℕ) → 109 + n ≤ length x → z ≡ over 0 (shardOf public sig hash kind share len q) x → Written 0 (shardVerdict public sig hash kind share len q) x z (Done (109 + n))
+          shard-done z l o = rw judged (written 0 x (shardOf public sig hash kind share len q) z (109 + n) (omega (arith, whole)) (sym whole) o)
 
   module _ (public x : List ℕ) where
     pub signed-public : (length public ≡ 32 → ⊥) → Written 0 (signedVerdict public hash kind share len q) x x (Refused 19)
@@ -82,8 +76,7 @@ module _ (hash kind share : List ℕ) (len : ℕ) (q : Quorum) where
         signed-whole = omega (arith, signed-length hash kind share len q public p)
 
         signed-judged : signedVerdict public hash kind share len q ≡ bytes (signedOf public hash kind share len q)
-        unfolding signedVerdict
-        signed-judged = rw (eq-eqb (length public) 32 p, ← f, not-false r h)
+        signed-judged = signed-accepted hash kind share len q public p (rest-allowed r f h)
 
         pub signed-short : length x < 57 + n → Written 0 (signedVerdict public hash kind share len q) x x (Refused 11)
         signed-short l = rw signed-judged (no-room 0 x (signedOf public hash kind share len q) (omega (arith, signed-whole)))

@@ -117,12 +117,10 @@ quorumFits q =
 unfoldable pub restFits : List ℕ → List ℕ → List ℕ → ℕ → Quorum → Bool
 restFits hash kind share len q = eqb (length hash) 32 && (contentFits kind share len && quorumFits q)
 
--- a value outside its range is 19; then a payload above 480 bytes is 9
+-- a value outside its range is 19. There is no 9: the payload of values in their ranges has at most 456 bytes (`shard-most`: proofs/Lengths; 02, Ticket 11)
 unfoldable pub shardVerdict : List ℕ → List ℕ → List ℕ → List ℕ → List ℕ → ℕ → Quorum → Verdict
 shardVerdict public sig hash kind share len q =
-    choose (eqb (length public) 32 && (eqb (length sig) 64 && restFits hash kind share len q))
-    (choose (leb (length (shardOf public sig hash kind share len q)) 480) (bytes (shardOf public sig hash kind share len q)) (fault 9))
-    (fault 19)
+    choose (eqb (length public) 32 && (eqb (length sig) 64 && restFits hash kind share len q)) (bytes (shardOf public sig hash kind share len q)) (fault 19)
 
 -- ---- the bytes that get signed
 

@@ -17,11 +17,7 @@ use cbor::step_no;
 use part::ContentRead;
 use part::QuorumRead;
 use wire::OUT_OF_RANGE;
-use wire::TOO_LARGE;
 use wire::Wrote;
-
-// House size of a payload, which is the data of one frame.
-const MOST_PAYLOAD: usize = 480;
 
 // Where bytes of the input stand.
 pub struct Span {
@@ -132,7 +128,7 @@ pub fn read(s: &[u8]) -> ShardRead
     body(s, b, public, sig, hash)
 }
 
-// The payload of these values at the front of out.
+// The payload of these values at the front of out; or 19, then 11. It has at most 456 bytes, so it always fits a page and there is no 9.
 pub fn write(
     public: &[u8],
     sig: &[u8],
@@ -162,9 +158,6 @@ pub fn write(
         return Wrote::Refused { no: OUT_OF_RANGE };
     }
     let len = form::PAYLOAD_FRONT + form::rest_size(hash, kind, share, length, q);
-    if MOST_PAYLOAD < len {
-        return Wrote::Refused { no: TOO_LARGE };
-    }
     if out.len() < len {
         return Wrote::Refused { no: wire::NO_ROOM };
     }

@@ -1,19 +1,28 @@
--- What such a frame carries reads back, and only what the payload's reader accepts is carried. Assumes nothing.
+-- What such a frame carries reads back, and only what the payload's reader accepts is carried; whatever the payload's writer wrote is. Assumes nothing.
 use Prim.Native.Nat.{ℕ, _≤_}
 use mathlib.Core.Path.{_≡_, refl, sym}
 use mathlib.Core.Logic.{inr}
 use mathlib.Core.List.{List}
 use native.Mathlib.Omega.{arith}
-use borrow.Author.Tests.{eqb-true, leb-true}
+use borrow.Author.Tests.{eqb-true, leb-true, eq-eqb, le-leb}
 use lib.Dec.{eqb, leb}
 use lib.ListN.{length}
 use Rattle.wire.specs.Answer.{Got, got, refused}
 use Rattle.wire.specs.Writing.{bytes}
 use Rattle.wire.proofs.Writes.{passed, bytes-injective}
+use Rattle.varint.proofs.Lengths.{varint-length-two}
 use Rattle.frame.specs.Layout.{layout}
 use Rattle.frame.specs.Allowed.{Kind, Allowed}
+use Rattle.frame.proofs.Lengths.{layout-length-short}
 use Rattle.frame.proofs.ReadsBack.{ReadsAs, reads-back}
-use Rattle.slip.specs.Slip.{carried, slip}
+use Rattle.auth.specs.Auth.{authVerdict}
+use Rattle.auth.proofs.Verdicts.{auth-written-long}
+use Rattle.auth.proofs.Rounds.{auth-written-back}
+use Rattle.shard.specs.Shard.{shardVerdict}
+use Rattle.shard.specs.declared.Quorum.{Quorum}
+use Rattle.shard.proofs.Verdicts.{shard-written-most}
+use Rattle.shard.proofs.Rounds.{shard-written-back}
+use Rattle.slip.specs.Slip.{carried, slip, keyFrame, authFrame}
 
 -- why a frame was written, and which
 pub record Carried {A : Type 0} (kind : ℕ) (id contents : List ℕ) (g : Got A) (frame : List ℕ) : Type 0 where
@@ -43,3 +52,28 @@ slip-reads kind id contents g frame k h =
     let a : Allowed kind id 0 1 contents =
     record { type = k; eight = c .eight; below = omega arith; pages = omega arith; single = inr refl; short = c .short } in
     rw e (reads-back kind id 0 1 contents a)
+
+-- such a frame has at most 500 bytes
+pub slip-short : {A : Type 0} (kind : ℕ) (id contents : List ℕ) (g : Got A) (frame : List ℕ) → slip kind id contents g ≡ bytes frame → length frame ≤ 500
+slip-short kind id contents g frame h =
+    let c = slip-carried kind id contents g frame h in
+    let l = c .short in
+    let e = c .is in
+    rw e (omega (arith, layout-length-short kind id 0 1 contents (c .eight) (omega arith) (omega arith), varint-length-two (length contents) (omega arith)))
+
+-- ---- what the payloads' writers write: no page is too small for it
+
+-- what fits and is accepted is carried
+carries : {A : Type 0} (kind : ℕ) (id contents : List ℕ) {g : Got A} {v : A} {next : ℕ} → length id ≡ 8 → length contents ≤ 480 → g ≡ got v next
+    → slip kind id contents g ≡ bytes (layout kind id 0 1 contents)
+unfolding slip
+carries kind id contents i l e = rw (eq-eqb (length id) 8 i, le-leb (length contents) 480 l, e)
+
+module _ (id : List ℕ) (i : length id ≡ 8) (public sig hash : List ℕ) where
+  pub shard-carried : (kind share : List ℕ) (len : ℕ) (q : Quorum) {bs : List ℕ} → shardVerdict public sig hash kind share len q ≡ bytes bs
+      → keyFrame id bs ≡ bytes (layout 0x4B id 0 1 bs)
+  shard-carried kind share len q {bs} h =
+      carries 0x4B id bs i (omega (arith, shard-written-most hash kind share len q public sig h)) (shard-written-back public sig hash kind share len q h .1)
+
+  pub auth-carried : {bs : List ℕ} → authVerdict public sig hash ≡ bytes bs → authFrame id bs ≡ bytes (layout 0x41 id 0 1 bs)
+  auth-carried {bs} h = carries 0x41 id bs i (omega (arith, auth-written-long public sig hash h)) (auth-written-back public sig hash h .1)

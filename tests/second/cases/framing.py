@@ -5,7 +5,7 @@ from ..frames import AUTH, KEY, MAIN, Frame, frame_write
 from ..sums import crc
 from .common import (Group, byte_damage, damaged, line, rooms, single, some_length, some_room,
                      truncations, with_byte)
-from .samples import auth_payload, shard_payload
+from .samples import auth_payload, longest_payload, shard_payload
 
 ID = bytes(range(0x10, 0x18))
 NUMBERS = [0, 1, 2, 94, 95, 96, 97, 98, 127, 128, 255, 256, 2**32, 2**63, 2**64 - 1]
@@ -170,17 +170,22 @@ def page_chance(rng):
 # Key and auth frames.
 
 
-def single_edges(verb, payload):
+def single_lines(verb, good):
     """Id, size, the reader's refusal, room: each alone and with those behind it."""
+    exact = 14 + len(varint_write(len(good))) + len(good) + 4
+    yield from ([line(verb, ID, good, room)] for room in rooms(exact))
+    bad = [b"", good[:-1], good + b"\0", b"\xa3" + good[1:], b"x" * 480, b"x" * 481,
+           good.ljust(480, b"\0"), good.ljust(481, b"\0"), b"x" * 20000]
+    for ident in (b"", ID[:7], ID, ID + b"\0", bytes(16)):
+        for data in [good, *bad]:
+            yield from ([line(verb, ident, data, room)] for room in (0, 18, 600))
+
+
+def single_edges(verb, *payloads):
+    """The edges of key-write or auth-frame-write around each of these payloads."""
     def edges(rng):
-        good = payload(rng)
-        exact = 14 + len(varint_write(len(good))) + len(good) + 4
-        yield from ([line(verb, ID, good, room)] for room in rooms(exact))
-        bad = [b"", good[:-1], good + b"\0", b"\xa3" + good[1:], b"x" * 480, b"x" * 481,
-               good.ljust(480, b"\0"), good.ljust(481, b"\0"), b"x" * 20000]
-        for ident in (b"", ID[:7], ID, ID + b"\0", bytes(16)):
-            for data in [good, *bad]:
-                yield from ([line(verb, ident, data, room)] for room in (0, 18, 600))
+        for payload in payloads:
+            yield from single_lines(verb, payload(rng))
     return edges
 
 
@@ -199,7 +204,8 @@ GROUPS = [
     Group(["frame-read"], 5, [line("frame-read", laid_out())], read_edges, read_chance),
     Group(["page-write"], 1, [b"page-write 0102030405 2 1 600"], page_edges, page_chance),
     Group(["key-write"], 1, [b"key-write 1011121314151617 00 600"],
-          single_edges("key-write", shard_payload), single_chance("key-write", shard_payload)),
+          single_edges("key-write", shard_payload, longest_payload),
+          single_chance("key-write", shard_payload)),
     Group(["auth-frame-write"], 1, [b"auth-frame-write 1011121314151617 00 600"],
           single_edges("auth-frame-write", auth_payload),
           single_chance("auth-frame-write", auth_payload)),

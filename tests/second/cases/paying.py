@@ -4,7 +4,7 @@ from itertools import product
 
 from ..payloads import TYPES, auth_pairs, encode, shard_pairs, without_sig
 from .common import Group, damaged, line, rooms, single, some_room
-from .samples import auth_payload, auth_values, shard_payload, shard_values
+from .samples import auth_payload, auth_values, longest, shard_payload, shard_values
 from .tokens import variations
 
 SMALL = [0, 1, 2, 3, 23, 24, 254, 255, 256, 65535, 65536, 2**32, 2**64 - 1]
@@ -97,12 +97,10 @@ def every_share(rng):
 
 
 def shard_rooms(rng):
-    """Every room around the exact one, for the smallest and the largest shard."""
+    """Every room around the exact one, for the shortest and the longest shard."""
     good = shard_values(rng)
-    small = good._replace(type=TYPES[0], share=bytes(16), length=1, threshold=1, count=1, index=1)
-    large = good._replace(type=TYPES[1], share=bytes(224), length=224, threshold=255, count=255,
-                          index=255)
-    for shard in (small, large):
+    short = good._replace(type=TYPES[0], share=bytes(16), length=1, threshold=1, count=1, index=1)
+    for shard in (short, longest(good)):
         unsigned = [value for name, value in shard._asdict().items() if name != "sig"]
         exact = len(encode(shard_pairs(shard)))
         signed = 18 + len(encode(without_sig(shard_pairs(shard))))

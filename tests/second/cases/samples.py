@@ -26,9 +26,19 @@ def shard_values(rng):
     return Shard(*auth_values(rng), rng.choice(TYPES), share, length, threshold, count, index)
 
 
+def longest(shard):
+    """A shard of the same signer with every other value as long as it can be."""
+    return shard._replace(type=TYPES[1], share=bytes(224), length=224, threshold=255, count=255, index=255)
+
+
 def shard_payload(rng):
     """A good shard payload."""
     return encode(shard_pairs(shard_values(rng)))
+
+
+def longest_payload(rng):
+    """A good shard payload of 456 bytes, the most that one has."""
+    return encode(shard_pairs(longest(shard_values(rng))))
 
 
 def some_path(rng):

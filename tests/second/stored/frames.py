@@ -3,7 +3,7 @@
 from ..cases.framing import ID, laid_out, with_crc
 from ..forms import varint_write
 from ..frames import AUTH, KEY, MAIN, Frame, frame_write
-from .payloads import AUTH_BYTES, SHARD_BYTES
+from .payloads import AUTH_BYTES, LONGEST_BYTES, SHARD_BYTES
 from .script import Section, call, note, title
 
 
@@ -120,8 +120,16 @@ def singles(verb, good):
     return entries
 
 
+def keys():
+    yield from singles("key-write", SHARD_BYTES)()
+    yield note("02, Ticket 11: the longest shard, of 456 bytes, fits: its frame has 476; 9 is for other data alone")
+    yield call("key-write", ID, LONGEST_BYTES, 476, is_=f"0 {main(0, 1, LONGEST_BYTES, KEY).hex()}")
+    yield call("key-write", ID, LONGEST_BYTES, 475, is_="11")
+    yield read(main(0, 1, LONGEST_BYTES, KEY), is_=f"0 4b {ID.hex()} 0 1 {LONGEST_BYTES.hex()}")
+
+
 SECTIONS = [
     Section(["frame-read"], frames), Section(["page-write"], pages),
-    Section(["key-write"], singles("key-write", SHARD_BYTES)),
+    Section(["key-write", "frame-read"], keys),
     Section(["auth-frame-write"], singles("auth-frame-write", AUTH_BYTES)),
 ]

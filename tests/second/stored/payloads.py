@@ -1,8 +1,8 @@
 """Stored calls of the auth, shard, manifest and envelope verbs."""
 
-from ..cases.common import with_byte
+from ..cases.common import argument, with_byte
 from ..cases.listing import manifest_line
-from ..cases.samples import manifest_payload
+from ..cases.samples import longest, manifest_payload
 from ..cases.tokens import joined, split, wide
 from ..envelope import envelope_bytes
 from ..manifest import File, Manifest
@@ -14,6 +14,8 @@ AUTH_VALUES = Auth(b"\x11" * 32, b"\x22" * 64, b"\x33" * 32)
 AUTH_BYTES = encode(auth_pairs(AUTH_VALUES))
 SHARD_VALUES = Shard(*AUTH_VALUES, b"passphrase", b"\x44" * 32, 17, 2, 3, 1)
 SHARD_BYTES = encode(shard_pairs(SHARD_VALUES))
+LONGEST = longest(SHARD_VALUES)
+LONGEST_BYTES = encode(shard_pairs(LONGEST))
 
 
 def items_changed(payload, place, head, contents):
@@ -121,16 +123,26 @@ def shard_writing():
         shard = SHARD_VALUES._replace(**changes)
         yield call("shard-write", *shard, 0, is_="19")
         yield call("shard-signed", *unsigned(shard), 0, is_="11" if "sig" in changes else "19")
-    largest = SHARD_VALUES._replace(type=b"signing-seed", share=bytes(224), length=224,
-                                    threshold=255, count=255, index=255)
-    yield note("the largest shard has 456 bytes")
-    yield call("shard-write", *largest, 456)
-    yield call("shard-write", *largest, 455, is_="11")
+
+
+def shard_longest():
+    yield note("02, Ticket 11: no shard has more than 456 bytes, and this one has them; 404 of it get signed")
+    shown = " ".join(map(argument, LONGEST))
+    yield call("shard-write", *LONGEST, 456, is_=f"0 {LONGEST_BYTES.hex()}")
+    yield call("shard-write", *LONGEST, 455, is_="11")
+    yield call("shard-read", LONGEST_BYTES, is_=f"0 {shown}")
+    signed = b"ETHERNITY-SHARD-V1" + encode(without_sig(shard_pairs(LONGEST)))
+    yield call("shard-signed", *unsigned(LONGEST), 404, is_=f"0 {signed.hex()}")
+    yield call("shard-signed", *unsigned(LONGEST), 403, is_="11")
+    yield note("one block more is 19, whatever the room, and so is one more of what it shares: never 9")
+    for changes in ({"share": bytes(240), "length": 240}, {"share": bytes(256), "length": 256}, {"length": 225}):
+        yield call("shard-write", *LONGEST._replace(**changes), 600, is_="19")
 
 
 def shard():
     yield from shard_reading()
     yield from shard_writing()
+    yield from shard_longest()
 
 
 FILES = (File(sha256(b"hello"), b"a.txt", 5, None), File(sha256(b""), b"b/c", 0, -7))

@@ -1,5 +1,5 @@
 -- `shard::write` meets its contract: each judgement in turn, then the write. Assumes nothing.
-use Rattle.shard.proofs.Writers.{rest-sized, shard-public, shard-sig, shard-rest, shard-large, shard-short, shard-fits, shard-done}
+use Rattle.shard.proofs.Writers.{rest-sized, shard-public, shard-sig, shard-rest, shard-short, shard-fits, shard-done}
 use borrow.Author.Needs.{needs}
 use Rattle.shard.proofs.write.Statement.{statement}
 use Rattle.shard.proofs.write.Tie as tie
@@ -23,22 +23,19 @@ add-len : tie.Need-add-len
 add-len c = search needs
 
 returns-4 : tie.Need-returns-4
-returns-4 c = search shard-large
-
-returns-5 : tie.Need-returns-5
-returns-5 c = search shard-short
+returns-4 c = search shard-short
 
 payload-requires : tie.Need-payload-requires
 payload-requires c κs =
-    let b = c .before .before .before in
+    let b = c .before .before in
     let f = b .before .before .before in
-    shard-fits _ _ _ _ _ _ _ _ (f .before .if1 .left) (b .rest-size .ensures .0) _ (f .if2 .left) (c .before .if5 .left)
+    shard-fits _ _ _ _ _ _ _ _ (f .before .if1 .left) (b .rest-size .ensures .0) _ (f .if2 .left) (c .before .if4 .left)
 
 same-length : tie.Need-same-length
 same-length c = search needs
 
-returns-6 : tie.Need-returns-6
-returns-6 c = search shard-done
+returns-5 : tie.Need-returns-5
+returns-5 c = search shard-done
 
 pub write-spec : {M : Type 1} → statement M
 write-spec =
@@ -51,7 +48,6 @@ write-spec =
     rest-size-requires
     add-len
     returns-4
-    returns-5
     payload-requires
     same-length
-    returns-6)
+    returns-5)
