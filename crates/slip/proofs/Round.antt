@@ -61,19 +61,19 @@ slip-short kind id contents g frame h =
     let e = c .is in
     rw e (omega (arith, layout-length-short kind id 0 1 contents (c .eight) (omega arith) (omega arith), varint-length-two (length contents) (omega arith)))
 
--- ---- what the payloads' writers write: no page is too small for it
+-- ---- what the payloads' writers write always fits
 
 -- what fits and is accepted is carried
-carries : {A : Type 0} (kind : ℕ) (id contents : List ℕ) {g : Got A} {v : A} {next : ℕ} → length id ≡ 8 → length contents ≤ 480 → g ≡ got v next
+accepted-carried : {A : Type 0} (kind : ℕ) (id contents : List ℕ) {g : Got A} {v : A} {next : ℕ} → length id ≡ 8 → length contents ≤ 480 → g ≡ got v next
     → slip kind id contents g ≡ bytes (layout kind id 0 1 contents)
 unfolding slip
-carries kind id contents i l e = rw (eq-eqb (length id) 8 i, le-leb (length contents) 480 l, e)
+accepted-carried kind id contents i l e = rw (eq-eqb (length id) 8 i, le-leb (length contents) 480 l, e)
 
 module _ (id : List ℕ) (i : length id ≡ 8) (public sig hash : List ℕ) where
   pub shard-carried : (kind share : List ℕ) (len : ℕ) (q : Quorum) {bs : List ℕ} → shardVerdict public sig hash kind share len q ≡ bytes bs
       → keyFrame id bs ≡ bytes (layout 0x4B id 0 1 bs)
   shard-carried kind share len q {bs} h =
-      carries 0x4B id bs i (omega (arith, shard-written-most hash kind share len q public sig h)) (shard-written-back public sig hash kind share len q h .1)
+      accepted-carried 0x4B id bs i (omega (arith, shard-written-most hash kind share len q public sig h)) (shard-written-back public sig hash kind share len q h .1)
 
   pub auth-carried : {bs : List ℕ} → authVerdict public sig hash ≡ bytes bs → authFrame id bs ≡ bytes (layout 0x41 id 0 1 bs)
-  auth-carried {bs} h = carries 0x41 id bs i (omega (arith, auth-written-long public sig hash h)) (auth-written-back public sig hash h .1)
+  auth-carried {bs} h = accepted-carried 0x41 id bs i (omega (arith, auth-written-long public sig hash h)) (auth-written-back public sig hash h .1)

@@ -126,7 +126,7 @@ def shard_writing():
 
 
 def shard_longest():
-    yield note("02, Ticket 11: no shard has more than 456 bytes, and this one has them; 404 of it get signed")
+    yield note("02, Ticket 11: no shard has more than 456 bytes, and this one has them; its bytes to sign are 404")
     shown = " ".join(map(argument, LONGEST))
     yield call("shard-write", *LONGEST, 456, is_=f"0 {LONGEST_BYTES.hex()}")
     yield call("shard-write", *LONGEST, 455, is_="11")
