@@ -40,6 +40,11 @@ pub record Allowed (public sig hash kind share : List ℕ) (len : ℕ) (q : Quor
   pub sig-long : length sig ≡ 64
   pub rest : AllowedRest hash kind share len q
 
+-- for the code's returns: a test that only allowed values pass says no to any other
+says-no : {P : Type 0} (t : Bool) → (t ≡ true → P) → (P → ⊥) → false ≡ t
+says-no true f n = absurd (n (f refl))
+says-no false f n = refl
+
 -- ---- type
 
 pub known-yes : (kind : List ℕ) → Kind kind → known kind ≡ true
@@ -88,6 +93,9 @@ module _ (kind share : List ℕ) (len : ℕ) where
         whole = eqb-true (length share) (padded len) (c .1);
       }
 
+  pub content-no : (AllowedContent kind share len → ⊥) → false ≡ contentFits kind share len
+  content-no = says-no (contentFits kind share len) content-passed
+
   -- the whole is no longer than a share may be
   pub length-most : AllowedContent kind share len → len ≤ 224
   unfolding padded
@@ -130,14 +138,10 @@ module _ (q : Quorum) where
         last = leb-true (q .index) (q .count) (d .1);
       }
 
-  -- for the code, which asks less: what is at most `share_count` needs no bound of its own above
   pub quorum-no : (AllowedQuorum q → ⊥) → false ≡ quorumFits q
-  quorum-no f = go (quorumFits q) refl
-    where
-      go : (t : Bool) → quorumFits q ≡ t → false ≡ t
-      go true e = absurd (f (quorum-passed e))
-      go false e = refl
+  quorum-no = says-no (quorumFits q) quorum-passed
 
+  -- for the code, which asks less: what is at most `share_count` needs no bound of its own above
   pub quorum-last : 1 ≤ q .threshold → q .threshold ≤ q .count → 1 ≤ q .index → q .index ≤ q .count → leb (q .count) 255 ≡ quorumFits q
   quorum-last a b c d = go (leb (q .count) 255) refl
     where

@@ -1,6 +1,8 @@
--- `shard::rule::content_fits` meets its contract: each test picks its case. Assumes nothing.
+-- `shard::rule::content_fits` meets its contract: the rule that a test breaks, and the last rule at the end. Assumes nothing.
+use native.Mathlib.Omega.{arith}
 use Rattle.wire.proofs.Branch.{tests}
 use Rattle.shard.specs.Shard.{contentFits}
+use Rattle.shard.proofs.Allowed.{content-no}
 use borrow.Author.Needs.{needs}
 use Rattle.shard.proofs.rule.content_fits.Statement.{statement}
 use Rattle.shard.proofs.rule.content_fits.Tie as tie
@@ -13,12 +15,10 @@ unfolding contentFits
 returns c = search tests
 
 returns-2 : tie.Need-returns-2
-unfolding contentFits
-returns-2 c = search tests
+returns-2 c = content-no _ _ _ (λ a. omega (arith, a .most))
 
 returns-3 : tie.Need-returns-3
-unfolding contentFits
-returns-3 c = search tests
+returns-3 c = content-no _ _ _ (λ a. omega (arith, a .least))
 
 fills-requires : tie.Need-fills-requires
 fills-requires c κs = search needs
