@@ -1,7 +1,12 @@
-"""The Rattle sources of the listed crates, the functions in them and which of them each calls, and the rows of docs/PROMISES.md."""
+"""The listed crates and what each cites, the functions in their sources and which of them each calls, and the rows of docs/PROMISES.md."""
 import os
 import re
 
+LAYER = re.compile(r"# ---- (.*)")
+IN_RATTLE = re.compile(r"(?<![\w:])(\w+)::")
+IN_ANTT = re.compile(r"Rattle·(\w+)\.")
+OWN_MODULE = re.compile(r"^\s*(?:pub )?mod (\w+)", re.MULTILINE)
+KIT = ("io", "libc", "os")
 PUBLIC = re.compile(r'^\s*pub (?:extern "C" )?fn (\w+)')
 ANY = re.compile(r'^\s*(?:pub(?:\(super\))? )?(?:extern "C" )?fn (\w+)')
 CALL = re.compile(r"((?:\w+::)*\w+)\(")
@@ -11,11 +16,42 @@ EDIT = re.compile(r"`(\w+/\w+)`")
 LAW = re.compile(r"`([a-z][\w-]*)`")
 
 
+def lines_of_crates(root):
+    """Each crate of crates.txt, in its order: its layer, which is the heading above it, its name, and what the line says it stands on."""
+    layer = None
+    for line in open(os.path.join(root, "crates.txt"), encoding="utf-8"):
+        heading = LAYER.match(line)
+        layer = heading[1].strip() if heading else layer
+        name, _, below = line.split("#")[0].partition(":")
+        if name.strip():
+            yield layer, name.strip(), below.split()
+
+
 def listed(root):
     """The crates of crates.txt, in its order."""
-    lines = open(os.path.join(root, "crates.txt"), encoding="utf-8")
-    names = (line.split("#")[0].split(":")[0].strip() for line in lines)
-    return [name for name in names if name]
+    return [name for _, name, _ in lines_of_crates(root)]
+
+
+def texts(root, crate):
+    """The Rattle and antt files of a crate, each with its text without comments. Must-fail edits are none of them."""
+    for part in ("src", "specs", "proofs"):
+        for folder, _, files in sorted(os.walk(os.path.join(root, "crates", crate, part))):
+            for file in sorted(files):
+                comment = {".rt": r"//.*", ".antt": r"--.*"}.get(os.path.splitext(file)[1])
+                if comment:
+                    path = os.path.join(folder, file)
+                    yield path, re.sub(comment, "", open(path, encoding="utf-8").read())
+
+
+def cited(root, crate):
+    """The crates, and the kit's libraries, whose modules the files of a crate name."""
+    found, known, own = set(), {*listed(root), *KIT}, {crate}
+    for path, text in texts(root, crate):
+        found |= set(IN_ANTT.findall(text))
+        if path.endswith(".rt"):
+            found |= known & set(IN_RATTLE.findall(text))
+            own |= set(OWN_MODULE.findall(text))
+    return found - own
 
 
 def rattle_files(root):
