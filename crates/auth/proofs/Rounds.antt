@@ -169,7 +169,7 @@ auth-again {s} {v} y e =
     let l = r .2 in
     auth-accepted (publicIn s v) (sigIn s v) (hashIn s v) (l .public-long) (l .sig-long) (l .hash-long) ∙ ap bytes (sym (r .0))
 
--- two inputs of bytes with one claim are one
+-- For the reader: two inputs of bytes with one claim are one
 pub auth-once : {s t : List ℕ} {v w : Claim} {i j : ℕ} → Bytes s → Bytes t → authAt s ≡ got v i → authAt t ≡ got w j
     → publicIn s v ≡ publicIn t w → sigIn s v ≡ sigIn t w → hashIn s v ≡ hashIn t w → s ≡ t
 auth-once x y d e p g h = auth-only x d .0 ∙ rw (p, g, h) (sym (auth-only y e .0))

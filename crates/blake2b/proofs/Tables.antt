@@ -34,7 +34,7 @@ place : ℕ → List ℕ → ℕ
 place x [] = 0
 place x (y ∷ ys) = choose (eqb y x) 0 (suc (place x ys))
 
--- each number below 16 stands somewhere in each row: with `sigma-small`, a row is a permutation of 0 to 15,
+-- For the reader: each number below 16 stands somewhere in each row: with `sigma-small`, a row is a permutation of 0 to 15,
 pub sigma-has : (r x : ℕ) → r < 12 → x < 16 → (i : ℕ) × (i < 16) × (getD (row r) i 0 ≡ x)
 unfolding sigma place
 sigma-has r x h l = (
@@ -43,7 +43,7 @@ sigma-has r x h l = (
   eqb→eq (getD (row r) (place x (row r)) 0) x (by-place (λ r x y. eqb (getD (row r) (place x (row r)) 0) x) tt r x h l),
 )
 
--- and rows 10 and 11 are rows 0 and 1
+-- For the reader: rows 10 and 11 are rows 0 and 1
 pub sigma-again : (r i : ℕ) → r < 12 → i < 16 → getD (row r) i 0 ≡ getD (row (r % 10)) i 0
 unfolding sigma
 sigma-again r i h l = eqb→eq (getD (row r) i 0) (getD (row (r % 10)) i 0) (by-place (λ r i x. eqb x (getD (row (r % 10)) i 0)) tt r i h l)
@@ -56,7 +56,7 @@ prime k = getD (2 ∷ 3 ∷ 5 ∷ 7 ∷ 11 ∷ 13 ∷ 17 ∷ 19 ∷ []) k 0
 abbrev pub floor : ℕ → ℕ
 floor k = getD (1 ∷ 1 ∷ 2 ∷ 2 ∷ 3 ∷ 3 ∷ 4 ∷ 4 ∷ []) k 0
 
--- IV[k] is the first 64 bits of the fraction of the square root of prime k
+-- For the reader: IV[k] is the first 64 bits of the fraction of the square root of prime k
 pub iv-root : (k : ℕ) → k < 8
     → (getD iv k 0 < 2 ^ 64) × ((floor k * 2 ^ 64 + getD iv k 0) ^ 2 ≤ prime k * 2 ^ 128) × (prime k * 2 ^ 128 < (floor k * 2 ^ 64 + getD iv k 0 + 1) ^ 2)
 unfolding iv

@@ -180,6 +180,7 @@ module _ (id : List ℕ) (eight : length id ≡ 8) (b : Book) (v : Valid b) wher
 
 -- ---- one collection for well-formed bytes, and one sequence of bytes for a collection
 
+-- For the reader: the bytes say which document and which collection they are of
 pub one-book : (id jd : List ℕ) (a b : Book) → length id ≡ 8 → length jd ≡ 8 → Fits a → Fits b → encode id a ≡ encode jd b → (id ≡ jd) × (a ≡ b)
 one-book id jd a b h k v w e =
     (sym (encode-id id h a v) ∙ ap idOf e ∙ encode-id jd k b w, sym (encode-read id h a v) ∙ ap readBook e ∙ encode-read jd k b w)
@@ -198,6 +199,6 @@ ok-saved c ok = record { document = idOf c; book = readBook c; eight = ok-id c o
 pub saved-ok : (c : List ℕ) → Saved c → okBook c ≡ true
 saved-ok c s = rw (s .bytes) (encode-ok (s .document) (s .eight) (s .book) (s .valid))
 
--- two well-formed files that say the same of one document are the same bytes
+-- For the reader: two well-formed files that say the same of one document are the same bytes
 pub one-file : (a b : List ℕ) → okBook a ≡ true → okBook b ≡ true → idOf a ≡ idOf b → readBook a ≡ readBook b → a ≡ b
 one-file a b h k e f = decoded a h ∙ ap₂ encode e f ∙ sym (decoded b k)

@@ -10,7 +10,7 @@ use Rattle.cbor.specs.Names.{pubKey}
 
 -- ---- the written forms
 
--- 23, 24, 1000, 1000000, 1000000000000 and 2^64 - 1
+-- For the reader: 23, 24, 1000, 1000000, 1000000000000 and 2^64 - 1
 numbers : (headOf 0 23 ≡ 0x17 ∷ [])
     × (headOf 0 24 ≡ 0x18 ∷ 0x18 ∷ [])
     × (headOf 0 1000 ≡ 0x19 ∷ 0x03 ∷ 0xE8 ∷ [])
@@ -20,7 +20,7 @@ numbers : (headOf 0 23 ≡ 0x17 ∷ [])
 unfolding headOf infoOf widthOf digits
 numbers = (refl, refl, refl, refl, refl, refl)
 
--- -1, -100, the bytes 01020304, the text `IETF` and 1.1
+-- For the reader: -1, -100, the bytes 01020304, the text `IETF` and 1.1
 others : (headOf 1 0 ≡ 0x20 ∷ [])
     × (headOf 1 99 ≡ 0x38 ∷ 0x63 ∷ [])
     × (stringOf 2 (1 ∷ 2 ∷ 3 ∷ 4 ∷ []) ≡ 0x44 ∷ 1 ∷ 2 ∷ 3 ∷ 4 ∷ [])
@@ -31,7 +31,7 @@ others = (refl, refl, refl, refl, refl)
 
 -- ---- the order of refusals
 
--- a wrong kind, a reserved and an indefinite head are 18, also where the input ends after the first byte; then a cut head is 3, and one that is not shortest 18
+-- For the reader: a wrong kind, a reserved and an indefinite head are 18, also where the input ends after the first byte; then a cut head is 3, and one that is not shortest 18
 heads : (headAt (0x59 ∷ []) 0 0 ≡ refused 18)
     × (headAt (0x1C ∷ []) 0 0 ≡ refused 18)
     × (headAt (0x5F ∷ []) 0 2 ≡ refused 18)
@@ -42,7 +42,7 @@ heads : (headAt (0x59 ∷ []) 0 0 ≡ refused 18)
 unfolding headAt infoOf widthOf kindOf argumentAt bigEndianAt numberFrom
 heads = (refl, refl, refl, refl, refl, refl, refl)
 
--- a negative number is of the right kind and out of range; a length is judged before the contents are there
+-- For the reader: a negative number is of the right kind and out of range; a length is judged before the contents are there
 numbers-read : (numberAt (0x01 ∷ []) 0 0 1 1 19 ≡ got 1 1)
     × (numberAt (0x20 ∷ []) 0 0 1 1 19 ≡ refused 19)
     × (numberAt (0x02 ∷ []) 0 0 1 1 19 ≡ refused 19)
@@ -52,7 +52,7 @@ numbers-read : (numberAt (0x01 ∷ []) 0 0 1 1 19 ≡ got 1 1)
 unfolding numberAt headAt infoOf widthOf kindOf argumentAt bigEndianAt numberFrom stringAt contentsAt
 numbers-read = (refl, refl, refl, refl, refl, refl)
 
--- `pub` as a key: another length of text is 18 at once, a cut name 3, another name 18
+-- For the reader: `pub` as a key: another length of text is 18 at once, a cut name 3, another name 18
 keys : (keyAt (0x63 ∷ 0x70 ∷ 0x75 ∷ 0x62 ∷ []) 0 pubKey ≡ got tt 4)
     × (keyAt (0x64 ∷ []) 0 pubKey ≡ refused 18)
     × (keyAt (0x63 ∷ 0x78 ∷ []) 0 pubKey ≡ refused 3)

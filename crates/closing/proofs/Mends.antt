@@ -189,14 +189,15 @@ module _ (c : List ℕ) (ok : okBook c ≡ true) where
       mended-count c (ok-head c ok)
       ∙ ap (done {A = ℕ}) (bad-none (idOf c) (totalIn c) c 0 96 (both-hold (hasHead c) (okPages (idOf c) (totalIn c) 0 96 c) ok .1))
 
--- mending again changes nothing and answers 0
+-- For the reader: mending again changes nothing
 pub again-same : (c : List ℕ) → hasHead c ≡ true → mended (mended c) ≡ mended c
 again-same c ok = mended-same (mended c) (mended-ok c ok)
 
+-- For the reader: and answers 0 then
 pub again-zero : (c : List ℕ) → hasHead c ≡ true → repair (mended c) ≡ done 0
 again-zero c ok = mended-zero (mended c) (mended-ok c ok)
 
--- the answer is 0 exactly of a collection that is well formed
+-- For the reader: the answer is 0 exactly of a collection that is well formed
 pub zero-exact : (c : List ℕ) → (repair c ≡ done 0) ↔ (okBook c ≡ true)
 unfolding okBook
 zero-exact c = ((λ e. go (hasHead c) refl e), mended-zero c)
@@ -217,7 +218,7 @@ data-kept : (c : List ℕ) → hasHead c ≡ true → (k : ℕ) (d : List ℕ) �
     → (okAt (idOf c) (totalIn c) k (pageAt k c) ≡ true) × (readSlot (pageAt k c) ≡ held d)
 data-kept c ok k d h e = mended-held c ok k d h (sym (read-block (mended c) k h) ∙ e)
 
--- the mended collection holds no data that had no valid block
+-- For the reader: the mended collection holds no data that had no valid block
 pub nothing-invented : (c : List ℕ) → hasHead c ≡ true → (t : ℕ) (ss : List Slot) → readBook (mended c) ≡ collecting t ss
     → (k : ℕ) (d : List ℕ) → k < 96 → getD ss k absent ≡ held d → (okAt (idOf c) (totalIn c) k (pageAt k c) ≡ true) × (readSlot (pageAt k c) ≡ held d)
 unfolding readBook bookFor

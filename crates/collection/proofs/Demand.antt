@@ -46,7 +46,7 @@ module _ (id : List ℕ) (eight : length id ≡ 8) where
 
   -- ---- offer's answer
 
-  -- what it answers for a good page is what the set says of that page once it is in
+  -- For the reader: what it answers for a good page is what the set says of that page once it is in
   pub answered : (h : Built) (raw : List ℕ) (p : Page) (next : ℕ) → Lent (offered raw h) → goodPage id raw ≡ got p next
       → (b : Book) → BookIs (In id (offered raw h)) b → answerOf (offering (bytesOf id h) raw) ≡ done (kindOf (p .index) b)
   unfolding history taken H.run
@@ -125,7 +125,7 @@ module _ (id : List ℕ) (eight : length id ≡ 8) where
       let m = meant id eight h (lent-list raws (opened c) y size) in
       (m .0, book-iff (In id h) (PageAmong id raws) (λ p a. ⊎-elim (λ n. absurd n) (λ s. s) (to-list id raws (opened c) p a)) (from-list id raws (opened c)) (m .0) (m .1))
 
-  -- two lists with the same good pages, in any order and number, leave the same bytes
+  -- For the reader: two lists with the same good pages, in any order and number, leave the same bytes
   pub list-set : (c d : List ℕ) (xs ys : List (List ℕ)) → length c ≡ 49664 → length d ≡ 49664 → AllBytes xs → AllBytes ys
       → ((p : Page) → PageAmong id xs p → PageAmong id ys p) → ((p : Page) → PageAmong id ys p → PageAmong id xs p)
       → bytesOf id (offeredAll xs (opened c)) ≡ bytesOf id (offeredAll ys (opened d))

@@ -41,7 +41,7 @@ module _ (id c : List ℕ) (o : Of id c) where
           rw (← o .1) (encoded id (takePage p (readBook c)) eight (valid-take p (readBook c) (good-page id raw p next y e .good) (decoded-valid c (o .0))))
       go (refused e) q = o
 
-  -- and so does a join of anything
+  -- For the reader: a join of anything keeps it so too
   pub join-keeps : (other : List ℕ) → Of id (bytesAfter c (joining c other))
   unfolding joining
   join-keeps other = rw (o .0) (go (okBook other) (same (idOf c) (idOf other)) refl)

@@ -23,6 +23,7 @@ through-lt (x ∷ bs) c b h =
     let w : x < 2 ^ 32 = omega (arith, b 0) in
     through-lt bs (byte c x) (λ i. b (suc i)) (bits-lt 8 (bitXor c x) (xor-lt 32 c x h w))
 
+-- For the reader: so the four bytes that a frame and a block hold of it lose nothing
 pub crc32-lt : (bs : List ℕ) → Bytes bs → crc32 bs < 2 ^ 32
 unfolding crc32
 crc32-lt bs b = xor-lt 32 (through 0xFFFFFFFF bs) 0xFFFFFFFF (through-lt bs 0xFFFFFFFF b (lit< tt)) (lit< tt)

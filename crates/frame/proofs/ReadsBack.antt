@@ -172,14 +172,18 @@ module _ (kind : ℕ) (id : List ℕ) (index total : ℕ) (contents : List ℕ) 
   judged-9 : index < total → (kind ≡ 0x44) ⊎ (total ≡ 1) → inSize total (length contents) ≡ false → frameOf (layout kind id index total contents) ≡ refused 9
   judged-9 b o h = layout-judged kind id index total contents eight (known-yes kind k) i t l ∙ rw (place-yes kind index total b o, h)
 
+  -- For the reader: 8 where the index is not below the total
   pub refused-past : total ≤ index → frameOf (layout kind id index total contents) ≡ refused 8
   refused-past h = judged-8 (place-past kind index total h)
 
+  -- For the reader: 8 where a key or auth frame is not one of one
   pub refused-several : (kind ≡ 0x44 → ⊥) → (total ≡ 1 → ⊥) → frameOf (layout kind id index total contents) ≡ refused 8
   refused-several n h = judged-8 (place-several kind index total n h)
 
+  -- For the reader: 9 for more than 96 pages
   pub refused-pages : index < total → (kind ≡ 0x44) ⊎ (total ≡ 1) → 96 < total → frameOf (layout kind id index total contents) ≡ refused 9
   refused-pages b o h = judged-9 b o (size-pages total (length contents) h)
 
+  -- For the reader: 9 for more than 480 bytes of data
   pub refused-data : index < total → (kind ≡ 0x44) ⊎ (total ≡ 1) → 480 < length contents → frameOf (layout kind id index total contents) ≡ refused 9
   refused-data b o h = judged-9 b o (size-data total (length contents) h)

@@ -274,7 +274,7 @@ manifest-only {s} {v} {next} y e =
         ∙ fit-verdict s (record { seed = v .seed; files = padded (v .files); count = length (v .files); sealed = v .sealed; created = v .created }) f
         ∙ ap bytes (ap (manifestOf s) i ∙ sym whole)
 
--- two payloads of bytes that say the same are one
+-- For the reader: two payloads of bytes that say the same are one
 pub manifest-once : {s t : List ℕ} {v w : Listing} {i j : ℕ} → Bytes s → Bytes t → manifestAt s ≡ got v i → manifestAt t ≡ got w j → saidIn s v ≡ saidIn t w → s ≡ t
 unfolding manifestOf
 manifest-once {s} {t} x y d e h = manifest-only x d .0 ∙ ap saidOf h ∙ sym (manifest-only y e .0)

@@ -39,7 +39,7 @@ module _ (c : List ℕ) (size : ℕ) (z : 0 < size) where
   unfolding pageData
   page-length i = omega (arith, length-take size (drop (i * size) c))
 
-  -- every page but the last is full
+  -- For the reader: every page but the last is full
   pub page-full : 0 < length c → (i : ℕ) → i + 1 < pageCount (length c) size → length (pageData c size i) ≡ size
   unfolding pageData
   page-full l i h =
@@ -47,7 +47,7 @@ module _ (c : List ℕ) (size : ℕ) (z : 0 < size) where
       length-take-le size (drop (i * size) c)
       (omega (arith, length-drop (i * size) c, mul-le-mul-right size t, suc-mul i size, count-fewest (length c) size z l))
 
-  -- the last holds at least one byte, as every page does
+  -- For the reader: the last holds at least one byte, as every page does
   pub page-some : 0 < length c → (i : ℕ) → i < pageCount (length c) size → 0 < length (pageData c size i)
   unfolding pageData
   page-some l i h =

@@ -63,6 +63,7 @@ slashed-after =
     (λ p s e. slashed-more p (parts s) (parts-some [] s) ∙ ap (λ (t : List ℕ). p ++ (slash ∷ t)) e)
     (λ p b s n e. e ∙ append-snoc p b s)
 
+-- For the reader: a text is its parts joined by slashes
 pub joined-parts : (s : List ℕ) → slashed (parts s) ≡ s
 joined-parts s = slashed-after [] s
 

@@ -46,6 +46,7 @@ compared x y = go (lt-or-le x y) (lt-or-le y x)
 
 -- ---- the order's laws
 
+-- For the reader: nothing is below itself
 pub below-irreflexive : (xs : List ℕ) → below xs xs ≡ false
 unfolding below
 below-irreflexive [] = refl
@@ -71,6 +72,7 @@ below-asymmetric (x ∷ xs) (y ∷ ys) e = go (compared x y) (below-asymmetric x
     go (same h) ih = below-same y x ys xs (sym h) ∙ ih (sym (below-same x y xs ys h) ∙ e)
     go (more h) ih = absurd (false≢true (sym (below-more x y xs ys h) ∙ e))
 
+-- For the reader: what is below one that is below a third is below the third
 pub below-transitive : (xs ys zs : List ℕ) → below xs ys ≡ true → below ys zs ≡ true → below xs zs ≡ true
 unfolding below
 below-transitive [] [] zs d e = absurd (false≢true d)
@@ -89,7 +91,7 @@ below-transitive (x ∷ xs) (y ∷ ys) (z ∷ zs) d e = go (compared x y) (compa
     go (less h) (more k) ih = absurd (false≢true (sym (below-more y z ys zs k) ∙ e))
     go (same h) (more k) ih = absurd (false≢true (sym (below-more y z ys zs k) ∙ e))
 
--- of two lists one is below the other, or they are one list
+-- For the reader: of two lists one is below the other, or they are one list
 pub below-total : (xs ys : List ℕ) → (below xs ys ≡ true) ⊎ ((xs ≡ ys) ⊎ (below ys xs ≡ true))
 unfolding below
 below-total [] [] = inr (inl refl)

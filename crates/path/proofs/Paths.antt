@@ -45,7 +45,7 @@ module _ (s : List ℕ) (ok : pathAllowed s ≡ true) where
   pub allowed-names : every isName (parts s) ≡ true
   allowed-names = tests-passed .2
 
-  -- taken below any folder, an allowed path stays below it (n is 0), and so below any folder that lies n higher
+  -- For the reader: taken below any folder, an allowed path stays below it (n is 0), and so below any folder that lies n higher
   pub allowed-stays-below : (n : ℕ) → staysBelow n (parts s) ≡ true
   allowed-stays-below n = names-stay n (parts s) allowed-names (omega (arith, parts-some [] s))
 
@@ -56,12 +56,13 @@ module _ (s : List ℕ) (ok : pathAllowed s ≡ true) where
   pub allowed-utf8 : utf8 (codePoints s) ≡ s
   allowed-utf8 = utf8-decoded s small-points
 
+  -- For the reader: so it is a sequence of bytes
   pub allowed-bytes : Bytes s
   allowed-bytes = subst (λ (l : List ℕ). Bytes l) allowed-utf8 (utf8-bytes (codePoints s) small-points)
 
 -- ---- which texts are allowed, and which are not
 
--- names joined by slashes are a path, if they are plain and not too long
+-- For the reader: names joined by slashes are a path, if they are plain and not too long
 pub joined-allowed : (p : List ℕ) (ps : List (List ℕ)) → every (without slash) (p ∷ ps) ≡ true → every isName (p ∷ ps) ≡ true
     → length (slashed (p ∷ ps)) ≤ pathMost → plainText (slashed (p ∷ ps)) ≡ true → without 0 (slashed (p ∷ ps)) ≡ true
     → pathAllowed (slashed (p ∷ ps)) ≡ true
@@ -78,27 +79,28 @@ part-refused s ps q qs e n =
     let names = ap (every isName) e ∙ every-fails isName ps q qs n in
     search tests
 
--- a slash in front or at the end makes an empty part there
+-- For the reader: a slash in front makes an empty part there,
 pub leading-slash-refused : (s : List ℕ) → pathAllowed (slash ∷ s) ≡ false
 leading-slash-refused s = part-refused (slash ∷ s) [] [] (parts s) (part-ends [] slash s refl) (name-empty [] refl)
 
+-- For the reader: and one at the end makes one at the end
 pub trailing-slash-refused : (s : List ℕ) → pathAllowed (s ++ (slash ∷ [])) ≡ false
 unfolding partsAfter
 trailing-slash-refused s = part-refused (s ++ (slash ∷ [])) (parts s) [] [] (parts-append s []) (name-empty [] refl)
 
--- one byte 00 is enough, wherever it stands
+-- For the reader: one byte 00 is enough, wherever it stands
 pub zero-refused : (s t : List ℕ) → pathAllowed (s ++ (0 ∷ t)) ≡ false
 unfolding pathAllowed
 zero-refused s t =
     let zero = every-fails (λ (c : ℕ). not (eqb c 0)) s 0 t refl in
     search tests
 
--- every text of code points below U+0300 is plain, so the rule leaves no such text out
+-- For the reader: every text of code points below U+0300 is plain, so the rule leaves no such text out
 pub plain-utf8 : (cs : List ℕ) → within 0x300 cs ≡ true → plainText (utf8 cs) ≡ true
 unfolding plainText
 plain-utf8 cs e = ap (within 0x300) (decoded-utf8 cs (within-more 0x300 0x800 (lit≤ tt) cs e)) ∙ e
 
--- on paths the order by bytes is the order by code points
+-- For the reader: on paths the order by bytes is the order by code points
 pub code-point-order : (a b : List ℕ) → pathAllowed a ≡ true → pathAllowed b ≡ true → below a b ≡ below (codePoints a) (codePoints b)
 code-point-order a b p q =
     ap₂ below (sym (allowed-utf8 a p)) (sym (allowed-utf8 b q)) ∙ utf8-below (codePoints a) (codePoints b) (small-points a p) (small-points b q)

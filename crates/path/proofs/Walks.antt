@@ -31,6 +31,7 @@ abbrev example : List ℕ
 example =
     0x6C ∷ 0x69 ∷ 0x73 ∷ 0x74 ∷ 0x73 ∷ 0x2F ∷ 0x2E ∷ 0x2E ∷ 0x2F ∷ 0x2E ∷ 0x2E ∷ 0x2F ∷ 0x70 ∷ 0x69 ∷ 0x65 ∷ 0x72 ∷ []
 
+-- For the reader: a walk can fail, so that it does not is worth a law
 example-climbs-out : (staysBelow 0 (parts example) ≡ false) × (staysBelow 1 (parts example) ≡ true)
 unfolding staysBelow partsAfter same
 example-climbs-out = (refl, refl)

@@ -107,7 +107,7 @@ module _ (line c : List ℕ) (room : 1025 ≤ length line) (input : List ℕ) wh
           told 2 (λ q. omega arith)
           (reads ∙ ap (linedAll (0, c)) e ∙ ap (λ (g : ℕ × List ℕ). linedAll g ls) (refused-line c l n h) ∙ refused-lines c ls)
 
-  -- so what is reported is what is to be printed
+  -- For the reader: what is reported is what is to be printed
   pub session-prints : reported (session line c input .phase) (session line c input .collection) ≡ printed c input
   unfolding printed reported
   session-prints = go (documentOf input) refl
@@ -161,7 +161,7 @@ pub status-says : (S : Page → Type 0) (x : List ℕ) → okBook x ≡ true →
 unfolding statusLine
 status-says S x ok m b w = rw ok (ap bookLine (book-one S (readBook x) b m w))
 
--- so what is printed depends on nothing else: whatever was in the lent buffer, and in whatever order and number the scans came
+-- For the reader: what is printed depends on nothing else: whatever was in the lent buffer, and in whatever order and number the scans came
 pub prints-set : (c input id : List ℕ) → length c ≡ 49664 → documentOf input ≡ bytes id → (b : Book) → BookIs (PageAmong id (scansOf input)) b
     → printed c input ≡ bookLine b
 unfolding printed

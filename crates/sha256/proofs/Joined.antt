@@ -55,11 +55,12 @@ joined-bytes ws i = ⊎-elim inside past (lt-or-le i (length ws * 4))
         let l : length (joined ws) ≤ i = rw (joined-length ws) h in
         rw (List·getD-eq-default (joined ws) 0 l) (lit< tt)
 
--- a digest is 32 bytes
+-- For the reader: a digest is 32 numbers,
 pub digest-length : (bs : List ℕ) → length (sha256 bs) ≡ 32
 unfolding sha256 listed
 digest-length bs = rw joined-length
 
+-- For the reader: each of them a byte
 pub digest-bytes : (bs : List ℕ) → Bytes (sha256 bs)
 unfolding sha256
 digest-bytes bs = joined-bytes _

@@ -22,10 +22,12 @@ digit-low n w s k h =
     ∙ mod-mod-pow (n / 2 ^ s) (k - s - w) w
 
 -- ---- section 5.1.1: the zeros are the fewest with which the message, its mark and they leave 8 bytes to a multiple of 64
+-- For the reader: so many fill it,
 pub zeros-fill : (n : ℕ) → (n + 1 + zeros n) % 64 ≡ 56
 unfolding zeros
 zeros-fill n = omega arith
 
+-- For the reader: and fewer do not
 pub zeros-fewest : (n z : ℕ) → (n + 1 + z) % 64 ≡ 56 → zeros n ≤ z
 unfolding zeros
 zeros-fewest n z e = omega arith

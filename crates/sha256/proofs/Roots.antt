@@ -33,6 +33,7 @@ sieve zero ns = []
 sieve (suc k) [] = []
 sieve (suc k) (p ∷ ns) = p ∷ sieve k (without p ns)
 
+-- For the reader: no prime between them is left out
 pub primes-sieved : primes ≡ sieve 64 (from 2 310)
 primes-sieved = refl
 
@@ -66,10 +67,12 @@ root e p x t =
 roots : (e : ℕ) (xs : List ℕ) → T (every (λ i x. right e (getD primes i 0) x) 0 xs) → (i : ℕ) → i < length xs → Root e (getD primes i 0) (getD xs i 0)
 roots e xs t i h = root e (getD primes i 0) (getD xs i 0) (at (λ i x. right e (getD primes i 0) x) xs t i h)
 
+-- For the reader: the constants of section 4.2.2
 pub cube-roots : (t : ℕ) → t < 64 → Root 3 (getD primes t 0) (getD kWords t 0)
 unfolding kWords
 cube-roots = roots 3 kWords tt
 
+-- For the reader: those of section 5.3.3
 pub square-roots : (i : ℕ) → i < 8 → Root 2 (getD primes i 0) (getD (listed start) i 0)
 unfolding listed start
 square-roots = roots 2 (listed start) tt

@@ -9,7 +9,7 @@ use Rattle.cbor.specs.Item.{oneAt, bigEndianAt, argumentAt, kindOf, headAt, num
 use Rattle.cbor.specs.Names.{typeKey, shareKey}
 use Rattle.shard.specs.Shard.{passphrase, signingSeed, known, padded, kindAt}
 
--- a length other than 10 and 12 is 19 though the contents are missing; then a cut is 3, and other contents are 19
+-- For the reader: a length other than 10 and 12 is 19 though the contents are missing; then a cut is 3, and other contents are 19
 kinds : (kindAt (stringOf 3 typeKey ++ (0x6B ∷ [])) 0 ≡ refused 19)
     × (kindAt (stringOf 3 typeKey ++ (0x69 ∷ [])) 0 ≡ refused 19)
     × (kindAt (stringOf 3 typeKey ++ (0x78 ∷ 0x0C ∷ [])) 0 ≡ refused 18)
@@ -21,12 +21,13 @@ kinds : (kindAt (stringOf 3 typeKey ++ (0x6B ∷ [])) 0 ≡ refused 19)
 unfolding kindAt known same stringOf headOf infoOf widthOf digits keyAt oneAt nameAt numberAt headAt kindOf argumentAt bigEndianAt numberFrom contentsAt
 kinds = (refl, refl, refl, refl, refl, refl, refl, refl)
 
--- a share above 224 bytes is 19 at once, one of 224 has to be there
+-- For the reader: a share above 224 bytes is 19 at once, one of 224 has to be there
 shares : (stringFieldAt (stringOf 3 shareKey ++ (0x58 ∷ 240 ∷ [])) 0 shareKey 2 0 224 19 ≡ refused 19)
     × (stringFieldAt (stringOf 3 shareKey ++ (0x58 ∷ 224 ∷ [])) 0 shareKey 2 0 224 19 ≡ refused 3)
 unfolding stringFieldAt stringAt same stringOf headOf infoOf widthOf digits keyAt oneAt nameAt numberAt headAt kindOf argumentAt bigEndianAt numberFrom contentsAt
 shares = (refl, refl)
 
+-- For the reader: a length is padded to whole blocks of 16
 blocks : (padded 1 ≡ 16) × (padded 16 ≡ 16) × (padded 17 ≡ 32) × (padded 224 ≡ 224) × (padded 18446744073709551615 ≡ 18446744073709551616)
 unfolding padded
 blocks = (refl, refl, refl, refl, refl)

@@ -130,7 +130,7 @@ pub shard-most : (public sig hash kind share : List ℕ) (len : ℕ) (q : Quorum
 shard-most public sig hash kind share len q a =
     omega (arith, shard-length hash kind share len q public (a .public-long) sig (a .sig-long), rest-most hash kind share len q (a .rest))
 
--- and the bound is reached, wherever each value is as long as it can be
+-- For the reader: the bound is reached, wherever each value is as long as it can be
 pub shard-longest : (public sig hash share : List ℕ) (len : ℕ) (q : Quorum) → Allowed public sig hash signingSeed share len q → length share ≡ 224 → 24 ≤ q .threshold → 24 ≤ q .index
     → length (shardOf public sig hash signingSeed share len q) ≡ 456
 unfolding padded

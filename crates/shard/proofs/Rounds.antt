@@ -288,12 +288,12 @@ shard-again {s} {v} y e =
     let r = shard-only y e in
     shard-accepted (hashIn s (v .claim)) (kindIn s v) (shareIn s v) (v .content .length) (v .quorum) (publicIn s (v .claim)) (sigIn s (v .claim)) (r .2) ∙ ap bytes (sym (r .0))
 
--- so what is read is no longer than what is written
+-- For the reader: so what is read is no longer than what is written, and from 457 bytes on the reader refuses
 pub shard-read-most : (s : List ℕ) {v : Shard} {next : ℕ} → Bytes s → shardAt s ≡ got v next → length s ≤ 456
 shard-read-most s {v} y e =
     shard-written-most (hashIn s (v .claim)) (kindIn s v) (shareIn s v) (v .content .length) (v .quorum) (publicIn s (v .claim)) (sigIn s (v .claim)) (shard-again y e)
 
--- two inputs of bytes that say the same are one
+-- For the reader: two inputs of bytes that say the same are one
 pub shard-once : {s t public sig hash kind share : List ℕ} {len : ℕ} {q : Quorum} {v w : Shard} {i j : ℕ} → Bytes s → Bytes t → shardAt s ≡ got v i → shardAt t ≡ got w j
     → Says s public sig hash kind share len q v → Says t public sig hash kind share len q w → s ≡ t
 shard-once {s} {t} {public} {sig} {hash} {kind} {share} {len} {q} {v} {w} x y d e g h = one x d g ∙ sym (one y e h)

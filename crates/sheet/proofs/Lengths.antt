@@ -85,6 +85,7 @@ module _ (c out : List ℕ) (room : 78257 ≤ length out) where
   fits : (bs : List ℕ) → length bs ≤ 78257 → roomed 0 out (bytes bs) ≡ bytes bs
   fits bs h = rw (le-leb (0 + length bs) (length out) (omega arith))
 
+  -- For the reader: `sheet::scans` does not answer 11 then,
   pub scan-room : roomed 0 out (scanVerdict c) ≡ scanVerdict c
   unfolding scanVerdict
   scan-room = go (countOf (length c) 480) refl
@@ -93,6 +94,7 @@ module _ (c out : List ℕ) (room : 78257 ≤ length out) where
       go (pages n) e = fits (scanSheet c) (omega (arith, scan-sheet-short c n (sym e)))
       go (unprintable f) e = refl
 
+  -- For the reader: nor does `sheet::typed`,
   pub typed-room : roomed 0 out (typedVerdict c) ≡ typedVerdict c
   unfolding typedVerdict
   typed-room = go (countOf (length c) 480) refl
@@ -101,6 +103,7 @@ module _ (c out : List ℕ) (room : 78257 ≤ length out) where
       go (pages n) e = fits (typedSheet c) (typed-sheet-short c n (sym e))
       go (unprintable f) e = refl
 
+  -- For the reader: nor `sheet::typed_page`
   pub place-room : (k : ℕ) → roomed 0 out (placeVerdict c k) ≡ placeVerdict c k
   unfolding placeVerdict
   place-room k = go (countOf (length c) 480) refl

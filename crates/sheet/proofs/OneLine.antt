@@ -54,6 +54,7 @@ module _ (f : Form) (law : Lawful f) where
   letters-one [] all = one-none
   letters-one (v ∷ vs) all = one-cons (letter f v) (map (letter f) vs) (letter-no-feed v (all 0)) (letters-one vs (λ i. all (suc i)))
 
+  -- For the reader: no text of a page has a line feed inside
   pub text-one : (bs : List ℕ) → Single (textOf f bs)
   unfolding textOf
   text-one bs =
@@ -69,6 +70,7 @@ hex-no-feed d e = go (ltb d 10) e
     go true q = omega (arith, q)
     go false q = omega (arith, q)
 
+-- For the reader: nor has the id
 pub hex-one : (bs : List ℕ) → Single (hexOf bs)
 unfolding hexOf
 hex-one [] = one-none
@@ -101,6 +103,7 @@ clear-one (b ∷ bs) h = go (ltb b 32) refl h (clear-one bs)
     go true e q rest = let z : _≡_ {A = ℕ} 0 1 = cc in absurd (omega arith)
     go false e q rest = one-cons b bs (λ p. omega (arith, p, ltb-false b 32 e)) (rest q)
 
+-- For the reader: nor the place of a page
 pub place-one : (k n : ℕ) → Single (pageWord ++ decimal k ++ ofWord ++ decimal n)
 place-one k n =
     one-append (pageWord ++ decimal k ++ ofWord) (decimal n)
@@ -114,8 +117,10 @@ module _ (c : List ℕ) (k : ℕ) (t : There c k) (all : Bytes c) where
       let f = counted-facts (length c) 480 (pageCount (length c) 480) (t .counted) in
       record { some = f .0; least = f .1; most = f .2; fits = f .4 }
 
+  -- For the reader: what a code square says reads back as the frame,
   pub scan-reads : readText base64 (textOf base64 (pageFrame c 480 k)) ≡ bytes (pageFrame c 480 k)
   scan-reads = page-typed c 480 can-print k (t .below) all base64 base64-lawful
 
+  -- For the reader: and so does what is typed below it
   pub typed-reads : readText zbase32 (textOf zbase32 (pageFrame c 480 k)) ≡ bytes (pageFrame c 480 k)
   typed-reads = page-typed c 480 can-print k (t .below) all zbase32 zbase32-lawful

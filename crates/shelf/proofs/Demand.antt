@@ -40,6 +40,7 @@ module _ (S : Page → Type 0) (c : List ℕ) (ok : okBook c ≡ true) (m : Book
       let v = decoded-valid c ok in
       omega (arith, room, finish-short (readBook c) d v (finish-whole S (readBook c) v m d .1 w))
 
+  -- For the reader: so finish is never short of room
   pub never-11 : ending c ≡ lacking 11 0 → ⊥
   unfolding ending
   never-11 e = let w = decided-11 S c (replicate 46080 0) ok m .0 e in omega (arith, w .2, fits (w .0) (w .1))
@@ -99,7 +100,7 @@ module _ (S : Page → Type 0) (c : List ℕ) (ok : okBook c ≡ true) (m : Book
 
 -- ---- taking up
 
--- a refusal changes nothing
+-- For the reader: a refusal changes nothing
 pub refused-keeps : (phase : ℕ) (c s : List ℕ) (e : ℕ) → answerOf (resuming phase c s) ≡ failed e → bytesAfter c (resuming phase c s) ≡ c
 refused-keeps phase c s e = go (resuming phase c s)
   where
@@ -113,7 +114,7 @@ module _ (id : List ℕ) (eight : length id ≡ 8) where
   unfolding resuming bytesOf
   resume-bytes g h = refl
 
-  -- it is never refused
+  -- For the reader: it is never refused,
   pub resume-done : (g h : Built) → Lent g → Lent h → answerOf (resuming 1 (bytesOf id g) (bytesOf id h)) ≡ done tt
   unfolding resuming joining
   resume-done g h k l =
@@ -121,7 +122,7 @@ module _ (id : List ℕ) (eight : length id ≡ 8) where
       let b = saved-says id eight h l in
       rw (a .0, b .0, a .1, b .1, same-refl id)
 
-  -- and leaves the one collection of the union
+  -- For the reader: it leaves the one collection of the union
   pub resume-union : (g h : Built) → Lent g → Lent h → (b : Book) → BookIs (λ (p : Page). In id g p ⊎ In id h p) b
       → bytesAfter (bytesOf id g) (resuming 1 (bytesOf id g) (bytesOf id h)) ≡ encode id b
   resume-union g h k l b m = resume-bytes g h ∙ saved id eight (joined g h) (k, l) b m

@@ -32,7 +32,7 @@ use Rattle.shelf.proofs.Demand.{ending-data, ending-17, prints-data, pr
 
 -- ---- what is printed of scans
 
--- it is one text: of a set that a collection says, no two are printed
+-- For the reader: it is one text: of a set that a collection says, no two are printed
 pub prints-once : (id : List ℕ) (S : Page → Type 0) (b : Book) → Valid b → BookIs S b → (x y : List ℕ) → Prints id S x → Prints id S y → x ≡ y
 prints-once id S b v m x y p q = go (finishBook b) refl
   where
@@ -107,9 +107,11 @@ module _ (line c : List ℕ) (room : 1025 ≤ length line) (size : length c ≡ 
         rw (collects .0, collects .1) (resume-lists id eight c d e (scansOf input) ys size t u (all-bytes input) y) in
         joined ∙ ap (λ (x : List ℕ). leaves x tt) (sym (ap (bytesAfter (session line c input .collection)) joined) ∙ kept)
 
+    -- For the reader: the file is then that collection,
     pub file-kept : (e : List ℕ) → length e ≡ 49664 → fileAfter line c input (collectionOf d id ys) ≡ collectionOf e id (scansOf input ++ ys)
     file-kept e u = ap (bytesAfter (collectionOf d id ys)) (file-joined e u)
 
+    -- For the reader: and what is printed is what is printed of all scans
     pub file-prints : Prints id (PageAmong id (scansOf input ++ ys)) (printedWith line c input (collectionOf d id ys))
     file-prints =
         rw (file-joined d t, collects .0)
@@ -139,7 +141,7 @@ module _ (line c : List ℕ) (room : 1025 ≤ length line) (input : List ℕ) (n
 
 -- ---- a refusal, in either case
 
--- the refusal is printed; neither the file nor the session's collection is changed
+-- For the reader: the refusal is printed; neither the file nor the session's collection is changed
 pub refused-run : (line c input saved : List ℕ) (n : ℕ) → takenUp line c input saved ≡ refuses n
     → (printedWith line c input saved ≡ refusedAt n 0)
     × (fileAfter line c input saved ≡ saved)

@@ -129,7 +129,7 @@ pub kind-disagree : (p : Page) → kindOf (p .index) (takePage p disagree) ≡ 3
 unfolding kindOf takePage
 kind-disagree p = refl
 
--- a page that was taken is not absent: the answer is 1, 2 or 3
+-- For the reader: a page that was taken is not absent, so the answer is 1, 2 or 3, as include/stiltbasket.h says
 pub kind-taken : (p : Page) (b : Book) → Good p → Valid b → (1 ≤ kindOf (p .index) (takePage p b)) × (kindOf (p .index) (takePage p b) ≤ 3)
 kind-taken p empty g v = omega (arith, kind-first p (good-index p g))
 kind-taken p (collecting t ss) g v = go (eq-or-ne (p .total) t)

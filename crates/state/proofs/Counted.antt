@@ -17,6 +17,7 @@ use Rattle.state.proofs.Complete.{is-disputed, agree-at, is-absent, not
 
 -- ---- a count is one number
 
+-- For the reader: so `Counted` is as good as a function
 pub counted-one : {P : ℕ → Type 0} {t m n : ℕ} → Counted P t m → Counted P t n → m ≡ n
 counted-one nothing nothing = refl
 counted-one (has a p) (has b q) = ap suc (counted-one a b)

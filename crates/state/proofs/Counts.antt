@@ -27,7 +27,7 @@ one-of-three absent = refl
 one-of-three (held d) = refl
 one-of-three disputed = refl
 
--- each slot is absent, held or in two versions, and only one of them
+-- For the reader: each slot is absent, held or in two versions, and only one of them
 pub count-three : (ss : List Slot) → count isAbsent ss + count isHeld ss + count isDisputed ss ≡ length ss
 unfolding count
 count-three [] = refl

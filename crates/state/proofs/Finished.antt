@@ -153,7 +153,7 @@ finish-cases S (lacking n k) (inl (e, z, w)) = inr (inl w)
 finish-cases S (lacking n k) (inr (inl (e, w))) = inr (inr (inl (k, w)))
 finish-cases S (lacking n k) (inr (inr (e, w))) = inr (inr (inr (k, w)))
 
--- these exhaust everything: every set that has a meaning is one of the four
+-- For the reader: these exhaust everything: every set that has a meaning is one of the four
 pub set-cases : (S : Page → Type 0) (b : Book) → Valid b → BookIs S b → OneOfFour S
 set-cases S b v m = finish-cases S (finishBook b) (finish-is S b v m)
 
@@ -172,7 +172,7 @@ module _ (h : History) (g : AllGood h) where
   pub run-cases : OneOfFour (In h)
   run-cases = set-cases (In h) (run h) (run-valid h g) (run-is h (good-indexed h g))
 
--- a page of length 0 is a page: one of one, whatever its contents, is the whole
+-- For the reader: a page of length 0 is a page: one of one, whatever its contents, is the whole
 pub one-page : (d : List ℕ) → finishBook (takePage (record { index = 0; total = 1; contents = d }) empty) ≡ whole d
 unfolding finishBook takePage finishPages noPages lowest isDisputed isAbsent joined dataOf
 one-page d = ap whole (append-nil d)

@@ -142,7 +142,7 @@ status-most c = go (okBook c)
     go true = book-most (readBook c)
     go false = refused-most 13
 
--- 01's own line: total 3 with page 1 lacking
+-- For the reader: 01's own line: total 3 with page 1 lacking
 pub status-example : (a b : List ℕ) → pagesLine 3 (held a ∷ absent ∷ held b ∷ [])
     ≡ 112 ∷ 97 ∷ 103 ∷ 101 ∷ 115 ∷ 32 ∷ 51 ∷ 32 ∷ 104 ∷ 101 ∷ 108 ∷ 100 ∷ 32 ∷ 50 ∷ 32 ∷ 109 ∷ 105 ∷ 115 ∷ 115 ∷ 105 ∷ 110 ∷ 103 ∷ 32 ∷ 49 ∷ 32 ∷ 100 ∷ 105 ∷ 115 ∷ 112 ∷ 117 ∷ 116 ∷ 101 ∷ 100 ∷ 32 ∷ 48 ∷ 32 ∷ 102 ∷ 105 ∷ 114 ∷ 115 ∷ 116 ∷ 32 ∷ 49 ∷ 10 ∷ []
 unfolding pagesLine field decimal firstField count lowest isAbsent isHeld isDisputed

@@ -50,6 +50,7 @@ refuses-from i (b ∷ bs) =
     refuses-choose (ltb b 128) (got b (i + 1)) (onto (b % 128) 128 (laterFrom 8 (i + 1) bs)) (λ e h. refused-no h)
     (refuses-onto (b % 128) 128 (laterFrom 8 (i + 1) bs) (refuses-later 8 (i + 1) bs))
 
+-- For the reader: a refusal of `varint::read` is 3 or 7, as docs/PROMISES.md says
 pub refused-3-or-7 : (s : List ℕ) (at e : ℕ) → varintAt s at ≡ refused e → (e ≡ 3) ⊎ (e ≡ 7)
 unfolding varintAt
 refused-3-or-7 s at e h = refuses-from at (drop at s) e h

@@ -58,7 +58,7 @@ pub reads-at : (s rest : List ℕ) (at n : ℕ) → n < 2 ^ 64 → drop at s ≡
 unfolding varintAt
 reads-at s rest at n l e = ap (varintFrom at) e ∙ from-back n at rest l
 
--- the same, and whatever stands before it
+-- For the reader: a number that was written reads back, whatever stands before it and follows it
 pub reads-back : (before rest : List ℕ) (at n : ℕ) → n < 2 ^ 64 → at ≡ length before → varintAt (before ++ (varint n ++ rest)) at ≡ got n (at + length (varint n))
 reads-back before rest at n l e = reads-at (before ++ (varint n ++ rest)) rest at n l (drop-at before (varint n ++ rest) at (sym e))
 
