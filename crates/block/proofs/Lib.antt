@@ -3,4 +3,3 @@ pub mod Writing
 pub mod Reading
 pub mod Slots
 pub mod Round
-pub mod Bytes

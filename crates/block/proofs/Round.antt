@@ -1,8 +1,8 @@
--- A page block is read back as it was written, so the well-formed blocks are those of slots, one for each. Assumes nothing.
+-- A page block is read back as it was written, so the well-formed blocks are those of slots. Assumes nothing.
 use mathlib.Core.Path.{_≡_, refl, sym, ap, _∙_}
 use mathlib.Core.Bool.{Bool, true, false}
 use mathlib.Core.List.{List, [], _∷_, _++_, append-assoc}
-use Prim.Native.Nat.{ℕ, _+_, _-_, _/_, _%_, _≤_}
+use Prim.Native.Nat.{ℕ, _-_, _/_, _%_, _≤_}
 use native.Mathlib.Omega.{arith}
 use borrow.Author.Tests.{eq-eqb, eqb-true}
 use lib.Dec.{eqb}
@@ -60,12 +60,6 @@ module _ (id : List ℕ) (i s : ℕ) (d : List ℕ) where
 
 -- ---- for reuse: id of 8 bytes, data of at most 480
 
-module _ (id : List ℕ) (i : ℕ) (p : Slot) where
-  -- the state byte
-  pub page-state : getD (pageBlock id i p) 2 0 ≡ stateOf p
-  unfolding pageBlock block
-  page-state = read-state id i (stateOf p) (dataOf p)
-
 module _ (id : List ℕ) (i : ℕ) (eight : length id ≡ 8) where
   -- a block says what it was made of
   pub slot-page : (p : Slot) → length (dataOf p) ≤ 480 → readSlot (pageBlock id i p) ≡ p
@@ -79,10 +73,6 @@ module _ (id : List ℕ) (i : ℕ) (eight : length id ≡ 8) where
   unfolding okPage
   ok-page p h = rw (eq-eqb (length id) 8 eight, slot-page p h, same-refl (pageBlock id i p))
 
-  -- two slots have two blocks
-  pub one-slot : (p q : Slot) → length (dataOf p) ≤ 480 → length (dataOf q) ≤ 480 → pageBlock id i p ≡ pageBlock id i q → p ≡ q
-  one-slot p q h k e = sym (slot-page p h) ∙ ap readSlot e ∙ slot-page q k
-
 module _ (id : List ℕ) (i : ℕ) (b : List ℕ) (ok : okPage id i b ≡ true) where
   pub page-id : length id ≡ 8
   unfolding okPage
@@ -95,10 +85,6 @@ module _ (id : List ℕ) (i : ℕ) (b : List ℕ) (ok : okPage id i b ≡ true) 
 
   pub page-length : length b ≡ 512
   page-length = ap length page-ok ∙ length-block id i (readSlot b) page-id (read-fits b)
-
--- two well-formed blocks that say the same are the same
-pub one-block : (id : List ℕ) (i : ℕ) (a b : List ℕ) → okPage id i a ≡ true → okPage id i b ≡ true → readSlot a ≡ readSlot b → a ≡ b
-one-block id i a b h k e = page-ok id i a h ∙ ap (pageBlock id i) e ∙ sym (page-ok id i b k)
 
 -- no bytes are no block
 pub not-empty : (id : List ℕ) (i : ℕ) → okPage id i [] ≡ false

@@ -1,11 +1,11 @@
 -- What a state and a comparison say of a slot: for those who read a block and then go by cases. Assumes nothing.
 use mathlib.Core.Path.{_≡_, refl, ap}
 use mathlib.Core.Bool.{true, false}
-use mathlib.Core.List.{List, []}
+use mathlib.Core.List.{List}
 use Prim.Native.Nat.{ℕ, _≤_}
 use native.Mathlib.Omega.{arith}
 use Rattle.lend.specs.Same.{same}
-use Rattle.lend.proofs.Sames.{same-eq, same-refl}
+use Rattle.lend.proofs.Sames.{same-eq}
 use Rattle.state.specs.State.{Slot, absent, held, disputed, dataOf}
 use Rattle.state.specs.Finish.{isAbsent, isHeld}
 use Rattle.block.specs.Block.{stateOf}
@@ -36,13 +36,6 @@ is-disputed absent e = absurd (omega arith)
 is-disputed (held d) e = absurd (omega arith)
 is-disputed disputed e = refl
 
--- only a held page has data
-pub no-data : (p : Slot) → (stateOf p ≡ 1 → ⊥) → dataOf p ≡ []
-unfolding stateOf dataOf
-no-data absent n = refl
-no-data (held d) n = absurd (n refl)
-no-data disputed n = refl
-
 -- the tests of a slot, by its state
 pub absent-yes : (p : Slot) → stateOf p ≡ 0 → isAbsent p ≡ true
 unfolding isAbsent
@@ -66,10 +59,6 @@ unfolding holding isHeld dataOf
 holding-yes absent d e = cc
 holding-yes (held x) d e = ap held (same-eq x d e)
 holding-yes disputed d e = cc
-
-pub holding-same : (d : List ℕ) → holding (held d) d ≡ true
-unfolding holding isHeld dataOf
-holding-same d = same-refl d
 
 -- a held page that does not hold d holds other data
 pub holding-no : (p : Slot) (d : List ℕ) → stateOf p ≡ 1 → holding p d ≡ false → same (dataOf p) d ≡ false

@@ -7,7 +7,7 @@ use native.Mathlib.Omega.{arith}
 use lib.ListN.{length, set, length-append}
 use Rattle.wire.specs.Over.{over}
 use Rattle.wire.proofs.Overs.{over-append, over-all, over-same, over-front, over-skip}
-use Rattle.state.specs.State.{Slot, dataOf, Book, empty, collecting, disagree, noPages, totalOf, slotsOf}
+use Rattle.state.specs.State.{Slot, dataOf, empty, noPages, totalOf, slotsOf}
 use Rattle.block.specs.Block.{pageBlock, withPage}
 use Rattle.block.specs.Read.{blockAt, readSlot, okPage}
 use Rattle.block.proofs.Writing.{with-page}
@@ -43,25 +43,6 @@ module _ (id : List ℕ) (eight : length id ≡ 8) where
       ∙ over-skip at (512 * i) (headBlock h) (pageBlock id i p) (pages id 0 ss) (omega (arith, length-headblock h l))
       ∙ ap (λ (r : List ℕ). headBlock h ++ r) (pages-set id eight 0 i (512 * i) i ss p k short one refl (omega arith))
 
-  -- writing block i anew is setting slot i
-  pub set-page : (t i at : ℕ) (ss : List Slot) (p : Slot) → i < length ss → EachData Short ss → Short (dataOf p) → at ≡ 512 + 512 * i
-      → withPage at id i p (encode id (collecting t ss)) ≡ encode id (collecting t (set ss i p))
-  unfolding encode headOf stateNo totalOf slotsOf
-  set-page t i at ss p k short one place = page-anew (headFor id 1 t) i at ss p eight k short one place
-
-  -- writing the head of a collecting state keeps the slots
-  pub set-total : (t : ℕ) (b : Book) → withHead (headFor id 1 t) (encode id b) ≡ encode id (collecting t (slotsOf b))
-  unfolding encode headOf stateNo totalOf slotsOf
-  set-total t b = head-anew (headFor id 1 t) (headOf id b) (pages id 0 (slotsOf b)) eight (unfold headOf in eight)
-
-  -- the first page
-  pub first-page : (t i at : ℕ) (p : Slot) → i < 96 → Short (dataOf p) → at ≡ 512 + 512 * i
-      → withPage at id i p (withHead (headFor id 1 t) (encode id empty)) ≡ encode id (collecting t (set noPages i p))
-  unfolding slotsOf
-  first-page t i at p k one place =
-      ap (withPage at id i p) (set-total t empty)
-      ∙ set-page t i at noPages p (omega (arith, length-none)) (data-none Short short-none) one place
-
   -- a head without pages, written over any bytes of a collection's size
   wiped : (h : Head) (c : List ℕ) → length (h .id) ≡ 8 → length c ≡ 49664 → withBlank id (withHead h c) ≡ headBlock h ++ pages id 0 noPages
   wiped h c l size =
@@ -75,7 +56,3 @@ module _ (id : List ℕ) (eight : length id ≡ 8) where
   pub made-empty : (c : List ℕ) → length c ≡ 49664 → withBlank id (withHead (headFor id 0 0) c) ≡ encode id empty
   unfolding encode headOf stateNo totalOf slotsOf
   made-empty c size = wiped (headFor id 0 0) c eight size
-
-  pub made-disagree : (c : List ℕ) → length c ≡ 49664 → withBlank id (withHead (headFor id 2 0) c) ≡ encode id disagree
-  unfolding encode headOf stateNo totalOf slotsOf
-  made-disagree c size = wiped (headFor id 2 0) c eight size

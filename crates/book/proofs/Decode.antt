@@ -196,9 +196,6 @@ module _ (c : List ℕ) (ok : okBook c ≡ true) where
   pub ok-at : (k : ℕ) → k < 96 → okAt (idOf c) (totalIn c) k (pageAt k c) ≡ true
   ok-at k h = pages-each (idOf c) (totalIn c) c 0 96 k k ok-pages h (omega arith)
 
-  pub ok-block : (k : ℕ) → k < 96 → okPage (idOf c) k (pageAt k c) ≡ true
-  ok-block k h = at-page (idOf c) (totalIn c) k (pageAt k c) (ok-at k h)
-
   ok-says : Says (readHead c) (readPages 0 96 c)
   unfolding readHead
   ok-says =

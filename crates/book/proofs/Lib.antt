@@ -5,4 +5,3 @@ pub mod Decode
 pub mod Round
 pub mod Places
 pub mod Changes
-pub mod Bytes

@@ -6,12 +6,11 @@ use mathlib.Core.List.{List, _++_}
 use Prim.Native.Nat.{ℕ, zero, suc, _+_, _*_, _-_, _≤_, _<_}
 use native.Mathlib.Omega.{arith}
 use lib.ListN.{length, take, drop, take-append-drop, drop-of-length-le}
-use lib.Seq.{drop-drop, take-take, take-add, length-take-le, drop-at, getD-take}
+use lib.Seq.{drop-drop, take-take, take-add, length-take-le, drop-at}
 use Rattle.wire.specs.Over.{over}
 use Rattle.wire.proofs.Cases.{lt-or-le}
 use Rattle.wire.proofs.Overs.{length-over, take-over, drop-over, read-over}
 use Rattle.block.proofs.Reading.{block-here}
-use Rattle.book.specs.Head.{readHead}
 use Rattle.book.specs.Read.{pageAt}
 
 -- a part of the front of a list
@@ -55,20 +54,6 @@ module _ (c b : List ℕ) (i at : ℕ) (size : length c ≡ 49664) (one : length
 
   pub anew-front : take 512 (over at b c) ≡ take 512 c
   anew-front = front 0 512 (omega arith)
-
-  -- the head says the same
-  pub anew-head : readHead (over at b c) ≡ readHead c
-  unfolding readHead
-  anew-head =
-      let w : take 512 (over at b c) ≡ take 512 c = anew-front in
-      rw (
-        front 4 8 (omega arith),
-        ← getD-take 512 (over at b c) 3 0 (omega arith),
-        ← getD-take 512 (over at b c) 12 0 (omega arith),
-        w,
-        getD-take 512 c 3 0 (omega arith),
-        getD-take 512 c 12 0 (omega arith),
-      )
 
   -- every other block stays
   pub anew-other : (k : ℕ) → k < 96 → (k ≡ i → ⊥) → pageAt k (over at b c) ≡ pageAt k c

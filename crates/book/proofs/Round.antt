@@ -25,7 +25,7 @@ use Rattle.state.proofs.Slots.{getD-none, length-none}
 use Rattle.state.proofs.Valid.{EachData, Short, short-none, data-none, Valid}
 use Rattle.book.proofs.Heads.{length-headblock}
 use Rattle.book.proofs.Pages.{length-pages, pages-at}
-use Rattle.book.proofs.Decode.{length-read, read-block, pages-all, decoded, decoded-valid, ok-id}
+use Rattle.book.proofs.Decode.{length-read, read-block, pages-all, decoded}
 
 -- ---- a head block, with anything behind it
 
@@ -184,20 +184,6 @@ module _ (id : List ℕ) (eight : length id ≡ 8) (b : Book) (v : Valid b) wher
 pub one-book : (id jd : List ℕ) (a b : Book) → length id ≡ 8 → length jd ≡ 8 → Fits a → Fits b → encode id a ≡ encode jd b → (id ≡ jd) × (a ≡ b)
 one-book id jd a b h k v w e =
     (sym (encode-id id h a v) ∙ ap idOf e ∙ encode-id jd k b w, sym (encode-read id h a v) ∙ ap readBook e ∙ encode-read jd k b w)
-
--- bytes are well formed where they are those of a document's valid collection
-pub record Saved (c : List ℕ) : Type 0 where
-  pub document : List ℕ
-  pub book : Book
-  pub eight : length document ≡ 8
-  pub valid : Valid book
-  pub bytes : c ≡ encode document book
-
-pub ok-saved : (c : List ℕ) → okBook c ≡ true → Saved c
-ok-saved c ok = record { document = idOf c; book = readBook c; eight = ok-id c ok; valid = decoded-valid c ok; bytes = decoded c ok }
-
-pub saved-ok : (c : List ℕ) → Saved c → okBook c ≡ true
-saved-ok c s = rw (s .bytes) (encode-ok (s .document) (s .eight) (s .book) (s .valid))
 
 -- For the reader: two well-formed files that say the same of one document are the same bytes
 pub one-file : (a b : List ℕ) → okBook a ≡ true → okBook b ≡ true → idOf a ≡ idOf b → readBook a ≡ readBook b → a ≡ b

@@ -86,15 +86,6 @@ module _ (id : List ℕ) (t : ℕ) (c : List ℕ) where
       go true h r = r (omega arith)
       go false h r = absurd (omega arith)
 
-  pub bad-most : (k n : ℕ) → badPages id t k n c ≤ n
-  unfolding badPages
-  bad-most k zero = omega arith
-  bad-most k (suc n) = go (okAt id t k (pageAt k c)) (bad-most (suc k) n)
-    where
-      go : (w : Bool) → badPages id t (suc k) n c ≤ n → choose w 0 1 + badPages id t (suc k) n c ≤ suc n
-      go true h = omega arith
-      go false h = omega arith
-
 -- ---- wrong size or a bad head
 
 module _ (c : List ℕ) (bad : hasHead c ≡ false) where

@@ -6,7 +6,7 @@ use Prim.Native.Nat.{ℕ, _+_, _*_, _<_}
 use native.Mathlib.Omega.{arith}
 use lib.ListN.{length, take, drop, getD, set, length-append, length-set, take-append-drop}
 use lib.Seq.{drop-append-add}
-use Rattle.state.specs.State.{Slot, absent, dataOf, collecting, disagree, empty, noPages, totalOf, slotsOf}
+use Rattle.state.specs.State.{Slot, absent, dataOf, collecting, disagree, noPages, totalOf, slotsOf}
 use Rattle.state.proofs.Valid.{EachData, Short, short-none, data-set}
 use Rattle.block.specs.Block.{pageBlock, withPage}
 use Rattle.block.specs.Read.{blockAt, readSlot}
@@ -94,10 +94,6 @@ of-laid id c (ok, e) =
 
 -- the bytes of each kind of collection
 module _ {id : List ℕ} {c : List ℕ} where
-  pub laid-empty : Laid id 0 0 noPages c → c ≡ encode id empty
-  unfolding encode headOf stateNo totalOf slotsOf
-  laid-empty l = l .bytes
-
   pub laid-collecting : {t : ℕ} {ss : List Slot} → Laid id 1 t ss c → c ≡ encode id (collecting t ss)
   unfolding encode headOf stateNo totalOf slotsOf
   laid-collecting l = l .bytes

@@ -7,7 +7,6 @@ use borrow.Author.Tests.{le-leb, eq-eqb}
 use lib.ListN.{length, drop}
 use lib.Seq.{drop-at}
 use Rattle.wire.specs.Answer.{got}
-use Rattle.wire.proofs.Cases.{got-value}
 use Rattle.wire.proofs.Standing.{stands-next, stands-take, stands-left}
 use Rattle.varint.specs.Varint.{varint}
 use Rattle.varint.proofs.Lengths.{varint-length}
@@ -73,9 +72,3 @@ cover-back m p i j =
       manifest-is = stands-take s (start s 3 (chunkOf p ++ []) m h₁) m (chunkOf p ++ []) (held s 3 (chunkOf p ++ []) m h₁);
       payload-is = stands-take s (start s (3 + length (chunkOf m)) [] p h₂) p [] (held s (3 + length (chunkOf m)) [] p h₂);
     }
-
--- the bytes of a cover say its parts
-pub parts-once : {s m n p q : List ℕ} → ReadsAs s m p → ReadsAs s n q → (m ≡ n) × (p ≡ q)
-parts-once {s} a b =
-    let e : a .cover ≡ b .cover = got-value (sym (a .read) ∙ b .read) in
-    (sym (a .manifest-is) ∙ ap (manifestOf s) e ∙ b .manifest-is, sym (a .payload-is) ∙ ap (payloadOf s) e ∙ b .payload-is)

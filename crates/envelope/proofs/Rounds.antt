@@ -1,16 +1,15 @@
 -- What is written reads back, and what is read would be written again, byte for byte. Assumes nothing.
-use Prim.Native.Nat.{ℕ, _+_, _^_, _<_, _≤_}
+use Prim.Native.Nat.{ℕ, _^_, _<_, _≤_}
 use mathlib.Core.Path.{_≡_, refl, sym, ap, subst, _∙_}
 use mathlib.Core.Bool.{Bool, true, false}
 use mathlib.Core.List.{List}
 use native.Mathlib.Omega.{arith}
-use borrow.Author.Tests.{leb-true, le-leb}
+use borrow.Author.Tests.{leb-true}
 use lib.Dec.{leb}
-use lib.ListN.{length, take}
+use lib.ListN.{length}
 use Rattle.wire.specs.Answer.{choose, Got, got, refused, done}
 use Rattle.wire.specs.Number.{Bytes}
 use Rattle.wire.specs.Over.{over}
-use Rattle.wire.proofs.Overs.{read-over}
 use Rattle.cover.specs.Cover.{Cover, manifestOf, payloadOf, coverAt, coverOf}
 use Rattle.cover.proofs.ReadsBack.{cover-back}
 use Rattle.cover.proofs.OnlyLayouts.{cover-only}
@@ -19,9 +18,7 @@ use Rattle.manifest.proofs.Rounds.{manifest-small}
 use Rattle.envelope.specs.Placed.{Placed, fine, faulty, on, unplaced, said}
 use Rattle.envelope.specs.Envelope.{contents, judged, envelopeAt, verdict}
 use Rattle.envelope.specs.Answer.{after, EnvelopeWritten}
-use Rattle.envelope.specs.declared.EnvelopeWrote.{EnvelopeWrote}
 use Rattle.envelope.specs.declared.EnvelopeWrote.the-variants as W
-use Rattle.envelope.proofs.Answers.{wrote-injective}
 
 -- a chain that succeeded passed its first step
 on-passed : {A B : Type 0} {b : B} (v : Placed A) (f : A → Placed B) → on v f ≡ fine b → (a : A) × (v ≡ fine a) × (f a ≡ fine b)
@@ -82,26 +79,6 @@ done-stood (fine bs) out out' n w = go (leb (length bs) (length out)) refl (w .a
         record { what = bs; meant = refl; count = e; fits = omega arith; stands = o }
     go false b q o = let z : _≡_ {A = ℕ} 0 1 = cc in absurd (omega arith)
 
--- a write at the front of the output is what stands there
-front-is : (bs out out' : List ℕ) (n : ℕ) → n ≡ length bs → n ≤ length out → out' ≡ over 0 bs out → take n out' ≡ bs
-front-is bs out out' n e l o =
-    let f : 0 + length bs ≤ length out = omega arith in
-    rw (e, o) (read-over 0 bs out f)
-
--- what the writer accepts is written, and reads back as the same manifest and payload
-pub record Returned (m p out' : List ℕ) (n : ℕ) : Type 0 where
-  pub whole : take n out' ≡ coverOf m p
-  pub back : ReadsAs (take n out') m p
-
-pub written-back : (m p out out' : List ℕ) (n : ℕ) → length p < 2 ^ 64 → EnvelopeWritten (verdict m p) out out' (W.Done n) → Returned m p out' n
-unfolding verdict
-written-back m p out out' n l w =
-    let s = done-stood (verdict m p) out out' n w in
-    let j = on-passed (judged m p) (λ _. fine (coverOf m p)) (s .meant) in
-    let e : coverOf m p ≡ s .what = cc (j .2) in
-    let k : take n out' ≡ coverOf m p = front-is (s .what) out out' n (s .count) (s .fits) (s .stands) ∙ sym e in
-    record { whole = k; back = subst (λ (x : List ℕ). ReadsAs x m p) (sym k) (envelope-back m p l (j .1)) }
-
 -- what is read, of bytes, is the layout of its parts, which the writer accepts
 pub record Sound (s : List ℕ) (c : Cover) : Type 0 where
   pub whole : s ≡ coverOf (manifestOf s c) (payloadOf s c)
@@ -122,13 +99,3 @@ envelope-only s c y h =
     let j = on-passed (judged (manifestOf s (t .0)) (payloadOf s (t .0))) (λ _. fine (t .0)) (t .2) in
     let e : t .0 ≡ c = cc (j .2) in
     subst (λ (x : Cover). Sound s x) e (sound s (t .0) (cover-only s (t .0) (u .0) y (u .1) .whole) (j .1))
-
--- read, then written where there is room: the same bytes
-pub write-again : (s : List ℕ) (c : Cover) (out out' : List ℕ) (r : EnvelopeWrote) → Bytes s → envelopeAt s ≡ fine c → length s ≤ length out
-    → EnvelopeWritten (verdict (manifestOf s c) (payloadOf s c)) out out' r → (r ≡ W.Done (length s)) × (take (length s) out' ≡ s)
-write-again s c out out' r y h l w =
-    let v = envelope-only s c y h .rewritten in
-    let k = le-leb (length s) (length out) l in (
-      wrote-injective r (W.Done (length s)) (rw (v, k) at (w .answer)),
-      front-is s out out' (length s) refl l (rw (v, k) at (w .output)),
-    )

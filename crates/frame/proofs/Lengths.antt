@@ -1,11 +1,11 @@
--- How many bytes a frame has (P11 and P12 of document 01 among it). Assumes nothing.
+-- How many bytes a frame has. Assumes nothing.
 use Prim.Native.Nat.{ℕ, _+_, _<_, _≤_}
-use mathlib.Core.Path.{_≡_, _∙_}
-use mathlib.Core.List.{List, []}
+use mathlib.Core.Path.{_≡_}
+use mathlib.Core.List.{List}
 use native.Mathlib.Omega.{arith}
 use lib.ListN.{length, length-append}
 use Rattle.wire.proofs.Digits.{length-digits}
-use Rattle.varint.specs.Varint.{varint, sevens}
+use Rattle.varint.specs.Varint.{varint}
 use Rattle.varint.proofs.Lengths.{varint-length, varint-length-one}
 use Rattle.mark.proofs.Marks.{mark-length}
 use Rattle.frame.specs.Frame.{magic}
@@ -39,14 +39,3 @@ module _ (kind : ℕ) (id : List ℕ) (index total : ℕ) (contents : List ℕ) 
   -- where each of INDEX and TOTAL takes one byte
   pub layout-length-short : index < 128 → total < 128 → length (layout kind id index total contents) ≡ 18 + length (varint (length contents)) + length contents
   layout-length-short i t = omega (arith, layout-length, numbers-length index total (length contents), varint-length-one index i, varint-length-one total t)
-
--- P11: an empty-data frame 0 of 1 has 19 bytes
-pub empty-length : (kind : ℕ) (id : List ℕ) → length id ≡ 8 → length (layout kind id 0 1 []) ≡ 19
-empty-length kind id h =
-    layout-length-short kind id 0 1 [] h (omega arith) (omega arith) ∙ rw (varint-length-one 0 (omega arith))
-
--- P12: a 480-byte page has 500
-pub page-length : (kind : ℕ) (id : List ℕ) (index total : ℕ) (contents : List ℕ) → length id ≡ 8 → index < 128 → total < 128 → length contents ≡ 480
-    → length (layout kind id index total contents) ≡ 500
-unfolding varint sevens
-page-length kind id index total contents h i t e = layout-length-short kind id index total contents h i t ∙ rw e

@@ -11,7 +11,6 @@ use lib.Seq.{take-at, drop-at}
 use Rattle.wire.specs.Answer.{choose, got, refused}
 use Rattle.wire.specs.Number.{bigEndian}
 use Rattle.wire.proofs.Digits.{length-digits}
-use Rattle.wire.proofs.Cases.{got-value}
 use Rattle.wire.proofs.Standing.{stands-next, stands-take, stands-left, stands-head}
 use Rattle.lend.proofs.Sames.{same-refl}
 use Rattle.varint.specs.Varint.{varint}
@@ -151,18 +150,6 @@ reads-back kind id index total contents a =
       id-is = layout-id kind id index total contents (a .eight);
       data-is = layout-data kind id index total contents (a .eight);
     }
-
--- the bytes of a frame say its parts
-pub parts-once : {s : List ℕ} {k k' : ℕ} {d d' : List ℕ} {i i' t t' : ℕ} {c c' : List ℕ} → ReadsAs s k d i t c → ReadsAs s k' d' i' t' c'
-    → (k ≡ k') × (d ≡ d') × (i ≡ i') × (t ≡ t') × (c ≡ c')
-parts-once {s} a b =
-    let e : a .frame ≡ b .frame = got-value (sym (a .read) ∙ b .read) in (
-      sym (a .kind-is) ∙ ap (λ (f : Frame). f .kind) e ∙ b .kind-is,
-      sym (a .id-is) ∙ b .id-is,
-      sym (a .index-is) ∙ ap (λ (f : Frame). f .index) e ∙ b .index-is,
-      sym (a .total-is) ∙ ap (λ (f : Frame). f .total) e ∙ b .total-is,
-      sym (a .data-is) ∙ ap (dataOf s) e ∙ b .data-is,
-    )
 
 -- and is refused where they do not: 8 for its place, then 9 for its size
 module _ (kind : ℕ) (id : List ℕ) (index total : ℕ) (contents : List ℕ) (k : Kind kind) (eight : length id ≡ 8) (i : index < 2 ^ 64) (t : total < 2 ^ 64) (l : length contents < 2 ^ 64) where

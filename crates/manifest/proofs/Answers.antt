@@ -1,11 +1,11 @@
--- How a chain of items goes on from each field, and what an answer says for a caller. Assumes nothing.
-use Prim.Native.Nat.{ℕ, _+_, _-_, _<_, _≤_}
+-- How a chain of items goes on from each field, and how long the array of files is. Assumes nothing.
+use Prim.Native.Nat.{ℕ, _+_, _-_, _≤_}
 use mathlib.Core.Path.{_≡_, refl, sym, ap, _∙_}
 use mathlib.Core.Bool.{Bool, true, false}
 use mathlib.Core.List.{List}
 use native.Mathlib.Omega.{arith}
 use borrow.Author.Tests.{le-leb, lt-leb}
-use lib.ListN.{length, getD, length-append, length-replicate, List·getD-append}
+use lib.ListN.{length, length-append, length-replicate}
 use Rattle.wire.specs.Answer.{choose, Got, got, refused, then, numberOf}
 use Rattle.cbor.specs.Answer.{stepTold, numberTold}
 use Rattle.cbor.specs.declared.StepRead.{StepRead}
@@ -31,43 +31,6 @@ use Rattle.manifest.specs.declared.Ending as struct
 use Rattle.manifest.specs.declared.EndRead.{EndRead}
 use Rattle.manifest.specs.declared.EndRead.the-variants as endread
 use Rattle.manifest.specs.declared.FilesRead.{FilesRead}
-
--- ---- what an answer says, for a caller
-
-module _ (g : Got Listing) (r : ManifestRead) (e : r ≡ answerFor g) where
-  -- a manifest was read, and the struct holds its files
-  pub read-got : (next : ℕ) → r .answer ≡ step.Past next
-      → (v : Listing) × (g ≡ got v next) × (r .value .count ≡ length (v .files)) × (r .value .files ≡ padded (v .files))
-  read-got next k = pick g e
-    where
-      pick : (g : Got Listing) → r ≡ answerFor g → (v : Listing) × (g ≡ got v next) × (r .value .count ≡ length (v .files)) × (r .value .files ≡ padded (v .files))
-      pick (got v p) e =
-          let h : step.Past p ≡ step.Past next = ap (λ (x : ManifestRead). x .answer) (sym e) ∙ k in
-          let n : p ≡ next = cc in
-          (v, ap (got v) n, ap (λ (x : ManifestRead). x .value .count) e, ap (λ (x : ManifestRead). x .value .files) e)
-      pick (refused m) e =
-          let h : step.Refused m ≡ step.Past next = ap (λ (x : ManifestRead). x .answer) (sym e) ∙ k in
-          let z : _≡_ {A = ℕ} 0 1 = cc in
-          absurd (omega arith)
-
-  -- it was refused
-  pub read-refused : (n : ℕ) → r .answer ≡ step.Refused n → g ≡ refused n
-  read-refused n k = pick g e
-    where
-      pick : (g : Got Listing) → r ≡ answerFor g → g ≡ refused n
-      pick (got v p) e =
-          let h : step.Past p ≡ step.Refused n = ap (λ (x : ManifestRead). x .answer) (sym e) ∙ k in
-          let z : _≡_ {A = ℕ} 0 1 = cc in
-          absurd (omega arith)
-      pick (refused m) e =
-          let h : step.Refused m ≡ step.Refused n = ap (λ (x : ManifestRead). x .answer) (sym e) ∙ k in
-          let q : m ≡ n = cc in
-          ap refused q
-
--- the files of the array are those of the list
-pub padded-at : (fs : List File) (d : File) (i : ℕ) → i < length fs → getD (padded fs) i d ≡ getD fs i d
-unfolding padded
-padded-at fs d i l = List·getD-append fs _ d i l
 
 pub padded-long : (fs : List File) → length fs ≤ 64 → length (padded fs) ≡ 64
 unfolding padded

@@ -1,12 +1,12 @@
 -- The manifest: what is written reads back, and what is read was written, one form for each. Assumes nothing.
-use Prim.Native.Nat.{ℕ, zero, suc, _+_, _-_, _<_, _≤_}
+use Prim.Native.Nat.{ℕ, zero, suc, _+_, _<_, _≤_}
 use mathlib.Core.Path.{_≡_, refl, sym, ap, ap₂, _∙_, subst}
 use mathlib.Core.Bool.{Bool, true}
 use mathlib.Core.List.{List, [], _∷_, _++_, map}
 use native.Mathlib.Omega.{arith}
 use borrow.Author.Tests.{le-leb, leb-true, eq-eqb, eqb-true}
 use lib.Dec.{leb, eqb}
-use lib.ListN.{length, take, getD, length-map}
+use lib.ListN.{length, take, length-map}
 use lib.Seq.{take-at, length-take-le}
 use Rattle.wire.specs.Answer.{choose, Got, got}
 use Rattle.wire.specs.Number.{Bytes}
@@ -52,12 +52,6 @@ pub record Inside (s : List ℕ) (f : File) : Type 0 where
 abbrev pub AllInside : List ℕ → List File → Type 0
 AllInside s [] = Unit
 AllInside s (f ∷ fs) = Inside s f × AllInside s fs
-
--- the file at an index
-pub inside-at : (s : List ℕ) (fs : List File) (d : File) (i : ℕ) → AllInside s fs → i < length fs → Inside s (getD fs i d)
-inside-at s [] d i a l = absurd (omega arith)
-inside-at s (f ∷ fs) d zero a l = a .0
-inside-at s (f ∷ fs) d (suc i) a l = inside-at s fs d i (a .1) (omega arith)
 
 files-inside : (s : List ℕ) (k at : ℕ) (prev : List ℕ) {fs : List File} {next : ℕ} → filesAt s k at prev ≡ got fs next → AllInside s fs × (length fs ≡ k)
 unfolding filesAt

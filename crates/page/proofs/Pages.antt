@@ -27,13 +27,6 @@ module _ (n size : ℕ) (z : 0 < size) where
           let e : suc q - 1 ≡ q = omega arith in
           rw e (omega (arith, suc-mul q size))
 
-  pub count-positive : 0 < n → 0 < pageCount n size
-  count-positive h = positive (pageCount n size) count-holds
-    where
-      positive : (q : ℕ) → n ≤ q * size → 0 < q
-      positive zero l = omega arith
-      positive (suc q) l = omega arith
-
 module _ (c : List ℕ) (size : ℕ) (z : 0 < size) where
   pub page-length : (i : ℕ) → length (pageData c size i) ≤ size
   unfolding pageData

@@ -1,5 +1,5 @@
 -- `below` is a strict total order of lists, and how a loop comes to know it. Assumes nothing.
-use mathlib.Core.Path.{_≡_, refl, sym, ap, ap₂, _∙_}
+use mathlib.Core.Path.{_≡_, refl, sym, ap₂, _∙_}
 use mathlib.Core.Logic.{_⊎_, inl, inr}
 use mathlib.Core.Bool.{true, false, false≢true}
 use mathlib.Core.List.{List, [], _∷_, _++_}
@@ -52,9 +52,6 @@ unfolding below
 below-irreflexive [] = refl
 below-irreflexive (x ∷ xs) = below-same x x xs xs refl ∙ below-irreflexive xs
 
-pub below-distinct : (xs ys : List ℕ) → below xs ys ≡ true → xs ≡ ys → ⊥
-below-distinct xs ys e h = false≢true (sym (below-irreflexive xs) ∙ ap (below xs) h ∙ e)
-
 -- what two lists have in front of them decides nothing
 pub below-front : (ps xs ys : List ℕ) → below (ps ++ xs) (ps ++ ys) ≡ below xs ys
 below-front [] xs ys = refl
@@ -106,20 +103,6 @@ below-total (x ∷ xs) (y ∷ ys) = go (compared x y) (below-total xs ys)
     go (same h) (inl k) = inl (below-same x y xs ys h ∙ k)
     go (same h) (inr (inl k)) = inr (inl (ap₂ (λ (z : ℕ) (zs : List ℕ). z ∷ zs) h k))
     go (same h) (inr (inr k)) = inr (inr (below-same y x ys xs (sym h) ∙ k))
-
--- so the test decides: `false` says equal or above
-pub not-below : (xs ys : List ℕ) → below xs ys ≡ false → (xs ≡ ys) ⊎ (below ys xs ≡ true)
-not-below xs ys e = go (below-total xs ys)
-  where
-    go : (below xs ys ≡ true) ⊎ ((xs ≡ ys) ⊎ (below ys xs ≡ true)) → (xs ≡ ys) ⊎ (below ys xs ≡ true)
-    go (inl h) = absurd (false≢true (sym e ∙ h))
-    go (inr h) = h
-
--- a proper prefix is below
-pub below-prefix : (xs : List ℕ) (y : ℕ) (ys : List ℕ) → below xs (xs ++ (y ∷ ys)) ≡ true
-unfolding below
-below-prefix [] y ys = refl
-below-prefix (x ∷ xs) y ys = below-same x x xs (xs ++ (y ∷ ys)) refl ∙ below-prefix xs y ys
 
 -- ---- a turn of a loop that compares, and its ends
 

@@ -148,6 +148,3 @@ shard-longest public sig hash share len q a s t i =
       size-two (q .count) (omega (arith, b .enough)) (omega (arith, b .most)),
       size-two (q .index) i (omega (arith, b .last, b .most)),
     )
-
-pub signed-most : (public hash kind share : List ℕ) (len : ℕ) (q : Quorum) → length public ≡ 32 → AllowedRest hash kind share len q → length (signedOf public hash kind share len q) ≤ 404
-signed-most public hash kind share len q p a = omega (arith, signed-length hash kind share len q public p, rest-most hash kind share len q a)

@@ -44,11 +44,3 @@ module _ (hash kind share : List ℕ) (len : ℕ) (q : Quorum) (public : List �
   pub signed-accepted : length public ≡ 32 → AllowedRest hash kind share len q → signedVerdict public hash kind share len q ≡ bytes (signedOf public hash kind share len q)
   unfolding signedVerdict
   signed-accepted p a = rw (eq-eqb (length public) 32 p, rest-yes hash kind share len q a)
-
-  pub signed-accepts : {bs : List ℕ} → signedVerdict public hash kind share len q ≡ bytes bs
-      → (length public ≡ 32) × AllowedRest hash kind share len q × (signedOf public hash kind share len q ≡ bs)
-  unfolding signedVerdict
-  signed-accepts h =
-      let t = passed (eqb (length public) 32 && restFits hash kind share len q) _ 19 h in
-      let a = both-hold (eqb (length public) 32) _ (t .0) in
-      (eqb-true (length public) 32 (a .0), rest-passed hash kind share len q (a .1), bytes-injective (t .1))

@@ -14,7 +14,7 @@ use Rattle.state.specs.State.{Book}
 use Rattle.state.specs.Take.{Page}
 use Rattle.state.specs.Meaning.{BookIs}
 use Rattle.state.specs.Finish.{Finish, whole, lacking, finishBook}
-use Rattle.state.specs.Complete.{TwoTotals, Complete, FirstDisputed, FirstMissing, FinishIs}
+use Rattle.state.specs.Complete.{Complete, FinishIs}
 use Rattle.state.proofs.Finished.{finish-exact, finish-whole, finish-short}
 use Rattle.book.specs.Encode.{encode}
 use Rattle.book.specs.Read.{idOf, readBook, okBook}
@@ -23,7 +23,7 @@ use Rattle.collection.specs.Collection.{Decision, leaves, refuses, joining, ans
 use Rattle.collection.specs.Built.{Built, opened, joined, bytesOf, In, Lent, offeredAll, AllBytes}
 use Rattle.collection.proofs.Demand.{saved, saved-says, list-joined}
 use Rattle.closing.specs.Finish.{collected, vouched, finished}
-use Rattle.closing.proofs.Demand.{decided-data, decided-11, decided-14, decided-15, decided-16, decided-17}
+use Rattle.closing.proofs.Demand.{decided-data, decided-11, decided-17}
 use Rattle.status.specs.Line.{statusLine}
 use Rattle.shelf.specs.Shelf.{resuming, refusedAt, ending, shown, answered}
 
@@ -58,18 +58,6 @@ module _ (S : Page → Type 0) (c : List ℕ) (ok : okBook c ≡ true) (m : Book
   ending-17 =
       let f = decided-17 S c (replicate 46080 0) ok m in
       ((λ e. let w = f .0 e in (w .0, w .1, w .3)), λ w. f .1 (w .0, w .1, fits (w .0) (w .1), w .2))
-
-  pub ending-14 : (ending c ≡ lacking 14 0) ↔ TwoTotals S
-  unfolding ending
-  ending-14 = decided-14 S c (replicate 46080 0) ok m
-
-  pub ending-15 : (k : ℕ) → (ending c ≡ lacking 15 k) ↔ FirstDisputed S k
-  unfolding ending
-  ending-15 k = decided-15 S c (replicate 46080 0) ok m k
-
-  pub ending-16 : (k : ℕ) → (ending c ≡ lacking 16 k) ↔ FirstMissing S k
-  unfolding ending
-  ending-16 k = decided-16 S c (replicate 46080 0) ok m k
 
   -- so the pantry prints the ciphertext of a complete set,
   pub prints-data : (d : List ℕ) → Complete S d → documentId d ≡ idOf c → answered 1 c ≡ d

@@ -1,7 +1,7 @@
 -- A run of the pantry, said of its whole input and of what was saved. Assumes nothing.
 use mathlib.Core.Path.{_≡_, refl, sym, ap, _∙_}
 use mathlib.Core.Bool.{Bool, true, false}
-use mathlib.Core.Logic.{inl, inr, _↔_}
+use mathlib.Core.Logic.{inl, inr}
 use mathlib.Core.List.{List, [], _∷_, _++_}
 use Prim.Native.Nat.{ℕ, _≤_}
 use native.Mathlib.Omega.{arith}
@@ -25,10 +25,10 @@ use Rattle.scan.specs.Session.{fed}
 use Rattle.scan.specs.Input.{documentOf, scansOf, collectionOf, new, session}
 use Rattle.scan.proofs.Inputs.{session-collects, session-refused, all-bytes, document-eight, list-says, status-says}
 use Rattle.scan.proofs.Sound.{Sound, sound-new, fed-sound, closed-sound}
-use Rattle.shelf.specs.Shelf.{resuming, refusedAt, ending, answered}
+use Rattle.shelf.specs.Shelf.{resuming, refusedAt, answered}
 use Rattle.shelf.specs.Pantry.{printedAlone, takenUp, printedWith, fileAfter, Prints}
 use Rattle.shelf.proofs.Sessions.{resume-13, resume-12, resume-0}
-use Rattle.shelf.proofs.Demand.{ending-data, ending-17, prints-data, prints-17, prints-status, resume-lists}
+use Rattle.shelf.proofs.Demand.{prints-data, prints-17, prints-status, resume-lists}
 
 -- ---- what is printed of scans
 
@@ -54,17 +54,6 @@ prints-once id S b v m x y p q = go (finishBook b) refl
             omega arith
 
 module _ (id : List ℕ) (eight : length id ≡ 8) (c : List ℕ) (size : length c ≡ 49664) (raws : List (List ℕ)) (y : AllBytes raws) where
-  -- finish gives the ciphertext of the scans exactly where they are complete and the id is its own, and 17 exactly where it is not
-  pub gives-data : (d : List ℕ) → (ending (collectionOf c id raws) ≡ whole d) ↔ (Complete (PageAmong id raws) d × (documentId d ≡ id))
-  gives-data d =
-      let (ok, i, m) = list-says id eight c size raws y in
-      rw i at (ending-data (PageAmong id raws) (collectionOf c id raws) ok m d)
-
-  pub gives-17 : (ending (collectionOf c id raws) ≡ lacking 17 0) ↔ ((d : List ℕ) × Complete (PageAmong id raws) d × (documentId d ≡ id → ⊥))
-  gives-17 =
-      let (ok, i, m) = list-says id eight c size raws y in
-      rw i at (ending-17 (PageAmong id raws) (collectionOf c id raws) ok m)
-
   pub scans-print : Prints id (PageAmong id raws) (answered 1 (collectionOf c id raws))
   scans-print =
       let (ok, i, m) = list-says id eight c size raws y in

@@ -1,12 +1,12 @@
 -- What an offer changes in a collection: at most one slot, or everything at once where totals disagree. For the proofs of code.
-use mathlib.Core.Path.{_≡_, refl, sym, ap, _∙_}
+use mathlib.Core.Path.{_≡_, refl, ap, _∙_}
 use mathlib.Core.Bool.{Bool, true, false}
 use mathlib.Core.Logic.{_⊎_, inl, inr}
 use mathlib.Core.List.{List}
 use Prim.Native.Nat.{ℕ, _≤_, _<_}
 use native.Mathlib.Omega.{arith}
 use lib.ListN.{length, getD, set}
-use lib.Seq.{getD-set-same, set-getD}
+use lib.Seq.{getD-set-same}
 use borrow.Author.Tests.{eq-eqb, ne-eqb}
 use Rattle.wire.specs.Answer.{choose}
 use Rattle.wire.proofs.Cases.{eq-or-ne}
@@ -14,43 +14,14 @@ use Rattle.lend.specs.Same.{same}
 use Rattle.lend.proofs.Sames.{same-eq}
 use Rattle.state.specs.State.{Slot, absent, held, disputed, Book, empty, collecting, disagree, noPages}
 use Rattle.state.specs.Take.{Page, joinSlot, joinSlots, takePage, joinBook, kindOfSlot, kindOf}
-use Rattle.state.proofs.Slots.{join-again, join-other, join-stays, join-first, length-none}
+use Rattle.state.proofs.Slots.{length-none}
 use Rattle.state.proofs.Valid.{Good, good-index, Valid}
-
--- a slot that stays as it is leaves the list as it is
-pub set-same : (ss : List Slot) (i : ℕ) (x : Slot) → getD ss i absent ≡ x → set ss i x ≡ ss
-set-same ss i x e = ap (set ss i) (sym e) ∙ set-getD ss i absent
 
 -- ---- what the slot of the page's index becomes
 
 -- the slot after the offer of contents d
 abbrev pub offered : List Slot → ℕ → List ℕ → Slot
 offered ss i d = joinSlot (getD ss i absent) (held d)
-
-module _ (ss : List Slot) (i : ℕ) (d : List ℕ) where
-  -- an absent page is held
-  pub offered-absent : getD ss i absent ≡ absent → offered ss i d ≡ held d
-  offered-absent e = rw e (join-first (held d))
-
-  -- the same data again
-  pub offered-again : (e : List ℕ) → getD ss i absent ≡ held e → e ≡ d → offered ss i d ≡ held d
-  offered-again e g q = rw g (join-again e d q ∙ ap held q)
-
-  -- other data
-  pub offered-other : (e : List ℕ) → getD ss i absent ≡ held e → (e ≡ d → ⊥) → offered ss i d ≡ disputed
-  offered-other e g n = rw g (join-other e d n)
-
-  -- in two versions already
-  pub offered-disputed : getD ss i absent ≡ disputed → offered ss i d ≡ disputed
-  offered-disputed e = rw e (join-stays (held d))
-
-  -- the same data again leaves the slots as they are
-  pub set-again : (e : List ℕ) → getD ss i absent ≡ held e → e ≡ d → set ss i (offered ss i d) ≡ ss
-  set-again e g q = set-same ss i (offered ss i d) (g ∙ ap held q ∙ sym (offered-again e g q))
-
-  -- and so does anything for a page in two versions
-  pub set-disputed : getD ss i absent ≡ disputed → set ss i (offered ss i d) ≡ ss
-  set-disputed e = set-same ss i (offered ss i d) (e ∙ sym (offered-disputed e))
 
 -- a slot to which an offer was made is held or in two versions
 pub offered-kinds : (x : Slot) (d : List ℕ) → (joinSlot x (held d) ≡ held d) ⊎ (joinSlot x (held d) ≡ disputed)
@@ -75,18 +46,6 @@ module _ (p : Page) where
   pub take-set : (t : ℕ) (ss : List Slot) → p .total ≡ t → takePage p (collecting t ss) ≡ collecting t (set ss (p .index) (offered ss (p .index) (p .contents)))
   unfolding takePage
   take-set t ss e = rw (eq-eqb (p .total) t e)
-
-  -- the same total, and the slot stays: nothing changes
-  pub take-stays : (t : ℕ) (ss : List Slot) → p .total ≡ t → offered ss (p .index) (p .contents) ≡ getD ss (p .index) absent → takePage p (collecting t ss) ≡ collecting t ss
-  take-stays t ss e q = take-set t ss e ∙ ap (collecting t) (set-same ss (p .index) (offered ss (p .index) (p .contents)) (sym q))
-
-  -- the same data again changes nothing
-  pub take-again : (t : ℕ) (ss : List Slot) → p .total ≡ t → getD ss (p .index) absent ≡ held (p .contents) → takePage p (collecting t ss) ≡ collecting t ss
-  take-again t ss e q = take-set t ss e ∙ ap (collecting t) (set-again ss (p .index) (p .contents) (p .contents) q refl)
-
-  -- nor does a further version
-  pub take-disputed : (t : ℕ) (ss : List Slot) → p .total ≡ t → getD ss (p .index) absent ≡ disputed → takePage p (collecting t ss) ≡ collecting t ss
-  take-disputed t ss e q = take-set t ss e ∙ ap (collecting t) (set-disputed ss (p .index) (p .contents) q)
 
   -- another total: all is lost
   pub take-other-total : (t : ℕ) (ss : List Slot) → (p .total ≡ t → ⊥) → takePage p (collecting t ss) ≡ disagree

@@ -52,18 +52,6 @@ module _ (S : Page → Type 0) (k : ℕ) where
   is-held (held d) e f m = (m .0 .0, m .0 .1, m .0 .2, m .1 (m .0 .0) (m .0 .1) (m .0 .2))
   is-held disputed e f m = absurd (false≢true (sym f))
 
-  -- an index that has a page is not absent, however short its contents
-  pub present-slot : (x : Slot) → Present S k → SlotIs S k x → isAbsent x ≡ false
-  unfolding isAbsent
-  present-slot absent (p, s, i) m = absurd (m p s i)
-  present-slot (held d) n m = refl
-  present-slot disputed n m = refl
-
--- a held page of length 0 is present
-pub held-empty-present : isAbsent (held []) ≡ false
-unfolding isAbsent
-held-empty-present = refl
-
 flatten-data : (ss : List Slot) → flatten (map dataOf ss) ≡ joined ss
 unfolding flatten joined
 flatten-data [] = refl

@@ -7,17 +7,14 @@ use native.Mathlib.Omega.{arith}
 use lib.ListN.{length, take}
 use lib.Seq.{ext-getD, length-take-le}
 use borrow.Author.Tests.{lt-ltb, le-ltb}
-use Rattle.wire.specs.Number.{Bytes}
 use Rattle.wire.proofs.Cases.{lt-or-le}
-use Rattle.wire.proofs.Digits.{bytes-none}
 use Rattle.state.specs.State.{Slot, dataOf, Book, empty, collecting, disagree, noPages}
 use Rattle.state.specs.Take.{Page, takePage}
 use Rattle.state.specs.Meaning.{BookIs}
 use Rattle.state.specs.Complete.{OneTotal, TwoTotals, OneVersion, TwoVersions, Complete, FirstDisputed, FirstMissing, FinishIs}
 use Rattle.state.specs.Finish.{isAbsent, isDisputed, lowest, joined, Finish, whole, lacking, finishPages, finishBook}
-use Rattle.state.proofs.Valid.{Good, Valid, book-valid, Short, short-none, BytesBook, data-take}
-use Rattle.state.proofs.Counts.{joined-most, joined-bytes}
-use Rattle.state.proofs.Histories.{History, run, In, AllGood, good-indexed, run-is, run-valid}
+use Rattle.state.proofs.Valid.{Valid, Short, short-none, data-take}
+use Rattle.state.proofs.Counts.{joined-most}
 use Rattle.state.proofs.Complete.{finish-is}
 
 -- ---- no two answers of one set
@@ -139,10 +136,6 @@ module _ (S : Page → Type 0) (b : Book) (v : Valid b) (m : BookIs S b) where
       said (inr (inl (e, w))) = absurd (omega arith)
       said (inr (inr (e, w))) = w
 
--- the same where the pages are known to be good
-pub good-exact : (S : Page → Type 0) (b : Book) → ((p : Page) → S p → Good p) → BookIs S b → (x : Finish) → (finishBook b ≡ x) ↔ FinishIs S x
-good-exact S b g m x = finish-exact S b (book-valid S g b m) m x
-
 -- complete; two totals; a lowest page in two versions; a lowest page missing
 abbrev pub OneOfFour : (Page → Type 0) → Type 0
 OneOfFour S = ((d : List ℕ) × Complete S d) ⊎ (TwoTotals S ⊎ (((k : ℕ) × FirstDisputed S k) ⊎ ((k : ℕ) × FirstMissing S k)))
@@ -156,21 +149,6 @@ finish-cases S (lacking n k) (inr (inr (e, w))) = inr (inr (inr (k, w)))
 -- For the reader: these exhaust everything: every set that has a meaning is one of the four
 pub set-cases : (S : Page → Type 0) (b : Book) → Valid b → BookIs S b → OneOfFour S
 set-cases S b v m = finish-cases S (finishBook b) (finish-is S b v m)
-
--- ---- the same of a history of good pages
-
-module _ (h : History) (g : AllGood h) where
-  -- finish gives an answer exactly when it is true of the pages that were offered
-  pub run-exact : (x : Finish) → (finishBook (run h) ≡ x) ↔ FinishIs (In h) x
-  run-exact x = finish-exact (In h) (run h) (run-valid h g) (run-is h (good-indexed h g)) x
-
-  -- it gives the data exactly when those pages are complete
-  pub run-whole : (d : List ℕ) → (finishBook (run h) ≡ whole d) ↔ Complete (In h) d
-  run-whole d = run-exact (whole d)
-
-  -- and one of the four is so
-  pub run-cases : OneOfFour (In h)
-  run-cases = set-cases (In h) (run h) (run-valid h g) (run-is h (good-indexed h g))
 
 -- For the reader: a page of length 0 is a page: one of one, whatever its contents, is the whole
 pub one-page : (d : List ℕ) → finishBook (takePage (record { index = 0; total = 1; contents = d }) empty) ≡ whole d
@@ -250,10 +228,3 @@ finish-short (collecting t ss) d v e =
     let size : length (take t ss) ≡ t = length-take-le t ss (omega (arith, v .most, v .slots)) in
     omega (arith, joined-most (take t ss) (data-take Short short-none t ss (v .short)), ap length (finish-data t ss d e), v .most)
 finish-short disagree d v e = absurd (whole-not-lacking (sym e))
-
--- and they are bytes
-pub finish-bytes : (b : Book) (d : List ℕ) → BytesBook b → finishBook b ≡ whole d → Bytes d
-unfolding finishBook
-finish-bytes empty d v e = absurd (whole-not-lacking (sym e))
-finish-bytes (collecting t ss) d v e = subst Bytes (sym (finish-data t ss d e)) (joined-bytes (take t ss) (data-take Bytes bytes-none t ss v))
-finish-bytes disagree d v e = absurd (whole-not-lacking (sym e))

@@ -97,10 +97,6 @@ book-iff S T f g (collecting t ss) m =
     ((m .0 .0, f (m .0 .0) (m .0 .1)), (λ p u. m .1 p (g p u)), m .2, λ k. slot-iff S T f g k (getD ss k absent) (m .3 k))
 book-iff S T f g disagree m = (m .0, m .1, f (m .0) (m .2), f (m .1) (m .3), m .4)
 
--- the empty collection is the meaning of no pages
-pub book-none : (S : Page → Type 0) → ((p : Page) → S p → ⊥) → BookIs S empty
-book-none S f = f
-
 module _ (S T : Page → Type 0) where
   joined : (t u : ℕ) (ss us : List Slot) (w : Bool) → eqb t u ≡ w → BookIs S (collecting t ss) → BookIs T (collecting u us)
       → BookIs (either S T) (choose w (collecting t (joinSlots ss us)) disagree)

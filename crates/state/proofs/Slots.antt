@@ -1,5 +1,5 @@
 -- Slots and lists of slots: joining two, and no slot held.
-use mathlib.Core.Path.{_≡_, refl, sym, ap, ap₂, _∙_}
+use mathlib.Core.Path.{_≡_, refl, sym, ap, _∙_}
 use mathlib.Core.Bool.{Bool, true, false}
 use mathlib.Core.List.{List, [], _∷_}
 use Prim.Native.Nat.{ℕ, zero, suc, _<_}
@@ -27,13 +27,6 @@ unfolding joinSlot
 join-disputed absent = refl
 join-disputed (held d) = refl
 join-disputed disputed = refl
-
--- a slot joined to itself changes nothing
-pub join-self : (x : Slot) → joinSlot x x ≡ x
-unfolding joinSlot
-join-self absent = refl
-join-self (held d) = rw (same-refl d)
-join-self disputed = refl
 
 -- the same data again changes nothing
 pub join-again : (d e : List ℕ) → d ≡ e → joinSlot (held d) (held e) ≡ held d
@@ -75,11 +68,6 @@ length-none = length-replicate 96 absent
 -- 96 absent slots are no pages
 pub none-is : (ss : List Slot) → length ss ≡ 96 → ((k : ℕ) → getD ss k absent ≡ absent) → ss ≡ noPages
 none-is ss l f = ext-getD absent ss noPages (l ∙ sym length-none) (λ k h. f k ∙ sym (getD-none k))
-
--- a list of absent slots
-pub absent-all : (ss : List Slot) → ((k : ℕ) → getD ss k absent ≡ absent) → ss ≡ replicate (length ss) absent
-absent-all [] f = refl
-absent-all (x ∷ ss) f = ap₂ _∷_ (f 0) (absent-all ss (λ k. f (suc k)))
 
 -- ---- lists of slots joined
 

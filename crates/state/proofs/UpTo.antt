@@ -1,13 +1,12 @@
 -- The first k slots of two lists joined, and the rest of the first as it was: what a loop over the slots has done after k turns.
 use mathlib.Core.Path.{_≡_, refl, sym, ap, _∙_}
 use mathlib.Core.List.{List, [], _∷_}
-use Prim.Native.Nat.{ℕ, zero, suc, _+_, _≤_, _<_}
+use Prim.Native.Nat.{ℕ, zero, suc, _+_, _<_}
 use native.Mathlib.Omega.{arith}
 use native.Mathlib.Numerals.{add-one}
 use lib.ListN.{length, getD, set}
 use Rattle.state.specs.State.{Slot, absent}
 use Rattle.state.specs.Take.{joinSlot, joinSlots}
-use Rattle.state.proofs.Valid.{EachData, data-join}
 
 unfoldable pub upTo : ℕ → List Slot → List Slot → List Slot
 upTo zero xs ys = xs
@@ -35,25 +34,6 @@ upTo-get (suc k) [] ys = refl
 upTo-get (suc k) (x ∷ xs) [] = refl
 upTo-get (suc k) (x ∷ xs) (y ∷ ys) = upTo-get k xs ys
 
--- and so are all behind it
-pub upTo-rest : (k i : ℕ) (xs ys : List Slot) → k ≤ i → getD (upTo k xs ys) i absent ≡ getD xs i absent
-unfolding upTo
-upTo-rest zero i xs ys h = refl
-upTo-rest (suc k) i [] ys h = refl
-upTo-rest (suc k) i (x ∷ xs) [] h = refl
-upTo-rest (suc k) zero (x ∷ xs) (y ∷ ys) h = absurd (omega arith)
-upTo-rest (suc k) (suc i) (x ∷ xs) (y ∷ ys) h = upTo-rest k i xs ys (omega arith)
-
--- those before it are joined
-pub upTo-done : (k i : ℕ) (xs ys : List Slot) → length xs ≡ length ys → i < k → getD (upTo k xs ys) i absent ≡ joinSlot (getD xs i absent) (getD ys i absent)
-unfolding upTo joinSlot
-upTo-done zero i xs ys e h = absurd (omega arith)
-upTo-done (suc k) i [] [] e h = refl
-upTo-done (suc k) i [] (y ∷ ys) e h = absurd (omega arith)
-upTo-done (suc k) i (x ∷ xs) [] e h = absurd (omega arith)
-upTo-done (suc k) zero (x ∷ xs) (y ∷ ys) e h = refl
-upTo-done (suc k) (suc i) (x ∷ xs) (y ∷ ys) e h = upTo-done k i xs ys (omega arith) (omega arith)
-
 set-suc : (k : ℕ) (xs ys : List Slot) → length xs ≡ length ys → k < length xs → set (upTo k xs ys) k (joinSlot (getD xs k absent) (getD ys k absent)) ≡ upTo (suc k) xs ys
 unfolding upTo
 set-suc zero (x ∷ xs) (y ∷ ys) e h = refl
@@ -66,20 +46,3 @@ set-suc (suc k) (x ∷ xs) (y ∷ ys) e h = ap (λ (l : List Slot). joinSlot x y
 -- a turn joins the next slot in its place
 pub upTo-set : (k : ℕ) (xs ys : List Slot) → length xs ≡ length ys → k < length xs → set (upTo k xs ys) k (joinSlot (getD xs k absent) (getD ys k absent)) ≡ upTo (k + 1) xs ys
 upTo-set k xs ys e h = set-suc k xs ys e h ∙ ap (λ (n : ℕ). upTo n xs ys) (sym (add-one k))
-
--- there are as many slots as before
-pub length-upTo : (k : ℕ) (xs ys : List Slot) → length (upTo k xs ys) ≡ length xs
-unfolding upTo
-length-upTo zero xs ys = refl
-length-upTo (suc k) [] ys = refl
-length-upTo (suc k) (x ∷ xs) [] = refl
-length-upTo (suc k) (x ∷ xs) (y ∷ ys) = ap suc (length-upTo k xs ys)
-
--- a property of all data, that no data has too, is kept
-pub data-upTo : (P : List ℕ → Type 0) → P [] → (k : ℕ) (xs ys : List Slot) → EachData P xs → EachData P ys → EachData P (upTo k xs ys)
-unfolding upTo
-data-upTo P n zero xs ys f g j = f j
-data-upTo P n (suc k) [] ys f g j = f j
-data-upTo P n (suc k) (x ∷ xs) [] f g j = f j
-data-upTo P n (suc k) (x ∷ xs) (y ∷ ys) f g zero = data-join P n x y (f 0) (g 0)
-data-upTo P n (suc k) (x ∷ xs) (y ∷ ys) f g (suc j) = data-upTo P n k xs ys (λ i. f (suc i)) (λ i. g (suc i)) j

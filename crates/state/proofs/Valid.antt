@@ -9,8 +9,6 @@ use lib.Seq.{getD-set-other}
 use lib.Dec.{eqb}
 use borrow.Author.Tests.{eqb-true}
 use Rattle.wire.specs.Answer.{choose}
-use Rattle.wire.specs.Number.{Bytes}
-use Rattle.wire.proofs.Digits.{bytes-none}
 use Rattle.lend.specs.Same.{same}
 use Rattle.state.specs.State.{Slot, absent, held, disputed, dataOf, Book, empty, collecting, disagree, noPages}
 use Rattle.state.specs.Take.{Page, joinSlot, joinSlots, takePage, joinBook}
@@ -24,11 +22,7 @@ pub record Good (p : Page) : Type 0 where
   pub most : p .total ≤ 96
   pub short : length (p .contents) ≤ 480
 
--- a good page names a total of 1 to 96
-pub good-total : (p : Page) → Good p → (1 ≤ p .total) × (p .total ≤ 96)
-good-total p g = omega (arith, g .below, g .most)
-
--- and an index that has a slot
+-- it has an index that has a slot
 pub good-index : (p : Page) → Good p → p .index < 96
 good-index p g = omega (arith, g .below, g .most)
 
@@ -59,10 +53,6 @@ abbrev pub BookData : (List ℕ → Type 0) → Book → Type 0
 BookData P empty = Unit {0}
 BookData P (collecting t ss) = EachData P ss
 BookData P disagree = Unit {0}
-
--- all data of a collection are bytes
-abbrev pub BytesBook : Book → Type 0
-BytesBook b = BookData Bytes b
 
 -- ---- a property of data that no data has too
 
@@ -109,32 +99,6 @@ module _ (P : List ℕ → Type 0) (none : P []) where
   data-take (suc n) (x ∷ ss) f zero = f 0
   data-take (suc n) (x ∷ ss) f (suc k) = data-take n ss (λ j. f (suc j)) k
 
-  -- joining two collections keeps it
-  pub book-data-join : (a b : Book) → BookData P a → BookData P b → BookData P (joinBook a b)
-  unfolding joinBook
-  book-data-join empty b f g = g
-  book-data-join (collecting t ss) empty f g = f
-  book-data-join (collecting t ss) (collecting u us) f g = go (eqb t u)
-    where
-      go : (w : Bool) → BookData P (choose w (collecting t (joinSlots ss us)) disagree)
-      go true = data-joins ss us f g
-      go false = tt
-  book-data-join (collecting t ss) disagree f g = tt
-  book-data-join disagree b f g = tt
-
-  -- taking a page whose contents have it keeps it
-  pub book-data-take : (p : Page) (b : Book) → P (p .contents) → BookData P b → BookData P (takePage p b)
-  unfolding takePage dataOf
-  book-data-take p empty h f = data-set noPages (p .index) (held (p .contents)) data-none h
-  book-data-take p (collecting t ss) h f = go (eqb (p .total) t)
-    where
-      go : (w : Bool) → BookData P (choose w (collecting t (set ss (p .index) (joinSlot (getD ss (p .index) absent) (held (p .contents))))) disagree)
-      go true =
-          data-set ss (p .index) (joinSlot (getD ss (p .index) absent) (held (p .contents))) f
-          (data-join (getD ss (p .index) absent) (held (p .contents)) (f (p .index)) h)
-      go false = tt
-  book-data-take p disagree h f = tt
-
   -- what a set of pages whose contents have it says of an index
   pub slot-data : (S : Page → Type 0) → ((p : Page) → S p → P (p .contents)) → (k : ℕ) (x : Slot) → SlotIs S k x → P (dataOf x)
   unfolding dataOf
@@ -147,14 +111,6 @@ module _ (P : List ℕ → Type 0) (none : P []) where
   book-data S f empty m = tt
   book-data S f (collecting t ss) m = λ k. slot-data S f k (getD ss k absent) (m .3 k)
   book-data S f disagree m = tt
-
--- bytes joined to bytes are bytes
-pub bytes-join : (a b : Book) → BytesBook a → BytesBook b → BytesBook (joinBook a b)
-bytes-join a b f g = book-data-join Bytes bytes-none a b f g
-
--- and so are bytes with a page of bytes
-pub bytes-take : (p : Page) (b : Book) → Bytes (p .contents) → BytesBook b → BytesBook (takePage p b)
-bytes-take p b h f = book-data-take Bytes bytes-none p b h f
 
 -- ---- valid collections
 

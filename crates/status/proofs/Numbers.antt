@@ -1,16 +1,14 @@
--- Numbers in decimal: how long they are, that they say the number, and that they have no leading zero. Assumes nothing.
-use mathlib.Core.Path.{_≡_, refl, sym, ap, _∙_}
+-- Numbers in decimal: their digits, how long they are, and how they are written one after the other. Assumes nothing.
+use mathlib.Core.Path.{_≡_, refl}
 use mathlib.Core.Bool.{Bool, true, false}
-use mathlib.Core.Logic.{⊎-elim}
 use mathlib.Core.List.{List, [], _∷_}
-use Prim.Native.Nat.{ℕ, _+_, _-_, _*_, _/_, _%_, _≤_, _<_}
+use Prim.Native.Nat.{ℕ, _+_, _/_, _%_, _≤_, _<_}
 use native.Mathlib.Omega.{arith}
 use borrow.Author.Tests.{lt-ltb, le-ltb}
 use lib.Dec.{ltb}
-use lib.ListN.{length, getD}
+use lib.ListN.{length}
 use Rattle.wire.specs.Answer.{choose}
 use Rattle.wire.specs.Over.{over}
-use Rattle.wire.proofs.Cases.{lt-or-le}
 use Rattle.wire.proofs.Overs.{over-run}
 use Rattle.status.specs.Line.{digit, decimal}
 
@@ -57,31 +55,3 @@ module _ (at n : ℕ) (l : List ℕ) (room : at + 3 ≤ length l) where
       let u = over-run at (at + 1) 1 1 (digit (n / 100) ∷ []) (digit (n / 10 % 10) ∷ []) l x y f (e, refl) refl refl (omega arith) in
       let v = over-run at (at + 2) 2 1 (digit (n / 100) ∷ digit (n / 10 % 10) ∷ []) (digit (n % 10) ∷ []) l y z g u refl refl (omega arith) in
       rw (decimal-three n h) (refl, omega arith, v .0)
-
--- ---- what the digits say
-
--- the number of decimal characters, after those that made n
-pub sayFrom : ℕ → List ℕ → ℕ
-sayFrom n [] = n
-sayFrom n (x ∷ xs) = sayFrom (n * 10 + (x - 0x30)) xs
-
--- a number below 1,000 is what its digits say
-pub decimal-says : (n : ℕ) → n < 1000 → sayFrom 0 (decimal n) ≡ n
-unfolding sayFrom
-decimal-says n h =
-    ⊎-elim (λ a. ap (sayFrom 0) (decimal-one n a) ∙ omega arith)
-    (λ a. ⊎-elim (λ b. ap (sayFrom 0) (decimal-two n a b) ∙ omega arith) (λ b. ap (sayFrom 0) (decimal-three n b) ∙ omega arith) (lt-or-le n 100))
-    (lt-or-le n 10)
-
--- so two numbers have two writings
-pub decimal-one-way : (m n : ℕ) → m < 1000 → n < 1000 → decimal m ≡ decimal n → m ≡ n
-decimal-one-way m n h k e = sym (decimal-says m h) ∙ ap (sayFrom 0) e ∙ decimal-says n k
-
--- the first character is a digit, and 0 only for the number 0
-pub decimal-first : (n : ℕ) → n < 1000 → (0x30 ≤ getD (decimal n) 0 0) × (getD (decimal n) 0 0 ≤ 0x39) × (getD (decimal n) 0 0 ≡ 0x30 → n ≡ 0)
-decimal-first n h =
-    ⊎-elim (λ a. rw (decimal-one n a) (omega arith, omega arith, λ e. omega (arith, e)))
-    (λ a.
-    ⊎-elim (λ b. rw (decimal-two n a b) (omega arith, omega arith, λ e. omega (arith, e))) (λ b. rw (decimal-three n b) (omega arith, omega arith, λ e. omega (arith, e)))
-    (lt-or-le n 100))
-    (lt-or-le n 10)

@@ -1,102 +1,17 @@
--- What the status line tells: its counts are those of the pages, and its `first` is the lowest missing. Assumes nothing.
-use mathlib.Core.Path.{_≡_, refl, sym, ap, _∙_, subst}
+-- How long a status line can be, and 01's example of one. What it tells of a set of pages is in Sets.antt. Assumes nothing.
+use mathlib.Core.Path.{_≡_, refl}
 use mathlib.Core.Bool.{Bool, true, false}
-use mathlib.Core.Logic.{_⊎_, inl, inr, _↔_}
 use mathlib.Core.List.{List, [], _∷_}
-use Prim.Native.Nat.{ℕ, _+_, _≤_, _<_}
+use Prim.Native.Nat.{ℕ, _+_, _≤_}
 use native.Mathlib.Omega.{arith}
-use borrow.Author.Tests.{lt-ltb, le-ltb}
 use lib.Dec.{ltb}
-use lib.ListN.{length, take, drop, getD, length-append}
-use lib.Seq.{length-take-le}
+use lib.ListN.{length, take, length-append}
 use Rattle.wire.specs.Answer.{choose}
-use Rattle.wire.proofs.Cases.{lt-or-le}
 use Rattle.state.specs.State.{Slot, absent, held, Book, empty, collecting, disagree}
 use Rattle.state.specs.Finish.{isAbsent, isHeld, isDisputed, lowest, count}
-use Rattle.state.proofs.Valid.{ValidPages, Valid}
-use Rattle.state.proofs.Counts.{count-three, lowest-has, lowest-lacks, counted-lowest, lowest-counted}
 use Rattle.book.specs.Read.{readBook, okBook}
-use Rattle.book.proofs.Decode.{decoded-valid}
 use Rattle.status.specs.Line.{decimal, field, pagesName, heldName, missingName, disputedName, firstName, refusedName, noFirst, firstField, pagesLine, bookLine, refusedLine, statusLine}
-use Rattle.status.proofs.Numbers.{length-decimal, decimal-first, decimal-one-way}
-
-behind : (j k : ℕ) → field firstName j ≡ field firstName k → decimal j ≡ decimal k
-unfolding field
-behind j k e = ap (drop 7) e
-
--- the pages below the total t
-module _ (t : ℕ) (ss : List Slot) (long : length ss ≡ t) where
-  -- held, missing and disputed are all of them
-  pub counts-total : count isHeld ss + count isAbsent ss + count isDisputed ss ≡ t
-  counts-total = omega (arith, count-three ss, long)
-
-  -- `first` names a page that is missing, and none below it is
-  pub first-missing : lowest isAbsent ss < t → isAbsent (getD ss (lowest isAbsent ss) absent) ≡ true
-  first-missing h = lowest-has isAbsent ss (omega arith)
-
-  pub first-lowest : (j : ℕ) → j < lowest isAbsent ss → isAbsent (getD ss j absent) ≡ false
-  first-lowest j h = lowest-lacks isAbsent ss j h
-
-  shown : lowest isAbsent ss < t → firstField (lowest isAbsent ss) t ≡ field firstName (lowest isAbsent ss)
-  unfolding firstField
-  shown h = rw (lt-ltb (lowest isAbsent ss) t h)
-
-  hidden : t ≤ lowest isAbsent ss → firstField (lowest isAbsent ss) t ≡ noFirst
-  unfolding firstField
-  hidden h = rw (le-ltb (lowest isAbsent ss) t h)
-
-  -- a number is not the dash
-  digit-not-dash : (k : ℕ) → k < 1000 → field firstName k ≡ noFirst → ⊥
-  unfolding field
-  digit-not-dash k h e =
-      let a : getD (decimal k) 0 0 ≡ 45 = ap (λ (l : List ℕ). getD l 7 0) e in
-      omega (arith, decimal-first k h .0)
-
-  -- `missing 0` exactly when `first` is `-`
-  pub dash-exact : t < 1000 → (count isAbsent ss ≡ 0) ↔ (firstField (lowest isAbsent ss) t ≡ noFirst)
-  dash-exact small = ((λ e. dash e (lt-or-le (lowest isAbsent ss) t)), λ e. none e (lt-or-le (lowest isAbsent ss) t))
-    where
-      dash : count isAbsent ss ≡ 0 → (lowest isAbsent ss < t) ⊎ (t ≤ lowest isAbsent ss) → firstField (lowest isAbsent ss) t ≡ noFirst
-      dash e (inl h) = absurd (lowest-counted isAbsent ss (omega arith) e)
-      dash e (inr h) = hidden h
-
-      none : firstField (lowest isAbsent ss) t ≡ noFirst → (lowest isAbsent ss < t) ⊎ (t ≤ lowest isAbsent ss) → count isAbsent ss ≡ 0
-      none e (inl h) = absurd (digit-not-dash (lowest isAbsent ss) (omega arith) (sym (shown h) ∙ e))
-      none e (inr h) = zero (lt-or-le 0 (count isAbsent ss))
-        where
-          zero : (0 < count isAbsent ss) ⊎ (count isAbsent ss ≤ 0) → count isAbsent ss ≡ 0
-          zero (inl p) = absurd (omega (arith, counted-lowest isAbsent ss (λ q. omega (arith, p, q))))
-          zero (inr p) = omega arith
-
-  -- a number behind `first` is that of the lowest missing page
-  pub first-exact : t < 1000 → (k : ℕ) → k < 1000 → firstField (lowest isAbsent ss) t ≡ field firstName k → (lowest isAbsent ss < t) × (k ≡ lowest isAbsent ss)
-  first-exact small k h e = go (lt-or-le (lowest isAbsent ss) t)
-    where
-      go : (lowest isAbsent ss < t) ⊎ (t ≤ lowest isAbsent ss) → (lowest isAbsent ss < t) × (k ≡ lowest isAbsent ss)
-      go (inl l) = (l, sym (decimal-one-way (lowest isAbsent ss) k (omega arith) h (behind (lowest isAbsent ss) k (sym (shown l) ∙ e))))
-      go (inr l) = absurd (digit-not-dash k h (sym e ∙ hidden l))
-
--- ---- of a collection
-
--- one that is not well formed
-pub status-refused : (c : List ℕ) → okBook c ≡ false → statusLine c ≡ refusedLine 13
-unfolding statusLine
-status-refused c e = rw e
-
--- one that is
-pub status-said : (c : List ℕ) → okBook c ≡ true → statusLine c ≡ bookLine (readBook c)
-unfolding statusLine
-status-said c e = rw e
-
--- with pages: the line of the pages below the total, which are as many as the total says
-pub status-pages : (c : List ℕ) → okBook c ≡ true → (t : ℕ) (ss : List Slot) → readBook c ≡ collecting t ss
-    → (statusLine c ≡ pagesLine t (take t ss)) × (length (take t ss) ≡ t) × (t ≤ 96)
-unfolding bookLine
-status-pages c e t ss f =
-    let v : ValidPages t ss = subst Valid f (decoded-valid c e) in
-    (status-said c e ∙ ap bookLine f, length-take-le t ss (omega (arith, v .most, v .slots)), v .most)
-
--- ---- no line is longer than 64 bytes
+use Rattle.status.proofs.Numbers.{length-decimal}
 
 name-most : (name : List ℕ) (n m : ℕ) → length name ≡ m → length (field name n) ≤ m + 3
 unfolding field

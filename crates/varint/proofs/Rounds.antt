@@ -62,14 +62,6 @@ reads-at s rest at n l e = ap (varintFrom at) e ∙ from-back n at rest l
 pub reads-back : (before rest : List ℕ) (at n : ℕ) → n < 2 ^ 64 → at ≡ length before → varintAt (before ++ (varint n ++ rest)) at ≡ got n (at + length (varint n))
 reads-back before rest at n l e = reads-at (before ++ (varint n ++ rest)) rest at n l (drop-at before (varint n ++ rest) at (sym e))
 
--- a list starts with one number at most, and so with one rest
-pub varint-splits : (m n : ℕ) (xs ys : List ℕ) → m < 2 ^ 64 → n < 2 ^ 64 → varint m ++ xs ≡ varint n ++ ys → (m ≡ n) × (xs ≡ ys)
-varint-splits m n xs ys l k e =
-    let f : got m (0 + length (varint m)) ≡ got n (0 + length (varint n)) = sym (from-back m 0 xs l) ∙ ap (varintFrom 0) e ∙ from-back n 0 ys k in
-    let q : m ≡ n = cc in
-    let w : length (varint n) ≡ length (varint m) = ap (λ (x : ℕ). length (varint x)) (sym q) in
-    (q, sym (drop-at (varint m) xs (length (varint m)) refl) ∙ ap (drop (length (varint m))) e ∙ drop-at (varint n) ys (length (varint m)) w)
-
 -- ---- what is read was written
 
 -- a list that stands at position i starts with the bytes `form`, which end before position next
@@ -157,7 +149,3 @@ read-stands s at v next y h =
     let f = t .0 in
     let k : length s - at ≡ length (varint v) + length (f .rest) = sym (length-drop at s) ∙ ap length (f .front) ∙ length-append (varint v) (f .rest) in
     (stands-as refl (sym (f .ends)) (stands-at s at (varint v) (f .rest) (omega (arith, varint-length v)) (f .front)), t .1)
-
--- and what stands there in that form is read
-pub stands-read : (s : List ℕ) (at v next : ℕ) → Stands s at (varint v) next → v < 2 ^ 64 → varintAt s at ≡ got v next
-stands-read s at v next h l = reads-at s (drop next s) at v l (h .split) ∙ ap (got v) (sym (h .ends))

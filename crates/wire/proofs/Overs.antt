@@ -111,16 +111,6 @@ over-all bs l e =
     let f : 0 + length bs ≤ length l = omega arith in
     over-fits 0 bs l f ∙ ap (λ (r : List ℕ). bs ++ r) (drop-of-length-le l {i = 0 + length bs} (omega arith)) ∙ append-nil bs
 
--- a second write over the same place
-pub over-over : (at : ℕ) (xs bs l : List ℕ) → length xs ≡ length bs → at + length bs ≤ length l → over at bs (over at xs l) ≡ over at bs l
-over-over at xs bs l e h =
-    let f : at + length xs ≤ length l = omega arith in
-    let w : at + length bs ≤ length (over at xs l) = rw (length-over at xs l) h in
-    over-fits at bs (over at xs l) w
-    ∙ ap (λ (r : List ℕ). r ++ bs ++ drop (at + length bs) (over at xs l)) (take-over at xs l f)
-    ∙ ap (λ (r : List ℕ). take at l ++ bs ++ r) (ap (λ (k : ℕ). drop (at + k) (over at xs l)) (sym e) ∙ drop-over at xs l f ∙ ap (λ (k : ℕ). drop (at + k) l) e)
-    ∙ sym (over-fits at bs l h)
-
 -- a write of what stands there already
 pub over-same : (at : ℕ) (bs l : List ℕ) → at + length bs ≤ length l → take (length bs) (drop at l) ≡ bs → over at bs l ≡ l
 over-same at bs l h e =

@@ -7,8 +7,6 @@ use native.Mathlib.Numerals.{add-one}
 use native.Mathlib.Omega.{arith}
 use lib.ListN.{length, take, drop, getD, length-append, length-drop, take-append-drop}
 use lib.Seq.{take-at, drop-at, drop-drop, drop-cons, drop-length, length-take-le, drop-append-seam, take-append-seam, getD-drop}
-use Rattle.wire.specs.Over.{over}
-use Rattle.wire.proofs.Overs.{over-fits, length-over}
 
 -- from position at to before position next
 pub record Stands (s : List ℕ) (at : ℕ) (form : List ℕ) (next : ℕ) : Type 0 where
@@ -30,13 +28,6 @@ stands-whole s = record { ends = omega arith; within = omega arith; split = sym 
 
 pub stands-all : {s form : List ℕ} → Stands s 0 form (length s) → s ≡ form
 stands-all {s} {form} h = h .split ∙ ap (λ (r : List ℕ). form ++ r) (drop-length s) ∙ append-nil form
-
--- what was written into a buffer
-pub stands-over : (at : ℕ) (form l : List ℕ) → at + length form ≤ length l → Stands (over at form l) at form (at + length form)
-stands-over at form l h =
-    stands-at (over at form l) at form (drop (at + length form) l) (rw (length-over at form l) (omega arith))
-    (ap (drop at) (over-fits at form l h ∙ append-assoc (take at l) form (drop (at + length form) l))
-    ∙ drop-at (take at l) (form ++ drop (at + length form) l) at (length-take-le at l (omega arith)))
 
 module _ {s : List ℕ} where
   -- one form after the other
