@@ -3,3 +3,4 @@ pub mod Lengths
 pub mod Verdicts
 pub mod Writers
 pub mod Rounds
+pub mod Placeless

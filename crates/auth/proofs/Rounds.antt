@@ -6,13 +6,14 @@ use native.Mathlib.Omega.{arith}
 use borrow.Author.Tests.{eq-eqb, eqb-true}
 use lib.Dec.{eqb}
 use lib.ListN.{length, take, drop}
-use Rattle.wire.specs.Answer.{got}
+use Rattle.wire.specs.Answer.{done, got}
 use Rattle.wire.specs.Number.{Bytes}
-use Rattle.wire.specs.Writing.{bytes}
-use Rattle.wire.proofs.Cases.{passed, then-passed}
+use Rattle.wire.proofs.Cases.{passed, then-passed, got-next, got-value}
 use Rattle.wire.proofs.Standing.{Stands, stands-whole, stands-all, stands-first, stands-second, stands-join, stands-as}
+use Rattle.wire.specs.declared.Span.{Span}
+use Rattle.wire.specs.Span.{partAt}
 use Rattle.cbor.specs.Form.{stringFieldOf, numberFieldOf}
-use Rattle.cbor.specs.Item.{Place, partAt, oneAt, stringFieldAt, numberFieldAt}
+use Rattle.cbor.specs.Item.{oneAt, stringFieldAt, numberFieldAt}
 use Rattle.cbor.specs.Names.{pubKey, sigKey, hashKey, versionKey}
 use Rattle.cbor.proofs.Within.{string-field-within, number-field-within}
 use Rattle.cbor.proofs.Written.{kind-bytes, one-back, string-field-back, number-field-back}
@@ -30,7 +31,7 @@ pub record Claimed (s public sig hash : List ℕ) (v : Claim) : Type 0 where
 
 -- a field of k bytes
 field-back : {s : List ℕ} {at next : ℕ} (k : ℕ) (name bs : List ℕ) → k < 256 → length name < 24 → length bs ≡ k → Stands s at (stringFieldOf name 2 bs) next
-    → (v : Place) × (stringFieldAt s at name 2 k k 19 ≡ got v next) × (take k (drop (v .start) s) ≡ bs)
+    → (v : Span) × (stringFieldAt s at name 2 k k 19 ≡ got v next) × (take k (drop (v .start) s) ≡ bs)
 field-back {s} k name bs b c e h =
     let r = string-field-back 2 k k 19 kind-bytes bs (omega arith) (omega arith) (omega arith) name c h in
     let f = r .2 in
@@ -81,7 +82,7 @@ auth-back public sig hash p g h = go (authOf public sig hash) (stands-whole (aut
         )
 
 -- whatever the writer accepts
-pub auth-written-back : (public sig hash : List ℕ) {bs : List ℕ} → authVerdict public sig hash ≡ bytes bs
+pub auth-written-back : (public sig hash : List ℕ) {bs : List ℕ} → authVerdict public sig hash ≡ done bs
     → (v : Claim) × (authAt bs ≡ got v (length bs)) × Claimed bs public sig hash v
 auth-written-back public sig hash h =
     let a = auth-accepts public sig hash h in
@@ -90,7 +91,7 @@ auth-written-back public sig hash h =
 -- ---- what is read was written
 
 -- a field of k bytes
-field-only : {s : List ℕ} {at next : ℕ} (k : ℕ) (name : List ℕ) {v : Place} → Bytes s → stringFieldAt s at name 2 k k 19 ≡ got v next
+field-only : {s : List ℕ} {at next : ℕ} (k : ℕ) (name : List ℕ) {v : Span} → Bytes s → stringFieldAt s at name 2 k k 19 ≡ got v next
     → Stands s at (stringFieldOf name 2 (take k (drop (v .start) s))) next × (length (take k (drop (v .start) s)) ≡ k)
 field-only {s} {at} {next} k name {v} y e =
     let r = string-field-only name 2 k k 19 y e in
@@ -130,8 +131,8 @@ claim-only {s} {at} {next} {v} y e =
     let t₁ = then-passed (stringFieldAt s at pubKey 2 32 32 19) _ e in
     let t₂ = then-passed (stringFieldAt s (t₁ .1) sigKey 2 64 64 19) _ (t₁ .3) in
     let t₃ = then-passed (stringFieldAt s (t₂ .1) hashKey 2 32 32 19) _ (t₂ .3) in
-    let f : _≡_ {A = Claim} (record { public = t₁ .0 .start; sig = t₂ .0 .start; hash = t₃ .0 .start }) v = cc (t₃ .3) in
-    let n : t₃ .1 ≡ next = cc (t₃ .3) in
+    let f : _≡_ {A = Claim} (record { public = t₁ .0 .start; sig = t₂ .0 .start; hash = t₃ .0 .start }) v = got-value (t₃ .3) in
+    let n : t₃ .1 ≡ next = got-next (t₃ .3) in
     let r₁ = field-only 32 pubKey y (t₁ .2) in
     let r₂ = field-only 64 sigKey y (t₂ .2) in
     let r₃ = field-only 32 hashKey y (t₃ .2) in
@@ -148,8 +149,8 @@ auth-only {s} {v} {next} y e =
     let t₂ = then-passed (claimAt s (t₁ .1)) _ (t₁ .3) in
     let t₃ = then-passed (numberFieldAt s (t₂ .1) versionKey 1 1) _ (t₂ .3) in
     let u = passed (eqb (t₃ .1) (length s)) (got (t₂ .0) (t₃ .1)) 3 (t₃ .3) in
-    let f : t₂ .0 ≡ v = cc (u .1) in
-    let n : t₃ .1 ≡ next = cc (u .1) in
+    let f : t₂ .0 ≡ v = got-value (u .1) in
+    let n : t₃ .1 ≡ next = got-next (u .1) in
     let l : t₃ .1 ≡ length s = eqb-true (t₃ .1) (length s) (u .0) in
     let c = claim-only y (t₂ .2) in
     let r = c .0 in
@@ -163,11 +164,11 @@ auth-only {s} {v} {next} y e =
     )
 
 -- the writer gives the same bytes again
-pub auth-again : {s : List ℕ} {v : Claim} {next : ℕ} → Bytes s → authAt s ≡ got v next → authVerdict (publicIn s v) (sigIn s v) (hashIn s v) ≡ bytes s
+pub auth-again : {s : List ℕ} {v : Claim} {next : ℕ} → Bytes s → authAt s ≡ got v next → authVerdict (publicIn s v) (sigIn s v) (hashIn s v) ≡ done s
 auth-again {s} {v} y e =
     let r = auth-only y e in
     let l = r .2 in
-    auth-accepted (publicIn s v) (sigIn s v) (hashIn s v) (l .public-long) (l .sig-long) (l .hash-long) ∙ ap bytes (sym (r .0))
+    auth-accepted (publicIn s v) (sigIn s v) (hashIn s v) (l .public-long) (l .sig-long) (l .hash-long) ∙ ap done (sym (r .0))
 
 -- For the reader: two inputs of bytes with one claim are one
 pub auth-once : {s t : List ℕ} {v w : Claim} {i j : ℕ} → Bytes s → Bytes t → authAt s ≡ got v i → authAt t ≡ got w j

@@ -1,5 +1,5 @@
 -- What `claim` and `read` answer, as document 01's number and values.
-use Rattle.wire.specs.Answer.{Got, got, refused}
+use Rattle.wire.specs.Answer.{refused, Got, got}
 use Rattle.auth.specs.Auth.{Claim}
 use Rattle.auth.specs.declared.ClaimRead.{ClaimRead}
 use Rattle.auth.specs.declared.ClaimRead.the-variants.{Value, Refused}

@@ -3,10 +3,9 @@ use Prim.Native.Nat.{ℕ}
 use mathlib.Core.List.{List, [], _∷_, _++_}
 use lib.Dec.{eqb}
 use lib.ListN.{length}
-use Rattle.wire.specs.Answer.{choose, Got, got, then}
-use Rattle.wire.specs.Writing.{Verdict, bytes, fault}
+use Rattle.wire.specs.Answer.{Answer, done, then, demand, Got, got}
 use Rattle.cbor.specs.Form.{stringFieldOf, numberFieldOf}
-use Rattle.cbor.specs.Item.{demand, oneAt, stringFieldAt, numberFieldAt}
+use Rattle.cbor.specs.Item.{oneAt, stringFieldAt, numberFieldAt}
 use Rattle.cbor.specs.Names.{pubKey, sigKey, hashKey, versionKey}
 
 -- who signed what: where pub, sig and hash start. They are 32, 64 and 32 bytes
@@ -18,17 +17,17 @@ pub record Claim : Type 0 where
 -- `pub`, `sig`, `hash`: a shard has them too
 unfoldable pub claimAt : List ℕ → ℕ → Got Claim
 claimAt s at =
-    then (stringFieldAt s at pubKey 2 32 32 19) (λ public a.
-    then (stringFieldAt s a sigKey 2 64 64 19) (λ sig b.
-    then (stringFieldAt s b hashKey 2 32 32 19) (λ hash next.
+    then (stringFieldAt s at pubKey 2 32 32 19) (λ (public, a).
+    then (stringFieldAt s a sigKey 2 64 64 19) (λ (sig, b).
+    then (stringFieldAt s b hashKey 2 32 32 19) (λ (hash, next).
     got (record { public = public .start; sig = sig .start; hash = hash .start }) next)))
 
 -- head A4: the three and `version`, which is 1, and nothing after
 unfoldable pub authAt : List ℕ → Got Claim
 authAt s =
-    then (oneAt s 0 0xA4) (λ _ a.
-    then (claimAt s a) (λ claim b.
-    then (numberFieldAt s b versionKey 1 1) (λ _ next.
+    then (oneAt s 0 0xA4) (λ (_, a).
+    then (claimAt s a) (λ (claim, b).
+    then (numberFieldAt s b versionKey 1 1) (λ (_, next).
     demand (eqb next (length s)) 3 (got claim next))))
 
 -- the same, written
@@ -38,9 +37,12 @@ authOf public sig hash =
     ++ (stringFieldOf pubKey 2 public ++ (stringFieldOf sigKey 2 sig ++ (stringFieldOf hashKey 2 hash ++ numberFieldOf versionKey 1)))
 
 -- a value of another length is 19, in the order of the keys. There is no 9: the payload has 157 bytes (`auth-length`: proofs/Lengths; 02, Ticket 11)
-unfoldable pub authVerdict : List ℕ → List ℕ → List ℕ → Verdict
+unfoldable pub authVerdict : List ℕ → List ℕ → List ℕ → Answer (List ℕ)
 authVerdict public sig hash =
-    choose (eqb (length public) 32) (choose (eqb (length sig) 64) (choose (eqb (length hash) 32) (bytes (authOf public sig hash)) (fault 19)) (fault 19)) (fault 19)
+    demand (eqb (length public) 32) 19
+    (demand (eqb (length sig) 64) 19
+    (demand (eqb (length hash) 32) 19
+    (done (authOf public sig hash))))
 
 -- `ETHERNITY-AUTH-V1`
 abbrev pub authDomain : List ℕ
@@ -52,6 +54,8 @@ signedOf public hash =
     authDomain ++ ((0xA3 ∷ []) ++ (stringFieldOf pubKey 2 public ++ (stringFieldOf hashKey 2 hash ++ numberFieldOf versionKey 1)))
 
 -- the values are judged as by the writer, sig apart
-unfoldable pub signedVerdict : List ℕ → List ℕ → Verdict
+unfoldable pub signedVerdict : List ℕ → List ℕ → Answer (List ℕ)
 signedVerdict public hash =
-    choose (eqb (length public) 32) (choose (eqb (length hash) 32) (bytes (signedOf public hash)) (fault 19)) (fault 19)
+    demand (eqb (length public) 32) 19
+    (demand (eqb (length hash) 32) 19
+    (done (signedOf public hash)))

@@ -4,9 +4,11 @@ use mathlib.Core.Path.{_≡_, refl, sym, ap, _∙_}
 use mathlib.Core.Bool.{true, false}
 use borrow.Author.Tests.{eq-eqb, ne-eqb}
 use lib.Dec.{eqb}
-use Rattle.wire.specs.Answer.{Got, refused, then, numberOf}
+use Rattle.wire.specs.Answer.{refused, numberOf, then, Got, Answer}
+use Rattle.wire.proofs.Cases.{got-value, got-next}
 use Rattle.wire.proofs.Branch.{branch, go, stop}
-use Rattle.cbor.specs.Item.{Head, Place}
+use Rattle.wire.specs.declared.Span.{Span}
+use Rattle.cbor.specs.Item.{Head}
 use Rattle.cbor.specs.Answer.{stepTold, numberTold, headTold, stringTold}
 use Rattle.cbor.specs.declared.StepRead.{StepRead}
 use Rattle.cbor.specs.declared.StepRead.the-variants as step
@@ -20,62 +22,56 @@ use Rattle.cbor.specs.declared.StringRead.the-variants as string
 -- ---- an enum says no more than 01's answer does
 
 pub step-injective : (r q : StepRead) → stepTold r ≡ stepTold q → r ≡ q
-step-injective (step.Past i) (step.Past j) e = cc
+step-injective (step.Past i) (step.Past j) e = ap step.Past (got-next e)
 step-injective (step.Past i) (step.Refused n) e = cc
 step-injective (step.Refused m) (step.Past j) e = cc
 step-injective (step.Refused m) (step.Refused n) e = cc
 
 pub number-injective : (r q : NumberRead) → numberTold r ≡ numberTold q → r ≡ q
-number-injective (number.Value m i) (number.Value n j) e = cc
+number-injective (number.Value m i) (number.Value n j) e = cc (got-value e, got-next e)
 number-injective (number.Value m i) (number.Refused n) e = cc
 number-injective (number.Refused m) (number.Value n j) e = cc
 number-injective (number.Refused m) (number.Refused n) e = cc
 
 pub head-injective : (r q : HeadRead) → headTold r ≡ headTold q → r ≡ q
 head-injective (head.Value a m i) (head.Value b n j) e =
-    let v : _≡_ {A = Head} (record { major = a; number = m }) (record { major = b; number = n }) = cc in
-    let p : a ≡ b = ap (λ (h : Head). h .major) v in
-    let q : m ≡ n = ap (λ (h : Head). h .number) v in
-    cc
+    cc (ap (λ (h : Head). h .major) (got-value e), ap (λ (h : Head). h .number) (got-value e), got-next e)
 head-injective (head.Value a m i) (head.Refused n) e = cc
 head-injective (head.Refused m) (head.Value b n j) e = cc
 head-injective (head.Refused m) (head.Refused n) e = cc
 
 pub string-injective : (r q : StringRead) → stringTold r ≡ stringTold q → r ≡ q
 string-injective (string.Value a m i) (string.Value b n j) e =
-    let v : _≡_ {A = Place} (record { start = a; len = m }) (record { start = b; len = n }) = cc in
-    let p : a ≡ b = ap (λ (h : Place). h .start) v in
-    let q : m ≡ n = ap (λ (h : Place). h .len) v in
-    cc
+    cc (ap (λ (h : Span). h .start) (got-value e), ap (λ (h : Span). h .len) (got-value e), got-next e)
 string-injective (string.Value a m i) (string.Refused n) e = cc
 string-injective (string.Refused m) (string.Value b n j) e = cc
 string-injective (string.Refused m) (string.Refused n) e = cc
 
 -- ---- for `search`: one item of a chain. g is what a reader's contract says, r what it answered, n the number that the code took from r
 
-module _ {B : Type 0} (g : Got Unit) (f : Unit → ℕ → Got B) where
-  pub go-step : (r : StepRead) (next : ℕ) (y : Got B) → stepTold r ≡ g → r ≡ step.Past next → y ≡ f tt next → y ≡ then g f
+module _ {B : Type 0} (g : Got Unit) (f : Unit × ℕ → Answer B) where
+  pub go-step : (r : StepRead) (next : ℕ) (y : Answer B) → stepTold r ≡ g → r ≡ step.Past next → y ≡ f (tt, next) → y ≡ then g f
   go-step r next y = go stepTold g f r (step.Past next) y
 
   pub no-step : (r : StepRead) (n e : ℕ) → stepTold r ≡ g → r ≡ step.Refused e → n ≡ numberOf (stepTold r) → refused n ≡ then g f
   no-step r n e h k q = stop stepTold g f r (step.Refused e) n e h k refl q
 
-module _ {B : Type 0} (g : Got ℕ) (f : ℕ → ℕ → Got B) where
-  pub go-number : (r : NumberRead) (v next : ℕ) (y : Got B) → numberTold r ≡ g → r ≡ number.Value v next → y ≡ f v next → y ≡ then g f
+module _ {B : Type 0} (g : Got ℕ) (f : ℕ × ℕ → Answer B) where
+  pub go-number : (r : NumberRead) (v next : ℕ) (y : Answer B) → numberTold r ≡ g → r ≡ number.Value v next → y ≡ f (v, next) → y ≡ then g f
   go-number r v next y = go numberTold g f r (number.Value v next) y
 
   pub no-number : (r : NumberRead) (n e : ℕ) → numberTold r ≡ g → r ≡ number.Refused e → n ≡ numberOf (numberTold r) → refused n ≡ then g f
   no-number r n e h k q = stop numberTold g f r (number.Refused e) n e h k refl q
 
-module _ {B : Type 0} (g : Got Head) (f : Head → ℕ → Got B) where
-  pub go-head : (r : HeadRead) (m v next : ℕ) (y : Got B) → headTold r ≡ g → r ≡ head.Value m v next → y ≡ f (record { major = m; number = v }) next → y ≡ then g f
+module _ {B : Type 0} (g : Got Head) (f : Head × ℕ → Answer B) where
+  pub go-head : (r : HeadRead) (m v next : ℕ) (y : Answer B) → headTold r ≡ g → r ≡ head.Value m v next → y ≡ f ((record { major = m; number = v }), next) → y ≡ then g f
   go-head r m v next y = go headTold g f r (head.Value m v next) y
 
   pub no-head : (r : HeadRead) (n e : ℕ) → headTold r ≡ g → r ≡ head.Refused e → n ≡ numberOf (headTold r) → refused n ≡ then g f
   no-head r n e h k q = stop headTold g f r (head.Refused e) n e h k refl q
 
-module _ {B : Type 0} (g : Got Place) (f : Place → ℕ → Got B) where
-  pub go-string : (r : StringRead) (a v next : ℕ) (y : Got B) → stringTold r ≡ g → r ≡ string.Value a v next → y ≡ f (record { start = a; len = v }) next → y ≡ then g f
+module _ {B : Type 0} (g : Got Span) (f : Span × ℕ → Answer B) where
+  pub go-string : (r : StringRead) (a v next : ℕ) (y : Answer B) → stringTold r ≡ g → r ≡ string.Value a v next → y ≡ f ((record { start = a; len = v }), next) → y ≡ then g f
   go-string r a v next y = go stringTold g f r (string.Value a v next) y
 
   pub no-string : (r : StringRead) (n e : ℕ) → stringTold r ≡ g → r ≡ string.Refused e → n ≡ numberOf (stringTold r) → refused n ≡ then g f

@@ -1,7 +1,7 @@
 -- Worked examples: RFC 8949, appendix A, and the order of refusals of document 01, "CBOR payloads". Each is computed. Assumes nothing.
 use mathlib.Core.Path.{_≡_, refl}
 use mathlib.Core.List.{[], _∷_}
-use Rattle.wire.specs.Answer.{got, refused}
+use Rattle.wire.specs.Answer.{refused, got}
 use Rattle.wire.specs.Number.{digits, numberFrom}
 use Rattle.lend.specs.Same.{same}
 use Rattle.cbor.specs.Form.{infoOf, widthOf, headOf, stringOf, doubleOf}

@@ -8,3 +8,4 @@ pub mod Writers
 pub mod Written
 pub mod Only
 pub mod Examples
+pub mod Placeless

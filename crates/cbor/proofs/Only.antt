@@ -12,13 +12,15 @@ use lib.ListN.{length, take, drop, getD, length-drop, List·getD-eq-default}
 use lib.Seq.{length-take-le, getD-take, getD-drop}
 use Rattle.wire.specs.Answer.{Got, got}
 use Rattle.wire.specs.Number.{Bytes, bigEndian, digits, number}
-use Rattle.wire.proofs.Cases.{lt-or-le, passed, then-passed}
+use Rattle.wire.proofs.Cases.{lt-or-le, passed, then-passed, got-next, got-value}
 use Rattle.wire.proofs.Digits.{digits-number, number-lt}
 use Rattle.wire.proofs.Standing.{Stands, stands-none, stands-as, stands-join, stands-part, byte-stands}
+use Rattle.wire.specs.declared.Span.{Span}
+use Rattle.wire.specs.Span.{partAt}
 use Rattle.lend.specs.Same.{same}
 use Rattle.lend.proofs.Sames.{same-eq}
 use Rattle.cbor.specs.Form.{infoOf, widthOf, headOf, stringOf, doubleOf, stringFieldOf, numberFieldOf}
-use Rattle.cbor.specs.Item.{byteAt, oneAt, bigEndianAt, argumentAt, kindOf, Head, headAt, numberAt, Place, partAt, contentsAt, stringAt, nameAt, keyAt, doubleAt, stringFieldAt, numberFieldAt}
+use Rattle.cbor.specs.Item.{byteAt, oneAt, bigEndianAt, argumentAt, kindOf, Head, headAt, numberAt, contentsAt, stringAt, nameAt, keyAt, doubleAt, stringFieldAt, numberFieldAt}
 use Rattle.cbor.proofs.Sizes.{either, width-none, width-most, head-low}
 use Rattle.cbor.proofs.Within.{contents-within}
 
@@ -33,8 +35,8 @@ module _ {s : List ℕ} where
   pub byte-only : {at next x : ℕ} → byteAt s at ≡ got x next → Stands s at (x ∷ []) next
   byte-only {at} {next} {x} h =
       let t = passed (ltb at (length s)) (got (getD s at 0) (at + 1)) 3 h in
-      let e : getD s at 0 ≡ x = cc (t .1) in
-      let n : at + 1 ≡ next = cc (t .1) in
+      let e : getD s at 0 ≡ x = got-value (t .1) in
+      let n : at + 1 ≡ next = got-next (t .1) in
       rw (← e, ← n) (byte-stands at (ltb-true at (length s) (t .0)))
 
   pub one-only : {at next : ℕ} (x : ℕ) {v : Unit} → oneAt s at x ≡ got v next → Stands s at (x ∷ []) next
@@ -42,7 +44,7 @@ module _ {s : List ℕ} where
   one-only {at} {next} x h =
       let t = then-passed (byteAt s at) _ h in
       let u = passed (eqb (t .0) x) (got tt (t .1)) 18 (t .3) in
-      let n : t .1 ≡ next = cc (u .1) in
+      let n : t .1 ≡ next = got-next (u .1) in
       stands-as (ap (λ (b : ℕ). b ∷ []) (eqb-true (t .0) x (u .0))) n (byte-only (t .2))
 
   pub big-endian-only : {at next : ℕ} (k : ℕ) {n : ℕ} → Bytes s → bigEndianAt s at k ≡ got n next → Stands s at (bigEndian k n) next × (n < 256 ^ k)
@@ -50,20 +52,20 @@ module _ {s : List ℕ} where
   big-endian-only {at} {next} k {n} y h =
       let t = passed (leb (at + k) (length s)) (got (number 256 (take k (drop at s))) (at + k)) 3 h in
       let l = leb-true (at + k) (length s) (t .0) in
-      let e : number 256 (take k (drop at s)) ≡ n = cc (t .1) in
-      let p : at + k ≡ next = cc (t .1) in
+      let e : number 256 (take k (drop at s)) ≡ n = got-value (t .1) in
+      let p : at + k ≡ next = got-next (t .1) in
       let c : length (take k (drop at s)) ≡ k = length-take-le k (drop at s) (omega (arith, length-drop at s)) in
       let b : Bytes (take k (drop at s)) = part-bytes s at k c y in
       let d : take k (drop at s) ≡ bigEndian k n = sym (digits-number 256 (take k (drop at s)) k c b) ∙ ap (bigEndian k) e in
       (stands-as d p (stands-part at k l), subst (λ (v : ℕ). v < 256 ^ k) e (number-lt 256 (take k (drop at s)) k c b))
 
-  pub contents-only : {at next : ℕ} (len : ℕ) {v : Place} → contentsAt s at len ≡ got v next → Stands s at (partAt s v) next × (length (partAt s v) ≡ v .len)
+  pub contents-only : {at next : ℕ} (len : ℕ) {v : Span} → contentsAt s at len ≡ got v next → Stands s at (partAt s v) next × (length (partAt s v) ≡ v .len)
   unfolding contentsAt
   contents-only {at} {next} len {v} h =
       let t = passed (leb (at + len) (length s)) (got (record { start = at; len = len }) (at + len)) 3 h in
       let l = leb-true (at + len) (length s) (t .0) in
-      let e : _≡_ {A = Place} (record { start = at; len = len }) v = cc (t .1) in
-      let n : at + len ≡ next = cc (t .1) in
+      let e : _≡_ {A = Span} (record { start = at; len = len }) v = got-value (t .1) in
+      let n : at + len ≡ next = got-next (t .1) in
       rw (← e, ← n) (stands-part at len l, length-take-le len (drop at s) (omega (arith, length-drop at s)))
 
   pub name-only : {at next : ℕ} (name : List ℕ) {v : Unit} → nameAt s at name ≡ got v next → Stands s at name next
@@ -71,7 +73,7 @@ module _ {s : List ℕ} where
   name-only {at} {next} name h =
       let t = passed (leb (at + length name) (length s)) _ 3 h in
       let u = passed (same name (take (length name) (drop at s))) (got tt (at + length name)) 18 (t .1) in
-      let n : at + length name ≡ next = cc (u .1) in
+      let n : at + length name ≡ next = got-next (u .1) in
       stands-as (sym (same-eq name (take (length name) (drop at s)) (u .0))) n (stands-part at (length name) (leb-true (at + length name) (length s) (t .0)))
 
   -- the number of a head, after its first byte
@@ -83,9 +85,7 @@ module _ {s : List ℕ} where
       low : ltb info 24 ≡ true → got info at ≡ got n next → Stands s at (bigEndian (widthOf info) n) next × (n < 2 ^ 64)
       low t e =
           let l = ltb-true info 24 t in
-          let v : info ≡ n = cc in
-          let p : at ≡ next = cc in
-          (stands-as (ap (λ (k : ℕ). bigEndian k n) (sym (width-none info l))) p (stands-none at m), omega arith)
+          (stands-as (ap (λ (k : ℕ). bigEndian k n) (sym (width-none info l))) (got-next e) (stands-none at m), omega (arith, got-value e))
 
       high : ltb info 24 ≡ false → bigEndianAt s at (widthOf info) ≡ got n next → Stands s at (bigEndian (widthOf info) n) next × (n < 2 ^ 64)
       high t e =
@@ -105,8 +105,8 @@ module _ {s : List ℕ} where
       let a : Stands s (t .1) (bigEndian (widthOf (t .0 % 32)) (w .0)) (w .1) × (w .0 < 2 ^ 64) = argument-only (t .0 % 32) (b .within) y (w .2) in
       let z = passed (eqb (infoOf (w .0)) (t .0 % 32)) (got (record { major = t .0 / 32; number = w .0 }) (w .1)) 18 (w .3) in
       let i : infoOf (w .0) ≡ t .0 % 32 = eqb-true (infoOf (w .0)) (t .0 % 32) (z .0) in
-      let f : _≡_ {A = Head} (record { major = t .0 / 32; number = w .0 }) h = cc (z .1) in
-      let n : w .1 ≡ next = cc (z .1) in
+      let f : _≡_ {A = Head} (record { major = t .0 / 32; number = w .0 }) h = got-value (z .1) in
+      let n : w .1 ≡ next = got-next (z .1) in
       let first : t .0 ≡ t .0 / 32 * 32 + infoOf (w .0) = omega arith in
       subst (λ (h : Head). Stands s at (headOf (h .major) (h .number)) next × (kindOf (h .major) ≡ kind) × (h .number < 2 ^ 64)) f
       (stands-as (ap₂ (λ (b i : ℕ). b ∷ bigEndian (widthOf i) (w .0)) first (sym i)) n (stands-join b (a .0)), eqb-true (kindOf (t .0 / 32)) kind (u .0), a .1)
@@ -120,8 +120,8 @@ module _ {s : List ℕ} where
       let u = passed (eqb (t .0 .major) kind) _ fault (t .3) in
       let v = passed (leb least (t .0 .number)) _ fault (u .1) in
       let w = passed (leb (t .0 .number) most) (got (t .0 .number) (t .1)) fault (v .1) in
-      let f : t .0 .number ≡ n = cc (w .1) in
-      let p : t .1 ≡ next = cc (w .1) in
+      let f : t .0 .number ≡ n = got-value (w .1) in
+      let p : t .1 ≡ next = got-next (w .1) in
       (stands-as (ap₂ headOf (eqb-true (t .0 .major) kind (u .0)) f) p (h .0), omega (arith, h .2))
 
   pub double-only : {at next bits : ℕ} → Bytes s → doubleAt s at ≡ got bits next → Stands s at (doubleOf bits) next × (bits < 2 ^ 64)
@@ -140,7 +140,7 @@ module _ {s : List ℕ} where
       (stands-as (ap (λ (h : List ℕ). h ++ name) (sym (head-low 3 (length name) l))) refl (stands-join (one-only (96 + length name) (u .2)) (name-only name (u .3))), l)
 
 module _ {s : List ℕ} where
-  pub string-only : {at next : ℕ} (kind least most fault : ℕ) {v : Place} → Bytes s → stringAt s at kind least most fault ≡ got v next
+  pub string-only : {at next : ℕ} (kind least most fault : ℕ) {v : Span} → Bytes s → stringAt s at kind least most fault ≡ got v next
       → Stands s at (stringOf kind (partAt s v)) next × (length (partAt s v) ≡ v .len)
   unfolding stringAt stringOf
   string-only {at} kind least most fault {v} y e =
@@ -151,7 +151,7 @@ module _ {s : List ℕ} where
       (stands-join (stands-as (ap (headOf kind) l) refl (n .0)) (c .0), c .1)
 
 module _ {s : List ℕ} (name : List ℕ) where
-  pub string-field-only : {at next : ℕ} (kind least most fault : ℕ) {v : Place} → Bytes s → stringFieldAt s at name kind least most fault ≡ got v next
+  pub string-field-only : {at next : ℕ} (kind least most fault : ℕ) {v : Span} → Bytes s → stringFieldAt s at name kind least most fault ≡ got v next
       → Stands s at (stringFieldOf name kind (partAt s v)) next × (length (partAt s v) ≡ v .len)
   unfolding stringFieldAt stringFieldOf
   string-field-only {at} kind least most fault y e =

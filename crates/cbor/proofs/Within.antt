@@ -7,11 +7,12 @@ use native.Mathlib.Omega.{arith}
 use borrow.Author.Tests.{le-leb, lt-leb, leb-true}
 use lib.Dec.{leb, eqb}
 use lib.ListN.{length, take, drop}
-use Rattle.wire.specs.Answer.{got, refused}
+use Rattle.wire.specs.Answer.{refused, got}
 use Rattle.wire.specs.Number.{number}
-use Rattle.wire.proofs.Cases.{passed, then-passed}
+use Rattle.wire.proofs.Cases.{passed, then-passed, got-next, got-value}
+use Rattle.wire.specs.declared.Span.{Span}
 use Rattle.lend.specs.Same.{same}
-use Rattle.cbor.specs.Item.{bigEndianAt, nameAt, keyAt, headAt, numberAt, contentsAt, Place, stringAt, stringFieldAt, numberFieldAt}
+use Rattle.cbor.specs.Item.{bigEndianAt, nameAt, keyAt, headAt, numberAt, contentsAt, stringAt, stringFieldAt, numberFieldAt}
 
 module _ (s : List ℕ) (at k : ℕ) where
   pub number-there : at + k ≤ length s → (n : ℕ) → n ≡ number 256 (take k (drop at s)) → got n (at + k) ≡ bigEndianAt s at k
@@ -51,12 +52,12 @@ module _ (s : List ℕ) (at : ℕ) (name : List ℕ) where
 -- ---- for callers: what an answer says of its values
 
 -- contents that were read lie within the input
-pub contents-within : (s : List ℕ) (at len : ℕ) {v : Place} {next : ℕ} → contentsAt s at len ≡ got v next → (v .len ≡ len) × (v .start + v .len ≡ next) × (next ≤ length s)
+pub contents-within : (s : List ℕ) (at len : ℕ) {v : Span} {next : ℕ} → contentsAt s at len ≡ got v next → (v .len ≡ len) × (v .start + v .len ≡ next) × (next ≤ length s)
 unfolding contentsAt
 contents-within s at len {v} {next} h =
     let t = passed (leb (at + len) (length s)) (got (record { start = at; len = len }) (at + len)) 3 h in
-    let e : _≡_ {A = Place} (record { start = at; len = len }) v = cc (t .1) in
-    let n : at + len ≡ next = cc (t .1) in
+    let e : _≡_ {A = Span} (record { start = at; len = len }) v = got-value (t .1) in
+    let n : at + len ≡ next = got-next (t .1) in
     let l = leb-true (at + len) (length s) (t .0) in
     rw (← e) (refl, n, omega arith)
 
@@ -68,16 +69,16 @@ number-within s at kind least most fault {n} h =
     let u = passed (eqb (t .0 .major) kind) _ fault (t .3) in
     let v = passed (leb least (t .0 .number)) _ fault (u .1) in
     let w = passed (leb (t .0 .number) most) (got (t .0 .number) (t .1)) fault (v .1) in
-    let f : t .0 .number ≡ n = cc (w .1) in
+    let f : t .0 .number ≡ n = got-value (w .1) in
     let a = leb-true least (t .0 .number) (v .0) in
     let b = leb-true (t .0 .number) most (w .0) in
     (omega arith, omega arith)
 
 -- a string lies within the input, and its length is in the range that was asked for
-abbrev pub Inside : List ℕ → ℕ → ℕ → Place → ℕ → Type 0
+abbrev pub Inside : List ℕ → ℕ → ℕ → Span → ℕ → Type 0
 Inside s least most v next = (v .start + v .len ≡ next) × (next ≤ length s) × (least ≤ v .len) × (v .len ≤ most)
 
-pub string-within : (s : List ℕ) (at kind least most fault : ℕ) {v : Place} {next : ℕ} → stringAt s at kind least most fault ≡ got v next → Inside s least most v next
+pub string-within : (s : List ℕ) (at kind least most fault : ℕ) {v : Span} {next : ℕ} → stringAt s at kind least most fault ≡ got v next → Inside s least most v next
 unfolding stringAt
 string-within s at kind least most fault h =
     let t = then-passed (numberAt s at kind least most fault) _ h in
@@ -86,7 +87,7 @@ string-within s at kind least most fault h =
     (c .1, c .2, omega (arith, c .0, n .0), omega (arith, c .0, n .1))
 
 module _ (s : List ℕ) (at : ℕ) (name : List ℕ) where
-  pub string-field-within : (kind least most fault : ℕ) {v : Place} {next : ℕ} → stringFieldAt s at name kind least most fault ≡ got v next → Inside s least most v next
+  pub string-field-within : (kind least most fault : ℕ) {v : Span} {next : ℕ} → stringFieldAt s at name kind least most fault ≡ got v next → Inside s least most v next
   unfolding stringFieldAt
   string-field-within kind least most fault h =
       let t = then-passed (keyAt s at name) _ h in

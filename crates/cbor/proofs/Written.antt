@@ -12,9 +12,11 @@ use Rattle.wire.specs.Number.{bigEndian, number}
 use Rattle.wire.proofs.Cases.{lt-or-le}
 use Rattle.wire.proofs.Digits.{length-digits, number-digits}
 use Rattle.wire.proofs.Standing.{Stands, stands-first, stands-second, stands-bytes, stands-byte}
+use Rattle.wire.specs.declared.Span.{Span}
+use Rattle.wire.specs.Span.{partAt}
 use Rattle.lend.proofs.Sames.{same-refl}
 use Rattle.cbor.specs.Form.{infoOf, widthOf, headOf, stringOf, doubleOf, stringFieldOf, numberFieldOf}
-use Rattle.cbor.specs.Item.{byteAt, oneAt, bigEndianAt, argumentAt, kindOf, headAt, numberAt, Place, partAt, contentsAt, stringAt, nameAt, keyAt, doubleAt, stringFieldAt, numberFieldAt}
+use Rattle.cbor.specs.Item.{byteAt, oneAt, bigEndianAt, argumentAt, kindOf, headAt, numberAt, contentsAt, stringAt, nameAt, keyAt, doubleAt, stringFieldAt, numberFieldAt}
 use Rattle.cbor.proofs.Sizes.{info-most, info-low, info-high, width-none, width-holds, head-low}
 
 module _ {s : List ℕ} {at next : ℕ} where
@@ -83,7 +85,7 @@ module _ {s : List ℕ} {at next : ℕ} where
       (name-back name (stands-second ((96 + length name) ∷ []) name g))
 
 -- a string, and the place of its contents
-pub record Found (s bs : List ℕ) (v : Place) : Type 0 where
+pub record Found (s bs : List ℕ) (v : Span) : Type 0 where
   pub long : v .len ≡ length bs
   pub part : partAt s v ≡ bs
 
@@ -113,7 +115,7 @@ module _ (kind least most fault : ℕ) (k : kindOf kind ≡ kind) where
       rw e (rw (eq-eqb kind kind refl, le-leb least n a, le-leb n most b))
 
   module _ (bs : List ℕ) (l : length bs < 2 ^ 64) (a : least ≤ length bs) (b : length bs ≤ most) where
-    pub string-back : {s : List ℕ} {at next : ℕ} → Stands s at (stringOf kind bs) next → (v : Place) × (stringAt s at kind least most fault ≡ got v next) × Found s bs v
+    pub string-back : {s : List ℕ} {at next : ℕ} → Stands s at (stringOf kind bs) next → (v : Span) × (stringAt s at kind least most fault ≡ got v next) × Found s bs v
     unfolding stringAt stringOf
     string-back {at = at} h =
         let h₁ = stands-first (headOf kind (length bs)) bs h in
@@ -124,7 +126,7 @@ module _ (kind least most fault : ℕ) (k : kindOf kind ≡ kind) where
         )
 
     pub string-field-back : {s : List ℕ} {at next : ℕ} (name : List ℕ) → length name < 24 → Stands s at (stringFieldOf name kind bs) next
-        → (v : Place) × (stringFieldAt s at name kind least most fault ≡ got v next) × Found s bs v
+        → (v : Span) × (stringFieldAt s at name kind least most fault ≡ got v next) × Found s bs v
     unfolding stringFieldAt stringFieldOf
     string-field-back name c h =
         let r = string-back (stands-second (stringOf 3 name) (stringOf kind bs) h) in

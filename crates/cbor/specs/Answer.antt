@@ -1,7 +1,8 @@
 -- What each reader answers, as document 01's number and values.
 use Prim.Native.Nat.{ℕ}
-use Rattle.wire.specs.Answer.{Got, got, refused}
-use Rattle.cbor.specs.Item.{Head, Place}
+use Rattle.wire.specs.Answer.{refused, Got, got}
+use Rattle.wire.specs.declared.Span.{Span}
+use Rattle.cbor.specs.Item.{Head}
 use Rattle.cbor.specs.declared.StepRead.{StepRead}
 use Rattle.cbor.specs.declared.StepRead.the-variants as step
 use Rattle.cbor.specs.declared.NumberRead.{NumberRead}
@@ -23,6 +24,6 @@ abbrev pub headTold : HeadRead → Got Head
 headTold (head.Value m n next) = got (record { major = m; number = n }) next
 headTold (head.Refused e) = refused e
 
-abbrev pub stringTold : StringRead → Got Place
+abbrev pub stringTold : StringRead → Got Span
 stringTold (string.Value start len next) = got (record { start = start; len = len }) next
 stringTold (string.Refused e) = refused e

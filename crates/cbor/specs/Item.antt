@@ -2,17 +2,13 @@
 -- In an item, in order: first byte 18, end in the head 3, head not shortest 18, number or length 19 (a path's 20), end in the contents 3, contents.
 use Prim.Native.Nat.{ℕ, _+_, _/_, _%_}
 use mathlib.Core.List.{List}
-use mathlib.Core.Bool.{Bool}
 use lib.ListN.{length, getD, take, drop}
 use lib.Dec.{ltb, leb, eqb}
-use Rattle.wire.specs.Answer.{choose, Got, got, refused, then}
+use Rattle.wire.specs.Answer.{choose, then, demand, Got, got}
 use Rattle.wire.specs.Number.{number}
+use Rattle.wire.specs.declared.Span.{Span}
 use Rattle.lend.specs.Same.{same}
 use Rattle.cbor.specs.Form.{infoOf, widthOf}
-
--- a rule and the number of the refusal where it is broken
-abbrev pub demand : {A : Type 0} → Bool → ℕ → Got A → Got A
-demand t e g = choose t g (refused e)
 
 -- one byte of any value
 abbrev pub byteAt : List ℕ → ℕ → Got ℕ
@@ -20,7 +16,7 @@ byteAt s at = demand (ltb at (length s)) 3 (got (getD s at 0) (at + 1))
 
 -- one byte, which has to be the wanted one: the head of a map, or a simple value
 unfoldable pub oneAt : List ℕ → ℕ → ℕ → Got Unit
-oneAt s at wanted = then (byteAt s at) (λ x next. demand (eqb x wanted) 18 (got tt next))
+oneAt s at wanted = then (byteAt s at) (λ (x, next). demand (eqb x wanted) 18 (got tt next))
 
 -- the number in the next k bytes, the highest first
 unfoldable pub bigEndianAt : List ℕ → ℕ → ℕ → Got ℕ
@@ -42,35 +38,27 @@ pub record Head : Type 0 where
 -- the head of an item of a kind: not reserved, not indefinite, and shortest
 unfoldable pub headAt : List ℕ → ℕ → ℕ → Got Head
 headAt s at kind =
-    then (byteAt s at) (λ x p.
+    then (byteAt s at) (λ (x, p).
     demand (eqb (kindOf (x / 32)) kind) 18
     (demand (leb (x % 32) 27) 18
-    (then (argumentAt s p (x % 32)) (λ n next.
+    (then (argumentAt s p (x % 32)) (λ (n, next).
     demand (eqb (infoOf n) (x % 32)) 18 (got (record { major = x / 32; number = n }) next)))))
 
 -- a number, an array's count or a string's length, from least to most; a negative number is none
 unfoldable pub numberAt : List ℕ → ℕ → ℕ → ℕ → ℕ → ℕ → Got ℕ
 numberAt s at kind least most fault =
-    then (headAt s at kind) (λ h next.
+    then (headAt s at kind) (λ (h, next).
     demand (eqb (h .major) kind) fault
     (demand (leb least (h .number)) fault
     (demand (leb (h .number) most) fault (got (h .number) next))))
 
 -- where the contents of a string are
-pub record Place : Type 0 where
-  pub start : ℕ
-  pub len : ℕ
-
--- the bytes there
-abbrev pub partAt : List ℕ → Place → List ℕ
-partAt s v = take (v .len) (drop (v .start) s)
-
-unfoldable pub contentsAt : List ℕ → ℕ → ℕ → Got Place
+unfoldable pub contentsAt : List ℕ → ℕ → ℕ → Got Span
 contentsAt s at len = demand (leb (at + len) (length s)) 3 (got (record { start = at; len = len }) (at + len))
 
 -- a byte string, or a text, of a length from least to most
-unfoldable pub stringAt : List ℕ → ℕ → ℕ → ℕ → ℕ → ℕ → Got Place
-stringAt s at kind least most fault = then (numberAt s at kind least most fault) (λ len next. contentsAt s next len)
+unfoldable pub stringAt : List ℕ → ℕ → ℕ → ℕ → ℕ → ℕ → Got Span
+stringAt s at kind least most fault = then (numberAt s at kind least most fault) (λ (len, next). contentsAt s next len)
 
 -- the contents of a key
 unfoldable pub nameAt : List ℕ → ℕ → List ℕ → Got Unit
@@ -80,16 +68,16 @@ nameAt s at name =
 
 -- a named key: a text of at most 23 bytes, whose head is one byte
 unfoldable pub keyAt : List ℕ → ℕ → List ℕ → Got Unit
-keyAt s at name = demand (ltb (length name) 24) 18 (then (oneAt s at (96 + length name)) (λ _ p. nameAt s p name))
+keyAt s at name = demand (ltb (length name) 24) 18 (then (oneAt s at (96 + length name)) (λ (_, p). nameAt s p name))
 
 -- a double, by its 64 bits
 unfoldable pub doubleAt : List ℕ → ℕ → Got ℕ
-doubleAt s at = then (oneAt s at 0xFB) (λ _ p. bigEndianAt s p 8)
+doubleAt s at = then (oneAt s at 0xFB) (λ (_, p). bigEndianAt s p 8)
 
 -- a key and a string
-unfoldable pub stringFieldAt : List ℕ → ℕ → List ℕ → ℕ → ℕ → ℕ → ℕ → Got Place
-stringFieldAt s at name kind least most fault = then (keyAt s at name) (λ _ p. stringAt s p kind least most fault)
+unfoldable pub stringFieldAt : List ℕ → ℕ → List ℕ → ℕ → ℕ → ℕ → ℕ → Got Span
+stringFieldAt s at name kind least most fault = then (keyAt s at name) (λ (_, p). stringAt s p kind least most fault)
 
 -- a key and a number
 unfoldable pub numberFieldAt : List ℕ → ℕ → List ℕ → ℕ → ℕ → Got ℕ
-numberFieldAt s at name least most = then (keyAt s at name) (λ _ p. numberAt s p 0 least most 19)
+numberFieldAt s at name least most = then (keyAt s at name) (λ (_, p). numberAt s p 0 least most 19)

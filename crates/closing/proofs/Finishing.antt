@@ -7,13 +7,13 @@ use native.Mathlib.Omega.{arith}
 use borrow.Author.Tests.{le-leb, lt-leb, ne-eqb}
 use lib.Dec.{leb}
 use lib.ListN.{length, take, drop, getD, replicate, length-replicate}
-use Rattle.wire.specs.Answer.{done}
+use Rattle.wire.specs.Answer.{Answer, done, refusedAt}
 use Rattle.wire.specs.Over.{over}
 use Rattle.wire.proofs.Overs.{read-over}
 use Rattle.lend.specs.Same.{same}
 use Rattle.page.specs.Page.{documentId}
 use Rattle.state.specs.State.{Slot, Book, empty, collecting, disagree}
-use Rattle.state.specs.Finish.{isAbsent, isDisputed, lowest, joined, Finish, whole, lacking, finishBook}
+use Rattle.state.specs.Finish.{isAbsent, isDisputed, lowest, joined, finishBook}
 use Rattle.state.proofs.Counts.{joined-most}
 use Rattle.state.proofs.Finished.{finish-disputed, finish-missing, finish-held}
 use Rattle.book.specs.Head.{readHead}
@@ -26,12 +26,12 @@ use Rattle.closing.specs.declared.Finished.{Finished}
 use Rattle.closing.specs.declared.Finished.the-variants.{Done, Refused}
 
 -- a promise for what is the same
-pub closed-as : (v w : Finish) (out out' : List ℕ) (r : Finished) → v ≡ w → Closed w out out' r → Closed v out out' r
+pub closed-as : (v w : Answer (List ℕ)) (out out' : List ℕ) (r : Finished) → v ≡ w → Closed w out out' r → Closed v out out' r
 closed-as v w out out' r e k = rw e k
 
 -- a refusal changes nothing
-denied : (v : Finish) (out : List ℕ) (e k : ℕ) (r : Finished) → r ≡ Refused e k → v ≡ lacking e k → Closed v out out r
-denied v out e k r p q = rw (p, q) (record { answer = refl; output = refl })
+denied : (v : Answer (List ℕ)) (out : List ℕ) (e k : ℕ) (r : Finished) → r ≡ Refused e k → v ≡ refusedAt e k → Closed v out out r
+denied v out e k r p q = rw (p, q) (record { answer = refl; bytes = refl })
 
 -- ---- the data are there: the output, then the id
 
@@ -43,7 +43,7 @@ data-most c t h = omega (arith, joined-most (readPages 0 t c) (read-short 0 t c)
 module _ (c out x : List ℕ) (t n : ℕ) (low : t ≤ 96)
     (g : (n ≡ length (joined (readPages 0 t c))) × (x ≡ over 0 (joined (readPages 0 t c)) (replicate 46080 0))) where
   abbrev Delivered : List ℕ → Finished → Type 0
-  Delivered out' r = Closed (vouched (idOf c) out (whole (joined (readPages 0 t c)))) out out' r
+  Delivered out' r = Closed (vouched (idOf c) out (done (joined (readPages 0 t c)))) out out' r
 
   d : List ℕ
   d = joined (readPages 0 t c)
@@ -61,7 +61,7 @@ module _ (c out x : List ℕ) (t n : ℕ) (low : t ≤ 96)
   pub no-room : (r : Finished) → r ≡ Refused 11 0 → length out < n → Delivered out r
   no-room r p h =
       let l : length out < length (joined (readPages 0 t c)) = omega (arith, g .0) in
-      denied (vouched (idOf c) out (whole (joined (readPages 0 t c)))) out 11 0 r p (rw (lt-leb (length (joined (readPages 0 t c))) (length out) l))
+      denied (vouched (idOf c) out (done (joined (readPages 0 t c)))) out 11 0 r p (rw (lt-leb (length (joined (readPages 0 t c))) (length out) l))
 
   -- i is the id of what was put aside, and q whether the head has it
   module _ (fits : n ≤ length out) (i : List ℕ) (q : Bool) (e : i ≡ documentId (take (n - 0) x)) (f : q ≡ same i (take 8 (drop 4 c))) where
@@ -73,24 +73,24 @@ module _ (c out x : List ℕ) (t n : ℕ) (low : t ≤ 96)
     room = le-leb (length (joined (readPages 0 t c))) (length out) (omega (arith, g .0))
 
     pub other-id : (r : Finished) → r ≡ Refused 17 0 → q ≡ false → Delivered out r
-    other-id r p w = denied (vouched (idOf c) out (whole (joined (readPages 0 t c)))) out 17 0 r p (rw (room, ← test, w))
+    other-id r p w = denied (vouched (idOf c) out (done (joined (readPages 0 t c)))) out 17 0 r p (rw (room, ← test, w))
 
     pub delivered : (out' : List ℕ) → q ≡ true → out' ≡ over 0 (take (n - 0) x) out → Delivered out' (Done n)
     unfolding d
     delivered out' w o =
-        closed-as (vouched (idOf c) out (whole (joined (readPages 0 t c)))) (whole (joined (readPages 0 t c))) out out' (Done n) (rw (room, ← test, w))
-        (record { answer = ap (done {A = ℕ}) (g .0); output = o ∙ rw aside })
+        closed-as (vouched (idOf c) out (done (joined (readPages 0 t c)))) (done (joined (readPages 0 t c))) out out' (Done n) (rw (room, ← test, w))
+        (record { answer = ap done (g .0); bytes = o ∙ rw aside })
 
 -- ---- the collection itself
 
 module _ (c out : List ℕ) where
-  judged : (x : Finish) → collected c ≡ x → finished c out ≡ vouched (idOf c) out x
+  judged : (x : Answer (List ℕ)) → collected c ≡ x → finished c out ≡ vouched (idOf c) out x
   unfolding finished
   judged x e = rw e
 
   pub bad-collection : (q : Bool) (r : Finished) → q ≡ okBook c → q ≡ false → r ≡ Refused 13 0 → Closed (finished c out) out out r
   unfolding collected
-  bad-collection q r e f p = denied (finished c out) out 13 0 r p (judged (lacking 13 0) (rw (← e, f)))
+  bad-collection q r e f p = denied (finished c out) out 13 0 r p (judged (refusedAt 13 0) (rw (← e, f)))
 
   module _ (q : Bool) (e : q ≡ okBook c) (f : q ≡ true) where
     fine : okBook c ≡ true
@@ -105,13 +105,13 @@ module _ (c out : List ℕ) where
 
     pub none-yet : (r : Finished) → getD c 3 0 ≡ 0 → r ≡ Refused 16 0 → Closed (finished c out) out out r
     unfolding finishBook
-    none-yet r s p = denied (finished c out) out 16 0 r p (judged (lacking 16 0) (said empty (book-0 c s)))
+    none-yet r s p = denied (finished c out) out 16 0 r p (judged (refusedAt 16 0) (said empty (book-0 c s)))
 
     pub totals-disagree : (r : Finished) → (getD c 3 0 ≡ 0 → ⊥) → (getD c 3 0 ≡ 1 → ⊥) → r ≡ Refused 14 0 → Closed (finished c out) out out r
     unfolding finishBook readBook bookFor readHead
     totals-disagree r m n p =
         denied (finished c out) out 14 0 r p
-        (judged (lacking 14 0) (said disagree (rw (ne-eqb (getD c 3 0) 0 m, ne-eqb (getD c 3 0) 1 n))))
+        (judged (refusedAt 14 0) (said disagree (rw (ne-eqb (getD c 3 0) 0 m, ne-eqb (getD c 3 0) 1 n))))
 
     -- collecting: the pages below the total
     module _ (s : getD c 3 0 ≡ 1) where
@@ -139,10 +139,10 @@ module _ (c out : List ℕ) where
         pub page-disputed : (r : Finished) → k < getD c 12 0 → r ≡ Refused 15 k → Closed (finished c out) out out r
         page-disputed r h p =
             denied (finished c out) out 15 k r p
-            (judged (lacking 15 k)
+            (judged (refusedAt 15 k)
             (said (collecting (getD c 12 0) (readPages 0 96 c)) (book-1 c s)
             ∙ finish-disputed (getD c 12 0) (readPages 0 96 c) (omega (arith, lowest-two, many))
-            ∙ ap (lacking 15) (sym lowest-two)))
+            ∙ ap (refusedAt 15) (sym lowest-two)))
 
         module _ (none : getD c 12 0 ≤ k) (j : ℕ) (b : j ≡ lowest (inState 0) (readPages 0 (getD c 12 0) c)) where
           lowest-none : j ≡ lowest isAbsent (take (getD c 12 0) (readPages 0 96 c))
@@ -152,19 +152,19 @@ module _ (c out : List ℕ) where
           pub page-missing : (r : Finished) → j < getD c 12 0 → r ≡ Refused 16 j → Closed (finished c out) out out r
           page-missing r h p =
               denied (finished c out) out 16 j r p
-              (judged (lacking 16 j)
+              (judged (refusedAt 16 j)
               (said (collecting (getD c 12 0) (readPages 0 96 c)) (book-1 c s)
               ∙ finish-missing (getD c 12 0) (readPages 0 96 c) (omega (arith, lowest-two, many)) (omega (arith, lowest-none, many))
-              ∙ ap (lacking 16) (sym lowest-none)))
+              ∙ ap (refusedAt 16) (sym lowest-none)))
 
           pub all-there : getD c 12 0 ≤ j → (out' : List ℕ) (r : Finished)
-              → Closed (vouched (idOf c) out (whole (joined (readPages 0 (getD c 12 0) c)))) out out' r → Closed (finished c out) out out' r
+              → Closed (vouched (idOf c) out (done (joined (readPages 0 (getD c 12 0) c)))) out out' r → Closed (finished c out) out out' r
           unfolding below
           all-there h out' r p =
               let d : List ℕ = joined (readPages 0 (getD c 12 0) c) in
-              closed-as (finished c out) (vouched (idOf c) out (whole d)) out out' r
-              (judged (whole d)
+              closed-as (finished c out) (vouched (idOf c) out (done d)) out out' r
+              (judged (done d)
               (said (collecting (getD c 12 0) (readPages 0 96 c)) (book-1 c s)
               ∙ finish-held (getD c 12 0) (readPages 0 96 c) (omega (arith, lowest-two, many)) (omega (arith, lowest-none, many))
-              ∙ ap (λ (ss : List Slot). whole (joined ss)) these))
+              ∙ ap (λ (ss : List Slot). done (joined ss)) these))
               p

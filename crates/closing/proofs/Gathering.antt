@@ -8,6 +8,7 @@ use lib.Seq.{take-all}
 use Rattle.wire.specs.Over.{over}
 use Rattle.wire.proofs.Overs.{over-none, over-append}
 use Rattle.state.specs.State.{absent, dataOf}
+use Rattle.wire.specs.Answer.{done}
 use Rattle.state.specs.Finish.{joined}
 use Rattle.state.proofs.Counts.{joined-turn}
 use Rattle.block.specs.Read.{blockAt, readSlot}

@@ -8,7 +8,7 @@ use native.Mathlib.Omega.{arith}
 use native.Mathlib.Numerals.{add-one}
 use lib.ListN.{length, take, drop, getD, length-append, length-take, length-drop, take-append-drop, List·getD-append}
 use lib.Seq.{take-at, drop-append-add, drop-append-le, take-append-le, getD-drop}
-use Rattle.wire.specs.Answer.{choose, done, failed}
+use Rattle.wire.specs.Answer.{choose, done, refused}
 use Rattle.wire.specs.Over.{over}
 use Rattle.wire.proofs.Cases.{lt-or-le}
 use Rattle.page.proofs.Counts.{first-eight}
@@ -274,11 +274,11 @@ module _ (c : List ℕ) (ok : hasHead c ≡ true) where
 -- ---- the whole, by the test that the code makes
 
 module _ (c : List ℕ) (q : Bool) (e : q ≡ hasHead c) where
-  pub mend-refused : q ≡ false → (failed 13 ≡ repair c) × (c ≡ mended c)
+  pub mend-refused : q ≡ false → (refused 13 ≡ repair c) × (c ≡ mended c)
   unfolding repair mended
   mend-refused f = rw (← e, f) (refl, refl)
 
   pub mend-made : q ≡ true → (n : ℕ) (x : List ℕ)
       → (n ≡ badPages (idOf c) (totalIn c) 0 96 c) × (x ≡ take 512 c ++ mendedPages (idOf c) (totalIn c) 0 96 c) → (done n ≡ repair c) × (x ≡ mended c)
   unfolding repair mended
-  mend-made f n x (g, h) = rw (← e, f) (ap (done {A = ℕ}) g, h)
+  mend-made f n x (g, h) = rw (← e, f) (ap done g, h)

@@ -8,7 +8,7 @@ use native.Mathlib.Omega.{arith}
 use borrow.Author.Tests.{eq-eqb}
 use lib.Dec.{eqb, ltb}
 use lib.ListN.{length, take, getD}
-use Rattle.wire.specs.Answer.{choose, done, failed}
+use Rattle.wire.specs.Answer.{choose, done, refused}
 use Rattle.wire.proofs.Cases.{both-hold}
 use Rattle.state.specs.State.{Slot, absent, held, empty, collecting, disagree}
 use Rattle.state.specs.Finish.{isAbsent}
@@ -93,9 +93,9 @@ module _ (c : List ℕ) (bad : hasHead c ≡ false) where
   unfolding mended
   unmended = rw bad
 
-  pub refused : repair c ≡ failed 13
+  pub unheaded : repair c ≡ refused 13
   unfolding repair
-  refused = rw bad
+  unheaded = rw bad
 
 -- ---- a head that is well formed
 
@@ -178,7 +178,7 @@ module _ (c : List ℕ) (ok : okBook c ≡ true) where
   unfolding okBook
   mended-zero =
       mended-count c (ok-head c ok)
-      ∙ ap (done {A = ℕ}) (bad-none (idOf c) (totalIn c) c 0 96 (both-hold (hasHead c) (okPages (idOf c) (totalIn c) 0 96 c) ok .1))
+      ∙ ap done (bad-none (idOf c) (totalIn c) c 0 96 (both-hold (hasHead c) (okPages (idOf c) (totalIn c) 0 96 c) ok .1))
 
 -- For the reader: mending again changes nothing
 pub again-same : (c : List ℕ) → hasHead c ≡ true → mended (mended c) ≡ mended c
@@ -199,7 +199,7 @@ zero-exact c = ((λ e. go (hasHead c) refl e), mended-zero c)
         let z : badPages (idOf c) (totalIn c) 0 96 c ≡ 0 = cc in
         rw (h, none-bad (idOf c) (totalIn c) c 0 96 z)
     go false h e =
-        let f : failed {A = ℕ} 13 ≡ done 0 = sym (refused c h) ∙ e in
+        let f : refused {A = ℕ} 13 ≡ done 0 = sym (unheaded c h) ∙ e in
         let z : _≡_ {A = ℕ} 0 1 = cc in
         absurd (omega arith)
 

@@ -1,9 +1,9 @@
 -- Two answers and two outputs that keep the same promise are equal. Assumes nothing.
-use mathlib.Core.Path.{_≡_, sym, _∙_}
+use mathlib.Core.Path.{_≡_}
 use mathlib.Core.List.{List}
 use Prim.Native.Nat.{ℕ}
-use Rattle.state.specs.Finish.{Finish}
-use Rattle.closing.specs.Finish.{Closed}
+use Rattle.wire.specs.Answer.{Change, Kept}
+use Rattle.wire.proofs.Writes.{kept-once}
 use Rattle.closing.specs.Finish as finish
 use Rattle.closing.specs.Mend as mend
 use Rattle.closing.specs.declared.Finished.{Finished}
@@ -19,8 +19,8 @@ finished-injective (finished.Refused m j) (finished.Done n) e = cc
 finished-injective (finished.Refused m j) (finished.Refused n k) e = cc
 
 -- finish has one answer, and leaves one output
-pub closed-once : {v : Finish} {out x y : List ℕ} {r q : Finished} → Closed v out x r → Closed v out y q → (r ≡ q) × (x ≡ y)
-closed-once {r = r} {q = q} p o = (finished-injective r q (p .answer ∙ sym (o .answer)), p .output ∙ sym (o .output))
+pub closed-once : {d : Change ℕ} {out x y : List ℕ} (r q : Finished) → Kept d out x (finish.told r) → Kept d out y (finish.told q) → (r ≡ q) × (x ≡ y)
+closed-once r q p o = let (e, f) = kept-once p o in (finished-injective r q e, f)
 
 pub mended-injective : (r q : Mended) → mend.told r ≡ mend.told q → r ≡ q
 mended-injective (mends.Done m) (mends.Done n) e = cc

@@ -11,7 +11,7 @@ use Rattle.block.specs.Read.{readSlot}
 use Rattle.book.specs.Read.{idOf, totalIn, pageAt, okAt, okBook}
 use Rattle.closing.specs.Mend.{badPages, mended, repair, BadAt, Mends}
 use Rattle.closing.proofs.Mending.{bad-more}
-use Rattle.closing.proofs.Mends.{unmended, refused, mended-count, mended-front, mended-kept, mended-absent, mended-held, mended-ok}
+use Rattle.closing.proofs.Mends.{unmended, unheaded, mended-count, mended-front, mended-kept, mended-absent, mended-held, mended-ok}
 
 -- the number of bad blocks counts them
 bad-counted : (c : List ℕ) (n : ℕ) → Counted (BadAt c) n (badPages (idOf c) (totalIn c) 0 n c)
@@ -39,7 +39,7 @@ not-bad c k n = go (okAt (idOf c) (totalIn c) k (pageAt k c)) refl
 
 pub mend-says : (c x : List ℕ) (a : Answer ℕ) → a ≡ repair c → x ≡ mended c → Mends c x a
 mend-says c x a p o = record {
-  refuses = λ h. (p ∙ refused c h, o ∙ unmended c h);
+  refuses = λ h. (p ∙ unheaded c h, o ∙ unmended c h);
   counts = λ h. (badPages (idOf c) (totalIn c) 0 96 c, bad-counted c 96, p ∙ mended-count c h);
   head = λ h. ap (take 512) o ∙ mended-front c h;
   empties = λ h k l b. ap (pageAt k) o ∙ mended-absent c h k l b;

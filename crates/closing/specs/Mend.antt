@@ -4,7 +4,7 @@ use mathlib.Core.Path.{_≡_}
 use mathlib.Core.Bool.{true, false}
 use mathlib.Core.List.{List, [], _++_}
 use lib.ListN.{take}
-use Rattle.wire.specs.Answer.{choose, Answer, done, failed}
+use Rattle.wire.specs.Answer.{choose, Answer, done, refused}
 use Rattle.state.specs.State.{absent, held}
 use Rattle.state.specs.Complete.{Counted}
 use Rattle.block.specs.Block.{pageBlock}
@@ -34,12 +34,12 @@ mended c = choose (hasHead c) (take 512 c ++ mendedPages (idOf c) (totalIn c) 0 
 
 -- 01's answer: 0 with the number of blocks that became absent, or a refusal
 unfoldable pub repair : List ℕ → Answer ℕ
-repair c = choose (hasHead c) (done (badPages (idOf c) (totalIn c) 0 96 c)) (failed 13)
+repair c = choose (hasHead c) (done (badPages (idOf c) (totalIn c) 0 96 c)) (refused 13)
 
 -- the enum's cases as 01's number, place and value
 abbrev pub told : Mended → Answer ℕ
 told (Done count) = done count
-told (Refused e) = failed e
+told (Refused e) = refused e
 
 -- ---- what a mend says, block by block
 
@@ -49,7 +49,7 @@ BadAt c k = okAt (idOf c) (totalIn c) k (pageAt k c) ≡ false
 
 -- of the answer a, and of the bytes x that were c: nothing but the blocks that were bad is changed, and their number is the answer
 pub record Mends (c x : List ℕ) (a : Answer ℕ) : Type 0 where
-  pub refuses : hasHead c ≡ false → (a ≡ failed 13) × (x ≡ c)
+  pub refuses : hasHead c ≡ false → (a ≡ refused 13) × (x ≡ c)
   pub counts : hasHead c ≡ true → (n : ℕ) × Counted (BadAt c) 96 n × (a ≡ done n)
   pub head : hasHead c ≡ true → take 512 x ≡ take 512 c
   pub empties : hasHead c ≡ true → (k : ℕ) → k < 96 → BadAt c k → pageAt k x ≡ pageBlock (idOf c) k absent

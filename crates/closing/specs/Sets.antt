@@ -4,7 +4,7 @@ use mathlib.Core.Logic.{_↔_}
 use mathlib.Core.List.{List}
 use Prim.Native.Nat.{ℕ, _≤_, _<_}
 use lib.ListN.{length}
-use Rattle.wire.specs.Answer.{Answer, done, failed, failedAt}
+use Rattle.wire.specs.Answer.{Answer, done, refusedAt, refused}
 use Rattle.wire.specs.Over.{over}
 use Rattle.page.specs.Page.{documentId}
 use Rattle.state.specs.Take.{Page}
@@ -17,11 +17,11 @@ Gives out out' a d = (a ≡ done (length d)) × (out' ≡ over 0 d out)
 -- all that finish says of a set of pages of the document id: each answer exactly when its condition holds, and nothing changed by a refusal
 pub record Answers (S : Page → Type 0) (id out out' : List ℕ) (a : Answer ℕ) : Type 0 where
   pub gives : (d : List ℕ) → length d ≤ length out → Gives out out' a d ↔ (Complete S d × (documentId d ≡ id))
-  pub no-room : (a ≡ failed 11) ↔ ((d : List ℕ) × Complete S d × (length out < length d))
-  pub other-document : (a ≡ failed 17) ↔ ((d : List ℕ) × Complete S d × (length d ≤ length out) × (documentId d ≡ id → ⊥))
-  pub totals : (a ≡ failed 14) ↔ TwoTotals S
-  pub disputed : (k : ℕ) → (a ≡ failedAt 15 k) ↔ FirstDisputed S k
-  pub missing : (k : ℕ) → (a ≡ failedAt 16 k) ↔ FirstMissing S k
-  pub unchanged : (n k : ℕ) → a ≡ failedAt n k → out' ≡ out
+  pub no-room : (a ≡ refused 11) ↔ ((d : List ℕ) × Complete S d × (length out < length d))
+  pub other-document : (a ≡ refused 17) ↔ ((d : List ℕ) × Complete S d × (length d ≤ length out) × (documentId d ≡ id → ⊥))
+  pub totals : (a ≡ refused 14) ↔ TwoTotals S
+  pub disputed : (k : ℕ) → (a ≡ refusedAt 15 k) ↔ FirstDisputed S k
+  pub missing : (k : ℕ) → (a ≡ refusedAt 16 k) ↔ FirstMissing S k
+  pub unchanged : (n k : ℕ) → a ≡ refusedAt n k → out' ≡ out
   -- 46,080 bytes are room for every document: 11 is not answered, and the ciphertext is, exactly when it is complete and the document's own
-  pub enough : 46080 ≤ length out → (a ≡ failed 11 → ⊥) × ((d : List ℕ) → Gives out out' a d ↔ (Complete S d × (documentId d ≡ id)))
+  pub enough : 46080 ≤ length out → (a ≡ refused 11 → ⊥) × ((d : List ℕ) → Gives out out' a d ↔ (Complete S d × (documentId d ≡ id)))

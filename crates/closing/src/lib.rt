@@ -4,10 +4,10 @@ ghost use mathlib.Core.Bool.{true};
 ghost use mathlib.Core.List.{_++_};
 ghost use Prim.Native.Nat.{_+_, _*_, _≤_, _<_};
 ghost use lib.ListN.{length, take};
-ghost use Rattle.wire.specs.Answer.{choose};
+ghost use Rattle.wire.specs.Answer.{choose, done};
 ghost use Rattle.wire.specs.Over.{over};
 ghost use Rattle.state.specs.State.{absent};
-ghost use Rattle.state.specs.Finish.{joined, whole};
+ghost use Rattle.state.specs.Finish.{joined};
 ghost use Rattle.block.specs.Block.{withPage};
 ghost use Rattle.book.specs.Head.{hasHead};
 ghost use Rattle.book.specs.Read.{idOf, totalIn, pageAt, readPages, okAt};
@@ -51,7 +51,7 @@ fn gather(c: &[u8], total: u8, out: &mut [u8]) -> usize
 // No page is lacking. The data are put together aside, so that a refusal changes nothing of out.
 fn deliver(c: &[u8], total: u8, out: &mut [u8]) -> Finished
     requires { ⌜ (length (now c) ≡ 49664) × (total ≤ 96) ⌝ }
-    ensures { λ r. ⌜ Closed (vouched (idOf (now (c .entry))) (now (out .entry)) (whole (joined (readPages 0 total (now (c .entry)))))) (now (out .entry)) (now (out .exit)) r ⌝ }
+    ensures { λ r. ⌜ Closed (vouched (idOf (now (c .entry))) (now (out .entry)) (done (joined (readPages 0 total (now (c .entry)))))) (now (out .entry)) (now (out .exit)) r ⌝ }
 {
     let mut aside = [0u8; MOST];
     let len = gather(c, total, &mut aside);

@@ -17,8 +17,8 @@ use Rattle.book.specs.Encode.{encode, withBlank}
 use Rattle.book.specs.Read.{idOf, readBook, okBook}
 use Rattle.book.proofs.Decode.{ok-size}
 use Rattle.book.proofs.Changes.{made-empty}
-use Rattle.wire.specs.Answer.{done, failed}
-use Rattle.collection.specs.Collection.{goodPage, opening, offering, joining, Kept}
+use Rattle.wire.specs.Answer.{done, refused, Kept}
+use Rattle.collection.specs.Collection.{goodPage, opening, offering, joining}
 use Rattle.collection.specs.Parts.{page, pageTold, pageNo, Of, Became}
 use Rattle.collection.specs.declared.take.PageRead.{PageRead}
 use Rattle.collection.specs.declared.take.PageRead.the-variants as P
@@ -27,11 +27,11 @@ use Rattle.collection.proofs.Good.{cut}
 -- ---- open
 
 module _ (id c : List ℕ) where
-  pub open-id : (length id ≡ 8 → ⊥) → Kept (opening id c) c c (failed 19)
+  pub open-id : (length id ≡ 8 → ⊥) → Kept (opening id c) c c (refused 19)
   unfolding opening
   open-id n = rw (ne-eqb (length id) 8 n) (record { answer = refl; bytes = refl })
 
-  pub open-size : length id ≡ 8 → (length c ≡ 49664 → ⊥) → Kept (opening id c) c c (failed 11)
+  pub open-size : length id ≡ 8 → (length c ≡ 49664 → ⊥) → Kept (opening id c) c c (refused 11)
   unfolding opening
   open-size e n = rw (eq-eqb (length id) 8 e, ne-eqb (length c) 49664 n) (record { answer = refl; bytes = refl })
 
@@ -62,7 +62,7 @@ id-copied c x h e =
 
 -- ---- offer
 
-pub offer-bad : (c s : List ℕ) (w : Bool) → w ≡ okBook c → w ≡ false → Kept (offering c s) c c (failed 13)
+pub offer-bad : (c s : List ℕ) (w : Bool) → w ≡ okBook c → w ≡ false → Kept (offering c s) c c (refused 13)
 unfolding offering
 offer-bad c s w e f = rw (← e, f) (record { answer = refl; bytes = refl })
 
@@ -70,7 +70,7 @@ module _ (c s id : List ℕ) (w : Bool) (e : w ≡ okBook c) (f : w ≡ true) (i
   good-of : pageTold s r ≡ goodPage (idOf c) s
   good-of = g ∙ ap (λ (j : List ℕ). goodPage j s) i
 
-  pub offer-refused : (x n : ℕ) → r ≡ P.Refused x → n ≡ pageNo r → Kept (offering c s) c c (failed n)
+  pub offer-refused : (x n : ℕ) → r ≡ P.Refused x → n ≡ pageNo r → Kept (offering c s) c c (refused n)
   unfolding offering
   offer-refused x n k q = rw (← e, f, ← good-of, q, k) (record { answer = refl; bytes = refl })
 
@@ -86,17 +86,17 @@ module _ (c s id : List ℕ) (w : Bool) (e : w ≡ okBook c) (f : w ≡ true) (i
 -- ---- join
 
 module _ (c o : List ℕ) where
-  pub join-bad : (w : Bool) → w ≡ okBook c → w ≡ false → Kept (joining c o) c c (failed 13)
+  pub join-bad : (w : Bool) → w ≡ okBook c → w ≡ false → Kept (joining c o) c c (refused 13)
   unfolding joining
   join-bad w e f = rw (← e, f) (record { answer = refl; bytes = refl })
 
   module _ (w : Bool) (e : w ≡ okBook c) (f : w ≡ true) where
-    pub join-other-bad : (v : Bool) → v ≡ okBook o → v ≡ false → Kept (joining c o) c c (failed 13)
+    pub join-other-bad : (v : Bool) → v ≡ okBook o → v ≡ false → Kept (joining c o) c c (refused 13)
     unfolding joining
     join-other-bad v g h = rw (← e, f, ← g, h) (record { answer = refl; bytes = refl })
 
     module _ (v : Bool) (g : v ≡ okBook o) (h : v ≡ true) (id : List ℕ) (i : id ≡ idOf c) where
-      pub join-two : (u : Bool) → u ≡ same id (take 8 (drop 4 o)) → u ≡ false → Kept (joining c o) c c (failed 12)
+      pub join-two : (u : Bool) → u ≡ same id (take 8 (drop 4 o)) → u ≡ false → Kept (joining c o) c c (refused 12)
       unfolding joining idOf readHead
       join-two u k q = rw (← e, f, ← g, h, ← i, ← k, q) (record { answer = refl; bytes = refl })
 

@@ -7,7 +7,7 @@ use native.Mathlib.Omega.{arith}
 use borrow.Author.Tests.{eq-eqb, ne-eqb}
 use lib.Dec.{eqb}
 use lib.ListN.{length, take, drop}
-use Rattle.wire.specs.Answer.{got, refused, numberOf}
+use Rattle.wire.specs.Answer.{refused, numberOf, got}
 use Rattle.wire.specs.Number.{Bytes}
 use Rattle.wire.proofs.Cases.{passed, then-passed, got-value, got-next}
 use Rattle.wire.proofs.Digits.{small-take, small-drop}

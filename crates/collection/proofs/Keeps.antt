@@ -5,7 +5,7 @@ use mathlib.Core.List.{List}
 use Prim.Native.Nat.{ℕ}
 use borrow.Author.Tests.{eq-eqb}
 use lib.ListN.{length}
-use Rattle.wire.specs.Answer.{choose, Got, got, refused}
+use Rattle.wire.specs.Answer.{choose, done, refusedAt, refused, Got, Change, leaves, bytesAfter}
 use Rattle.wire.specs.Number.{Bytes}
 use Rattle.lend.specs.Same.{same}
 use Rattle.state.specs.State.{Book, empty}
@@ -15,7 +15,7 @@ use Rattle.book.specs.Encode.{encode}
 use Rattle.book.specs.Read.{idOf, readBook, okBook}
 use Rattle.book.proofs.Decode.{ok-id, decoded-valid}
 use Rattle.book.proofs.Round.{valid-fits, encode-ok, encode-id}
-use Rattle.collection.specs.Collection.{goodPage, opening, taking, offering, joining, leaves, refuses, Decision, bytesAfter}
+use Rattle.collection.specs.Collection.{goodPage, opening, taking, offering, joining}
 use Rattle.collection.specs.Parts.{Of}
 use Rattle.collection.proofs.Good.{good-page}
 
@@ -34,12 +34,12 @@ module _ (id c : List ℕ) (o : Of id c) where
   -- an offer of any bytes keeps it so
   pub offer-keeps : (raw : List ℕ) → Bytes raw → Of id (bytesAfter c (offering c raw))
   unfolding offering
-  offer-keeps raw y = rw (o .0, ← o .1) (go (goodPage id raw) refl)
+  offer-keeps raw y = rw (o .0) (go (goodPage (idOf c) raw) (ap (λ (i : List ℕ). goodPage i raw) (o .1)))
     where
       go : (g : Got Page) → goodPage id raw ≡ g → Of id (bytesAfter c (taking c g))
-      go (got p next) e =
+      go (done (p, next)) e =
           rw (← o .1) (encoded id (takePage p (readBook c)) eight (valid-take p (readBook c) (good-page id raw p next y e .good) (decoded-valid c (o .0))))
-      go (refused e) q = o
+      go (refusedAt e place) q = o
 
   -- For the reader: a join of anything keeps it so too
   pub join-keeps : (other : List ℕ) → Of id (bytesAfter c (joining c other))
@@ -47,7 +47,7 @@ module _ (id c : List ℕ) (o : Of id c) where
   join-keeps other = rw (o .0) (go (okBook other) (same (idOf c) (idOf other)) refl)
     where
       go : (v w : Bool) → okBook other ≡ v
-          → Of id (bytesAfter c (choose {A = Decision Unit} v (choose w (leaves (encode (idOf c) (joinBook (readBook c) (readBook other))) tt) (refuses 12)) (refuses 13)))
+          → Of id (bytesAfter c (choose {A = Change Unit} v (choose w (leaves (encode (idOf c) (joinBook (readBook c) (readBook other))) tt) (refused 12)) (refused 13)))
       go true true e =
           rw (← o .1) (encoded id (joinBook (readBook c) (readBook other)) eight (valid-join (readBook c) (readBook other) (decoded-valid c (o .0)) (decoded-valid other e)))
       go true false e = o

@@ -9,3 +9,4 @@ pub mod Keeps
 pub mod Answers
 pub mod Replay
 pub mod Demand
+pub mod Placeless

@@ -5,8 +5,8 @@ use mathlib.Core.List.{List}
 use Prim.Native.Nat.{ℕ}
 use borrow.Author.Tests.{eq-eqb}
 use lib.ListN.{length}
-use Rattle.wire.specs.Answer.{Got, got, refused}
-use Rattle.wire.proofs.Cases.{not-got, got-value}
+use Rattle.wire.specs.Answer.{done, refusedAt, Got, got, bytesAfter}
+use Rattle.wire.proofs.Cases.{not-done, got-value}
 use Rattle.lend.proofs.Sames.{same-refl}
 use Rattle.state.specs.State.{Book, empty}
 use Rattle.state.specs.Take.{Page, takePage, joinBook}
@@ -16,15 +16,15 @@ use Rattle.state.proofs.Valid.{Good, Valid}
 use Rattle.state.proofs.Histories as H
 use Rattle.book.specs.Encode.{encode}
 use Rattle.book.proofs.Round.{valid-fits, encode-ok, encode-id, encode-read}
-use Rattle.collection.specs.Collection.{goodPage, opening, taking, offering, joining, bytesAfter}
+use Rattle.collection.specs.Collection.{goodPage, opening, taking, offering, joining}
 use Rattle.collection.proofs.Good.{good-page}
 use Rattle.collection.specs.Built.{Built, opened, offered, joined, bytesOf, In, Lent}
 
 -- ---- from raw frames to pages
 
 unfoldable pub taken : Got Page → H.History → H.History
-taken (got p next) h = H.took p h
-taken (refused e) h = h
+taken (done (p, next)) h = H.took p h
+taken (refusedAt e place) h = h
 
 -- the same history with the page of each good frame, and without the other frames
 unfoldable pub history : List ℕ → Built → H.History
@@ -35,16 +35,16 @@ history id (joined g h) = H.united (history id g) (history id h)
 module _ (p : Page) (h : H.History) where
   to-taken : {A : Type 0} (g : Got Page) → (A → H.In h p) → A ⊎ ((next : ℕ) × (g ≡ got p next)) → H.In (taken g h) p
   unfolding taken
-  to-taken (got q n) f (inl a) = inl (f a)
-  to-taken (got q n) f (inr s) = inr (sym (got-value (s .1)))
-  to-taken (refused e) f (inl a) = f a
-  to-taken (refused e) f (inr s) = not-got (s .1)
+  to-taken (done (q, n)) f (inl a) = inl (f a)
+  to-taken (done (q, n)) f (inr s) = inr (sym (got-value (s .1)))
+  to-taken (refusedAt e place) f (inl a) = f a
+  to-taken (refusedAt e place) f (inr s) = not-done (s .1)
 
   from-taken : {A : Type 0} (x g : Got Page) → x ≡ g → (H.In h p → A) → H.In (taken g h) p → A ⊎ ((next : ℕ) × (x ≡ got p next))
   unfolding taken
-  from-taken x (got q n) e f (inl a) = inl (f a)
-  from-taken x (got q n) e f (inr s) = inr (n, e ∙ ap (λ (r : Page). got r n) (sym s))
-  from-taken x (refused y) e f a = inl (f a)
+  from-taken x (done (q, n)) e f (inl a) = inl (f a)
+  from-taken x (done (q, n)) e f (inr s) = inr (n, e ∙ ap (λ (r : Page). got r n) (sym s))
+  from-taken x (refusedAt y place) e f a = inl (f a)
 
 module _ (id : List ℕ) where
   to-pages : (h : Built) (p : Page) → In id h p → H.In (history id h) p
@@ -104,8 +104,8 @@ module _ (id : List ℕ) (eight : length id ≡ 8) where
   take-run : (h : H.History) → Valid (H.run h) → (g : Got Page)
       → bytesAfter (encode id (H.run h)) (taking (encode id (H.run h)) g) ≡ encode id (H.run (taken g h))
   unfolding taken H.run
-  take-run h v (got p next) = take-encode (H.run h) v p next
-  take-run h v (refused e) = refl
+  take-run h v (done (p, next)) = take-encode (H.run h) v p next
+  take-run h v (refusedAt e place) = refl
 
   -- the bytes are those of the collection that took the pages
   pub bytes-run : (h : Built) → Lent h → bytesOf id h ≡ encode id (H.run (history id h))

@@ -1,6 +1,6 @@
 -- What open, offer and join answer, as document 01's number and values.
 use Prim.Native.Nat.{ℕ}
-use Rattle.wire.specs.Answer.{Answer, done, failed}
+use Rattle.wire.specs.Answer.{Answer, done, refused}
 use Rattle.collection.specs.declared.Answered.{Answered}
 use Rattle.collection.specs.declared.Answered.the-variants as A
 use Rattle.collection.specs.declared.Offered.{Offered}
@@ -9,9 +9,9 @@ use Rattle.collection.specs.declared.Offered.the-variants as O
 -- open and join: 0, or the number of a refusal
 abbrev pub told : Answered → Answer Unit
 told A.Done = done tt
-told (A.Refused e) = failed e
+told (A.Refused e) = refused e
 
 -- offer: "0 with 1, 2 or 3: page held, page in two versions, totals disagree"
 abbrev pub toldKind : Offered → Answer ℕ
 toldKind (O.Done kind) = done kind
-toldKind (O.Refused e) = failed e
+toldKind (O.Refused e) = refused e

@@ -4,10 +4,10 @@ use mathlib.Core.Logic.{_⊎_}
 use mathlib.Core.List.{List, [], _∷_}
 use Prim.Native.Nat.{ℕ}
 use lib.ListN.{length}
-use Rattle.wire.specs.Answer.{got}
+use Rattle.wire.specs.Answer.{got, bytesAfter}
 use Rattle.wire.specs.Number.{Bytes}
 use Rattle.state.specs.Take.{Page}
-use Rattle.collection.specs.Collection.{goodPage, opening, offering, joining, bytesAfter}
+use Rattle.collection.specs.Collection.{goodPage, opening, offering, joining}
 
 -- a lent buffer opened; a raw frame, any bytes, offered to one; another joined into one
 pub data Built : Type 0 where

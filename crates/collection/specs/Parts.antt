@@ -4,7 +4,7 @@ use mathlib.Core.Path.{_≡_}
 use mathlib.Core.Bool.{true}
 use mathlib.Core.List.{List}
 use lib.ListN.{length, take, drop, getD}
-use Rattle.wire.specs.Answer.{Got, got, refused}
+use Rattle.wire.specs.Answer.{refused, Got, got}
 use Rattle.state.specs.State.{Slot, Book}
 use Rattle.state.specs.Take.{Page, kindOf, kindOfSlot}
 use Rattle.block.specs.Block.{withPage}

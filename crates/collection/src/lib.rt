@@ -7,7 +7,8 @@ ghost use mathlib.Core.Path.{_≡_};
 ghost use Prim.Native.Nat.{_≤_};
 ghost use lib.ListN.{length};
 ghost use Rattle.book.specs.Read.{idOf};
-ghost use Rattle.collection.specs.Collection.{Kept, opening, offering, joining};
+ghost use Rattle.wire.specs.Answer.{Kept};
+ghost use Rattle.collection.specs.Collection.{opening, offering, joining};
 ghost use Rattle.collection.specs.Answer.{told, toldKind};
 use take::PageRead;
 

@@ -6,10 +6,11 @@ use native.Mathlib.Omega.{arith}
 use borrow.Author.Tests.{leb-true, le-leb, lt-leb}
 use lib.Dec.{leb}
 use lib.ListN.{length}
-use Rattle.wire.specs.Answer.{Got, got, refused, then, numberOf}
+use Rattle.wire.specs.Answer.{refused, numberOf, then, Got, got, Answer}
 use Rattle.wire.specs.Number.{Bytes}
 use Rattle.wire.proofs.Branch.{branch, go, stop}
-use Rattle.wire.proofs.Cases.{passed, then-passed}
+use Rattle.wire.proofs.Cases.{passed, then-passed, got-next, got-value}
+use Rattle.wire.specs.declared.Span.{Span}
 use Rattle.varint.specs.Answer as Varint
 use Rattle.varint.specs.Varint.{varintAt}
 use Rattle.varint.specs.declared.VarintRead.{VarintRead}
@@ -17,14 +18,14 @@ use Rattle.varint.specs.declared.VarintRead.the-variants.{Value}
 use Rattle.varint.proofs.Answers.{go-varint, no-varint}
 use Rattle.varint.proofs.Rounds.{read-stands}
 use Rattle.mark.proofs.Answers.{go-mark, no-mark}
-use Rattle.cover.specs.Cover.{Chunk, chunkAt}
+use Rattle.cover.specs.Cover.{chunkAt}
 use Rattle.cover.specs.Answer.{chunkTold}
 use Rattle.cover.specs.declared.ChunkRead.{ChunkRead}
 use Rattle.cover.specs.declared.ChunkRead.the-variants as K
 
-module _ {B : Type 0} (g : Got Chunk) (f : Chunk → ℕ → Got B) where
-  pub go-chunk : (r : ChunkRead) (start len : ℕ) (y : Got B) → chunkTold r ≡ g → r ≡ K.Chunk start len
-      → y ≡ f (record { start = start; len = len }) (start + len) → y ≡ then g f
+module _ {B : Type 0} (g : Got Span) (f : Span × ℕ → Answer B) where
+  pub go-chunk : (r : ChunkRead) (start len : ℕ) (y : Answer B) → chunkTold r ≡ g → r ≡ K.Chunk start len
+      → y ≡ f ((record { start = start; len = len }), (start + len)) → y ≡ then g f
   go-chunk r start len y = go chunkTold g f r (K.Chunk start len) y
 
   pub no-chunk : (r : ChunkRead) (n e : ℕ) → chunkTold r ≡ g → r ≡ K.Refused e → n ≡ numberOf (chunkTold r) → refused n ≡ then g f
@@ -34,17 +35,17 @@ pub ruleset chain = (branch, go-varint, no-varint, go-mark, no-mark, go-chunk, n
 
 -- ---- a field that was read ends within the input
 
-pub chunk-got : (s : List ℕ) (at : ℕ) (v : Chunk) (next : ℕ) → chunkAt s at ≡ got v next
+pub chunk-got : (s : List ℕ) (at : ℕ) (v : Span) (next : ℕ) → chunkAt s at ≡ got v next
     → (varintAt s at ≡ got (v .len) (v .start)) × (next ≡ v .start + v .len) × (next ≤ length s)
 unfolding chunkAt
 chunk-got s at v next h =
     let t = then-passed (varintAt s at) _ h in
     let u = passed (leb (t .1 + t .0) (length s)) (got (record { start = t .1; len = t .0 }) (t .1 + t .0)) 3 (t .3) in
     let l = leb-true (t .1 + t .0) (length s) (u .0) in
-    let p : _≡_ {A = Chunk} (record { start = t .1; len = t .0 }) v = cc (u .1) in
-    let q : t .1 + t .0 ≡ next = cc (u .1) in
-    let a : t .1 ≡ v .start = ap (λ (x : Chunk). x .start) p in
-    let b : t .0 ≡ v .len = ap (λ (x : Chunk). x .len) p in
+    let p : _≡_ {A = Span} (record { start = t .1; len = t .0 }) v = got-value (u .1) in
+    let q : t .1 + t .0 ≡ next = got-next (u .1) in
+    let a : t .1 ≡ v .start = ap (λ (x : Span). x .start) p in
+    let b : t .0 ≡ v .len = ap (λ (x : Span). x .len) p in
     (t .2 ∙ cc, omega arith, omega arith)
 
 -- for `search`, what a caller knows of the position

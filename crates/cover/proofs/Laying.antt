@@ -5,8 +5,8 @@ use mathlib.Core.List.{List, _++_}
 use native.Mathlib.Omega.{arith}
 use lib.ListN.{length, length-append}
 use Rattle.wire.specs.Over.{over}
-use Rattle.wire.specs.Writing.{Written, bytes}
-use Rattle.wire.specs.declared.Wrote.{Wrote}
+use Rattle.wire.specs.Answer.{done, Answer, Kept}
+use Rattle.wire.specs.Writing.{Written, writing}
 use Rattle.wire.specs.declared.Wrote.the-variants.{Done, Refused}
 use Rattle.wire.proofs.Overs.{over-run}
 use Rattle.wire.proofs.Writes.{written, no-room, written-over}
@@ -26,13 +26,13 @@ cover-length m p = simp (length-append, mark-length magic)
 -- ---- the writes
 
 -- k is how many bytes the length takes
-pub chunk-laid : (bs l x y : List ℕ) (at k : ℕ) (r : Wrote) → at + length (chunkOf bs) ≤ length l → Written at (bytes (varint (length bs))) l x r
+pub chunk-laid : (bs l x y : List ℕ) (at k : ℕ) {a : Answer ℕ} → at + length (chunkOf bs) ≤ length l → Kept (writing at l (done (varint (length bs)))) l x a
     → k ≡ length (varint (length bs)) → y ≡ over (at + k) bs x → (at + k + length bs ≡ at + length (chunkOf bs)) × (y ≡ over at (chunkOf bs) l)
 unfolding chunkOf
-chunk-laid bs l x y at k r room w e ey =
+chunk-laid bs l x y at k room w e ey =
     let n = chunk-length bs in
     let v : List ℕ = varint (length bs) in
-    let t = over-run at (at + k) (length v) (length bs) v bs l x y ey (written-over at v l x r w, refl) refl (omega arith) (omega arith) in
+    let t = over-run at (at + k) (length v) (length bs) v bs l x y ey (written-over at v l x w, refl) refl (omega arith) (omega arith) in
     (omega arith, t .0)
 
 module _ (m p l : List ℕ) where
@@ -50,12 +50,12 @@ module _ (m p l : List ℕ) where
   -- i and j are how many bytes the lengths take
   module _ (i j : ℕ) (ei : i ≡ length (varint (length m))) (ej : j ≡ length (varint (length p))) where
     -- the parts are longer than what the heads leave
-    pub lay-short : length l < 3 + i + j + length m + length p → Written 0 (bytes (coverOf m p)) l l (Refused 11)
+    pub lay-short : length l < 3 + i + j + length m + length p → Written 0 (done (coverOf m p)) l l (Refused 11)
     lay-short h = no-room 0 l (coverOf m p) (omega (arith, cover-length m p, chunk-length m, chunk-length p))
 
     pub lay-fits : 3 + i + j + length m + length p ≤ length l → length (coverOf m p) ≤ length l
     lay-fits h = omega (arith, cover-length m p, chunk-length m, chunk-length p)
 
     pub lay-done : 3 + i + j + length m + length p ≤ length l → (z : List ℕ) (n : ℕ) → (n ≡ length (coverOf m p)) × (z ≡ over 0 (coverOf m p) l)
-        → Written 0 (bytes (coverOf m p)) l z (Done n)
+        → Written 0 (done (coverOf m p)) l z (Done n)
     lay-done h z n (e, o) = written 0 l (coverOf m p) z n (omega (arith, lay-fits h)) e o

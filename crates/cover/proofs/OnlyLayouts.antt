@@ -10,29 +10,30 @@ use Rattle.wire.specs.Answer.{got}
 use Rattle.wire.specs.Number.{Bytes}
 use Rattle.wire.proofs.Cases.{passed, then-passed, got-value, got-next}
 use Rattle.wire.proofs.Standing.{Stands, stands-join, stands-as, stands-part}
+use Rattle.wire.specs.declared.Span.{Span}
 use Rattle.varint.specs.Varint.{varint}
 use Rattle.varint.proofs.Rounds.{read-stands}
 use Rattle.mark.specs.Mark.{markOf, marked}
 use Rattle.mark.proofs.Marks.{mark-was}
-use Rattle.cover.specs.Cover.{Cover, Chunk, manifestOf, payloadOf, magic, chunkAt, coverAt, chunkOf, coverOf}
+use Rattle.cover.specs.Cover.{Cover, manifestOf, payloadOf, magic, chunkAt, coverAt, chunkOf, coverOf}
 use Rattle.cover.specs.Answer.{told}
 use Rattle.cover.specs.declared.CoverRead.{CoverRead}
 use Rattle.cover.specs.declared.CoverRead.the-variants as R
 use Rattle.cover.proofs.Chain.{chunk-got}
 
 -- the bytes of a chunk
-abbrev chunkBytes : List ℕ → Chunk → List ℕ
+abbrev chunkBytes : List ℕ → Span → List ℕ
 chunkBytes s v = take (v .len) (drop (v .start) s)
 
 -- a length with its bytes stands there, and is theirs
-record Chunked (s : List ℕ) (at : ℕ) (v : Chunk) (next : ℕ) : Type 0 where
+record Chunked (s : List ℕ) (at : ℕ) (v : Span) (next : ℕ) : Type 0 where
   stood : Stands s at (chunkOf (chunkBytes s v)) next
   long : length (chunkBytes s v) ≡ v .len
   ends : next ≡ v .start + v .len
   within : next ≤ length s
   below : v .len < 2 ^ 64
 
-chunk-was : (s : List ℕ) (at : ℕ) (v : Chunk) (next : ℕ) → Bytes s → chunkAt s at ≡ got v next → Chunked s at v next
+chunk-was : (s : List ℕ) (at : ℕ) (v : Span) (next : ℕ) → Bytes s → chunkAt s at ≡ got v next → Chunked s at v next
 unfolding chunkOf
 chunk-was s at v next y h =
     let g = chunk-got s at v next h in
@@ -57,7 +58,7 @@ pub record Sound (s : List ℕ) (c : Cover) (next : ℕ) : Type 0 where
   pub payload-ends : c .payload + c .payload-len ≡ length s
   pub past : next ≡ length s
 
-sound : (s : List ℕ) (a b next : ℕ) (m p : Chunk) → Stands s 0 (marked magic) a → Chunked s a m b → Chunked s b p next → next ≡ length s
+sound : (s : List ℕ) (a b next : ℕ) (m p : Span) → Stands s 0 (marked magic) a → Chunked s a m b → Chunked s b p next → next ≡ length s
     → Sound s (record { manifest = m .start; manifest-len = m .len; payload = p .start; payload-len = p .len }) next
 unfolding coverOf
 sound s a b next m p hm hc hp e =

@@ -1,6 +1,7 @@
 -- What the readers answer, as document 01's number and values.
 use Prim.Native.Nat.{_+_}
-use Rattle.wire.specs.Answer.{Got, got, refused}
+use Rattle.wire.specs.Answer.{refused, Got, got}
+use Rattle.wire.specs.declared.Span.{Span}
 use Rattle.cover.specs.Cover as C
 use Rattle.cover.specs.declared.CoverRead.{CoverRead}
 use Rattle.cover.specs.declared.CoverRead.the-variants.{Cover, Refused}
@@ -13,6 +14,6 @@ told (Cover m ml p pl) = got (record { manifest = m; manifest-len = ml; payload 
 told (Refused e) = refused e
 
 -- for the contract of a private function: where the bytes of a length stand, and the position past them
-abbrev pub chunkTold : ChunkRead → Got C.Chunk
+abbrev pub chunkTold : ChunkRead → Got Span
 chunkTold (K.Chunk start len) = got (record { start = start; len = len }) (start + len)
 chunkTold (K.Refused e) = refused e

@@ -3,7 +3,8 @@ use Prim.Native.Nat.{ℕ, _+_}
 use mathlib.Core.List.{List, [], _∷_, _++_}
 use lib.Dec.{leb, eqb}
 use lib.ListN.{length, take, drop}
-use Rattle.wire.specs.Answer.{choose, Got, got, refused, then}
+use Rattle.wire.specs.Answer.{then, demand, Got, got}
+use Rattle.wire.specs.declared.Span.{Span}
 use Rattle.varint.specs.Varint.{varint, varintAt}
 use Rattle.mark.specs.Mark.{markOf, marked}
 
@@ -27,24 +28,19 @@ payloadOf s c = take (c .payload-len) (drop (c .payload) s)
 abbrev pub magic : List ℕ
 magic = 0x41 ∷ 0x59 ∷ []
 
--- a length and that many bytes: where they start and how many they are
-pub record Chunk : Type 0 where
-  pub start : ℕ
-  pub len : ℕ
-
-unfoldable pub chunkAt : List ℕ → ℕ → Got Chunk
+-- a length and that many bytes
+unfoldable pub chunkAt : List ℕ → ℕ → Got Span
 chunkAt s at =
-    then (varintAt s at) (λ len next. choose (leb (next + len) (length s)) (got (record { start = next; len = len }) (next + len)) (refused 3))
+    then (varintAt s at) (λ (len, next). demand (leb (next + len) (length s)) 3 (got (record { start = next; len = len }) (next + len)))
 
 -- the first fault decides: magic, version, manifest length, manifest, payload length, payload, no more
 unfoldable pub coverAt : List ℕ → Got Cover
 coverAt s =
-    then (markOf magic s) (λ _ a.
-    then (chunkAt s a) (λ m b.
-    then (chunkAt s b) (λ p c.
-    choose (eqb c (length s))
-    (got (record { manifest = m .start; manifest-len = m .len; payload = p .start; payload-len = p .len }) c)
-    (refused 3))))
+    then (markOf magic s) (λ (_, a).
+    then (chunkAt s a) (λ (m, b).
+    then (chunkAt s b) (λ (p, c).
+    demand (eqb c (length s)) 3
+    (got (record { manifest = m .start; manifest-len = m .len; payload = p .start; payload-len = p .len }) c))))
 
 -- ---- the same, laid out
 

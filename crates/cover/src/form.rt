@@ -3,7 +3,8 @@ ghost use mathlib.Core.Path.{_≡_};
 ghost use Prim.Native.Nat.{_+_, _≤_};
 ghost use lib.ListN.{length};
 ghost use Rattle.wire.specs.Over.{over};
-ghost use Rattle.wire.specs.Writing.{Written, bytes};
+ghost use Rattle.wire.specs.Answer.{done};
+ghost use Rattle.wire.specs.Writing.{Written};
 ghost use Rattle.cover.specs.Cover.{chunkOf, coverOf};
 use wire::Wrote;
 
@@ -33,7 +34,7 @@ fn lay_fitting(manifest: &[u8], payload: &[u8], out: &mut [u8]) -> usize
 
 // The lengths of two slices can sum past 2^64, so the room is judged by what is left of it.
 pub(super) fn lay(manifest: &[u8], payload: &[u8], out: &mut [u8]) -> Wrote
-    ensures { λ r. ⌜ Written 0 (bytes (coverOf (now (manifest .entry)) (now (payload .entry)))) (now (out .entry)) (now (out .exit)) r ⌝ }
+    ensures { λ r. ⌜ Written 0 (done (coverOf (now (manifest .entry)) (now (payload .entry)))) (now (out .entry)) (now (out .exit)) r ⌝ }
 {
     let heads = OPENING + varint::size(manifest.len() as u64) + varint::size(payload.len() as u64);
     if out.len() < heads {

@@ -2,8 +2,8 @@
 mod form;
 
 ghost use mathlib.Core.Path.{_≡_};
-ghost use Rattle.wire.specs.Answer.{numberOf};
-ghost use Rattle.wire.specs.Writing.{Written, bytes};
+ghost use Rattle.wire.specs.Answer.{done, numberOf};
+ghost use Rattle.wire.specs.Writing.{Written};
 ghost use Rattle.cover.specs.Cover.{chunkAt, coverAt, coverOf};
 ghost use Rattle.cover.specs.Answer.{told, chunkTold};
 use mark::MarkRead;
@@ -116,7 +116,7 @@ pub fn read(s: &[u8]) -> CoverRead
 
 // The layout of any two parts, at the front of out.
 pub fn lay(manifest: &[u8], payload: &[u8], out: &mut [u8]) -> Wrote
-    ensures { λ r. ⌜ Written 0 (bytes (coverOf (now (manifest .entry)) (now (payload .entry)))) (now (out .entry)) (now (out .exit)) r ⌝ }
+    ensures { λ r. ⌜ Written 0 (done (coverOf (now (manifest .entry)) (now (payload .entry)))) (now (out .entry)) (now (out .exit)) r ⌝ }
 {
     form::lay(manifest, payload, out)
 }

@@ -6,12 +6,12 @@ use crate::words;
 use cbor::StepRead;
 use entry::File;
 use entry::Mtime;
-use entry::Part;
 use envelope::EnvelopeRead;
 use envelope::EnvelopeWrote;
 use manifest::Created;
 use manifest::Manifest;
 use manifest::Seed;
+use wire::Span;
 
 fn seed(s: &[u8], v: Seed, out: &mut [u8], at: usize) -> usize {
     match v {
@@ -50,7 +50,7 @@ fn mtime(v: Mtime, out: &mut [u8], at: usize) -> usize {
     }
 }
 
-fn bytes(s: &[u8], v: Part, out: &mut [u8], at: usize) -> usize {
+fn bytes(s: &[u8], v: Span, out: &mut [u8], at: usize) -> usize {
     reply::bytes(out, at, part(s, v.start, v.len))
 }
 

@@ -4,10 +4,10 @@ use crate::values;
 use crate::words;
 use entry::File;
 use entry::Mtime;
-use entry::Part;
 use manifest::Created;
 use manifest::Manifest;
 use manifest::Seed;
+use wire::Span;
 
 // The words before the first file, with the verb: SEED, SEALED, CREATED, N.
 const BEFORE_FILES: usize = 5;
@@ -104,7 +104,7 @@ fn file(line: &[u8], starts: &[usize], k: usize) -> File {
 }
 
 fn blank() -> File {
-    let none = Part { start: 0, len: 0 };
+    let none = Span { start: 0, len: 0 };
     File {
         hash: none,
         path: none,

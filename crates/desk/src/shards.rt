@@ -5,7 +5,7 @@ use crate::words;
 use shard::Content;
 use shard::Quorum;
 use shard::ShardRead;
-use shard::Span;
+use wire::Span;
 
 fn span(s: &[u8], v: Span, out: &mut [u8], at: usize) -> usize {
     reply::bytes(out, at, part(s, v.start, v.len))
@@ -59,9 +59,11 @@ fn shard_write(
         words::bytes(pool, starts, 4),
         words::bytes(pool, starts, 5),
         words::number(line, starts, 6),
-        words::number(line, starts, 7),
-        words::number(line, starts, 8),
-        words::number(line, starts, 9),
+        Quorum {
+            threshold: words::number(line, starts, 7),
+            count: words::number(line, starts, 8),
+            index: words::number(line, starts, 9),
+        },
         room,
     );
     reply::wrote(out, answer, room)
@@ -80,9 +82,11 @@ fn shard_signed(
         words::bytes(pool, starts, 3),
         words::bytes(pool, starts, 4),
         words::number(line, starts, 5),
-        words::number(line, starts, 6),
-        words::number(line, starts, 7),
-        words::number(line, starts, 8),
+        Quorum {
+            threshold: words::number(line, starts, 6),
+            count: words::number(line, starts, 7),
+            index: words::number(line, starts, 8),
+        },
         room,
     );
     reply::wrote(out, answer, room)

@@ -8,7 +8,7 @@ use crate::parts::part;
 use crate::parts::until;
 use crate::values;
 use crate::values::Parsed;
-use entry::Part;
+use wire::Span;
 
 // The letters of a form, which say what a verb asks of each argument, as b"br" for BYTES ROOM.
 const BYTES: u8 = b'b';
@@ -65,8 +65,8 @@ pub(crate) fn bytes<'a>(pool: &'a [u8], starts: &[usize], k: usize) -> &'a [u8] 
 }
 
 // Where the bytes of word k stand in the pool.
-pub(crate) fn place(starts: &[usize], k: usize) -> Part {
-    Part {
+pub(crate) fn place(starts: &[usize], k: usize) -> Span {
+    Span {
         start: start(starts, k) / 2,
         len: word_length(starts, k) / 2,
     }

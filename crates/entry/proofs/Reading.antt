@@ -7,7 +7,7 @@ use native.Mathlib.Omega.{arith}
 use lib.ListN.{length, take, drop}
 use mir.Syntax.{w64}
 use mir.Val.{Fits}
-use Rattle.wire.specs.Answer.{got, refused}
+use Rattle.wire.specs.Answer.{refused, got}
 use Rattle.wire.proofs.Cases.{said-no, said-yes}
 use Rattle.path.specs.Order.{below}
 use Rattle.path.specs.Path.{pathLeast, pathMost, pathAllowed}

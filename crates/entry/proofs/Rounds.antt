@@ -7,21 +7,23 @@ use native.Mathlib.Omega.{arith}
 use borrow.Author.Tests.{ltb-true, lt-ltb, ne-eqb, eqb-true}
 use lib.Dec.{ltb, eqb}
 use lib.ListN.{length}
-use Rattle.wire.specs.Answer.{choose, Got, got, then}
+use Rattle.wire.specs.Answer.{choose, then, Got, got}
 use Rattle.wire.specs.Number.{Bytes, bigEndian}
-use Rattle.wire.proofs.Cases.{passed, then-passed}
+use Rattle.wire.proofs.Cases.{passed, then-passed, got-next, got-value}
 use Rattle.wire.proofs.Standing.{Stands, stands-first, stands-second, stands-join, stands-as}
+use Rattle.wire.specs.declared.Span.{Span}
+use Rattle.wire.specs.Span.{partAt}
 use Rattle.path.specs.Order.{below}
 use Rattle.path.specs.Path.{pathLeast, pathMost, pathAllowed}
 use Rattle.path.proofs.Paths.{allowed-length}
 use Rattle.cbor.specs.Form.{infoOf, widthOf, headOf, stringOf, stringFieldOf, numberFieldOf}
-use Rattle.cbor.specs.Item.{byteAt, oneAt, kindOf, Head, headAt, Place, partAt, keyAt, stringFieldAt, numberFieldAt}
+use Rattle.cbor.specs.Item.{byteAt, oneAt, kindOf, Head, headAt, keyAt, stringFieldAt, numberFieldAt}
 use Rattle.cbor.specs.Names.{hashKey, pathKey, sizeKey, mtimeKey}
 use Rattle.cbor.proofs.Sizes.{info-most, either}
 use Rattle.cbor.proofs.Within.{string-field-within, number-field-within}
 use Rattle.cbor.proofs.Written.{kind-bytes, kind-text, byte-back, one-back, head-back, key-back, string-field-back, number-field-back}
 use Rattle.cbor.proofs.Only.{byte-only, one-only, head-only, key-only, string-field-only, number-field-only}
-use Rattle.entry.specs.File.{placed, integerAt, mtimeAt, pathAt, fileAt}
+use Rattle.entry.specs.File.{integerAt, mtimeAt, pathAt, fileAt}
 use Rattle.entry.specs.Writing.{Entry, entryIn, integerOf, mtimeOf, entryOf, fileOf, mtimeAllowed}
 use Rattle.entry.specs.declared.Mtime.{Mtime}
 use Rattle.entry.specs.declared.Mtime.the-variants.{Null, Integer}
@@ -77,8 +79,8 @@ unfolding integerAt integerOf
 integer-only {s} {at} {next} {h} y e =
     let t = then-passed (headAt s at 0) _ e in
     let u = passed (ltb (t .0 .number) 9223372036854775808) (got (t .0) (t .1)) 19 (t .3) in
-    let f : t .0 ≡ h = cc (u .1) in
-    let n : t .1 ≡ next = cc (u .1) in
+    let f : t .0 ≡ h = got-value (u .1) in
+    let n : t .1 ≡ next = got-next (u .1) in
     let r = head-only 0 y (t .2) in
     let k : headOf (t .0 .major) (t .0 .number) ≡ headOf (choose (eqb (t .0 .major) 1) 1 0) (t .0 .number) = ap (λ (m : ℕ). headOf m (t .0 .number)) (sym (sign-of (t .0 .major) (r .1))) in
     subst (λ (h : Head). Stands s at (headOf (choose (eqb (h .major) 1) 1 0) (h .number)) next × (h .number < 9223372036854775808)) f
@@ -108,31 +110,29 @@ mtime-only {s} {at} {next} {t} y e =
     (stands-join (key-only mtimeKey (k .2) .0) (v .0), v .1)
   where
     value : (a x p : ℕ) → byteAt s a ≡ got x p
-        → choose (eqb x 0xF6) (got Null p) (then (integerAt s a) (λ h next. got (Integer (eqb (h .major) 1) (h .number)) next)) ≡ got t next
+        → choose (eqb x 0xF6) (got Null p) (then (integerAt s a) (λ (h, next). got (Integer (eqb (h .major) 1) (h .number)) next)) ≡ got t next
         → Stands s a (mtimeOf t) next × (mtimeAllowed t ≡ true)
     value a x p b = either (λ (g : Got Mtime). g ≡ got t next → Stands s a (mtimeOf t) next × (mtimeAllowed t ≡ true)) (eqb x 0xF6) null whole
       where
         null : eqb x 0xF6 ≡ true → got Null p ≡ got t next → Stands s a (mtimeOf t) next × (mtimeAllowed t ≡ true)
         null q g =
-            let f : Null ≡ t = cc in
-            let n : p ≡ next = cc in
-            subst (λ (t : Mtime). Stands s a (mtimeOf t) next × (mtimeAllowed t ≡ true)) f
-            (stands-as (ap (λ (z : ℕ). z ∷ []) (eqb-true x 0xF6 q)) n (byte-only b), refl)
+            subst (λ (t : Mtime). Stands s a (mtimeOf t) next × (mtimeAllowed t ≡ true)) (got-value g)
+            (stands-as (ap (λ (z : ℕ). z ∷ []) (eqb-true x 0xF6 q)) (got-next g) (byte-only b), refl)
 
-        whole : eqb x 0xF6 ≡ false → then (integerAt s a) (λ h next. got (Integer (eqb (h .major) 1) (h .number)) next) ≡ got t next
+        whole : eqb x 0xF6 ≡ false → then (integerAt s a) (λ (h, next). got (Integer (eqb (h .major) 1) (h .number)) next) ≡ got t next
             → Stands s a (mtimeOf t) next × (mtimeAllowed t ≡ true)
         whole q g =
-            let i = then-passed (integerAt s a) (λ h next. got (Integer (eqb (h .major) 1) (h .number)) next) g in
+            let i = then-passed (integerAt s a) (λ (h, next). got (Integer (eqb (h .major) 1) (h .number)) next) g in
             let r = integer-only y (i .2) in
-            let f : Integer (eqb (i .0 .major) 1) (i .0 .number) ≡ t = cc (i .3) in
-            let n : i .1 ≡ next = cc (i .3) in
+            let f : Integer (eqb (i .0 .major) 1) (i .0 .number) ≡ t = got-value (i .3) in
+            let n : i .1 ≡ next = got-next (i .3) in
             subst (λ (t : Mtime). Stands s a (mtimeOf t) next × (mtimeAllowed t ≡ true)) f
             (stands-as refl n (r .0), lt-ltb (i .0 .number) 9223372036854775808 (r .1))
 
 -- ---- the path
 
 pub path-back : {s : List ℕ} {at next : ℕ} (prev path : List ℕ) → pathAllowed path ≡ true → below prev path ≡ true → Stands s at (stringFieldOf pathKey 3 path) next
-    → (v : Place) × (pathAt s at prev ≡ got v next) × (partAt s v ≡ path)
+    → (v : Span) × (pathAt s at prev ≡ got v next) × (partAt s v ≡ path)
 unfolding pathAt
 path-back {s} {at} prev path a b h =
     let l = allowed-length path a in
@@ -140,17 +140,17 @@ path-back {s} {at} prev path a b h =
     let e = r .2 .part in
     (r .0, rw (r .1) (rw (e, a, b)), e)
 
-pub path-only : {s : List ℕ} {at next : ℕ} (prev : List ℕ) {v : Place} → Bytes s → pathAt s at prev ≡ got v next
-    → Stands s at (stringFieldOf pathKey 3 (partAt s v)) next × Named s prev (placed v)
+pub path-only : {s : List ℕ} {at next : ℕ} (prev : List ℕ) {v : Span} → Bytes s → pathAt s at prev ≡ got v next
+    → Stands s at (stringFieldOf pathKey 3 (partAt s v)) next × Named s prev v
 unfolding pathAt
 path-only {s} {at} {next} prev {v} y e =
     let t = then-passed (stringFieldAt s at pathKey 3 pathLeast pathMost 20) _ e in
     let u = passed (pathAllowed (partAt s (t .0))) _ 20 (t .3) in
     let w = passed (below prev (partAt s (t .0))) (got (t .0) (t .1)) 20 (u .1) in
-    let f : t .0 ≡ v = cc (w .1) in
-    let n : t .1 ≡ next = cc (w .1) in
+    let f : t .0 ≡ v = got-value (w .1) in
+    let n : t .1 ≡ next = got-next (w .1) in
     let i = string-field-within s at pathKey 3 pathLeast pathMost 20 (t .2) in
-    subst (λ (v : Place). Stands s at (stringFieldOf pathKey 3 (partAt s v)) next × Named s prev (placed v)) f (
+    subst (λ (v : Span). Stands s at (stringFieldOf pathKey 3 (partAt s v)) next × Named s prev v) f (
       stands-as refl n (string-field-only pathKey 3 pathLeast pathMost 20 y (t .2) .0),
       record { within = omega (arith, i .0, i .1); permitted = u .0; above = w .0 },
     )
@@ -192,7 +192,7 @@ file-back {s} {at} {next} prev e g t₀ =
     let p = path-back prev (e .path) (g .permitted) (g .above) (stands-first P (Z ++ M) t₂) in
     let z = number-field-back sizeKey 0 4294967295 (e .size) (omega arith) (omega (arith, g .sized)) (omega arith) (g .sized) (stands-first Z M t₃) in
     let m = mtime-back (e .mtime) (g .dated) t₄ in (
-      record { hash = placed (h .0); path = placed (p .0); size = e .size; mtime = e .mtime },
+      record { hash = h .0; path = p .0; size = e .size; mtime = e .mtime },
       rw (one-back 0xA4 (stands-first (0xA4 ∷ []) (H ++ (P ++ (Z ++ M))) t₀), h .1, p .1, z, m),
       ap₂ (λ (x y : List ℕ). record { hash = x; path = y; size = e .size; mtime = e .mtime }) (h .2 .part) (p .2),
     )
@@ -205,8 +205,8 @@ file-only {s} {at} {next} prev {f} y e =
     let t₃ = then-passed (pathAt s (t₂ .1) prev) _ (t₂ .3) in
     let t₄ = then-passed (numberFieldAt s (t₃ .1) sizeKey 0 4294967295) _ (t₃ .3) in
     let t₅ = then-passed (mtimeAt s (t₄ .1)) _ (t₄ .3) in
-    let v : _≡_ {A = File} (record { hash = placed (t₂ .0); path = placed (t₃ .0); size = t₄ .0; mtime = t₅ .0 }) f = cc (t₅ .3) in
-    let n : t₅ .1 ≡ next = cc (t₅ .3) in
+    let v : _≡_ {A = File} (record { hash = t₂ .0; path = t₃ .0; size = t₄ .0; mtime = t₅ .0 }) f = got-value (t₅ .3) in
+    let n : t₅ .1 ≡ next = got-next (t₅ .3) in
     let h = string-field-only hashKey 2 32 32 19 y (t₂ .2) in
     let w = string-field-within s (t₁ .1) hashKey 2 32 32 19 (t₂ .2) in
     let p = path-only prev y (t₃ .2) in
@@ -233,18 +233,18 @@ file-within s at prev {f} {next} e =
     let t₃ = then-passed (pathAt s (t₂ .1) prev) _ (t₂ .3) in
     let t₄ = then-passed (numberFieldAt s (t₃ .1) sizeKey 0 4294967295) _ (t₃ .3) in
     let t₅ = then-passed (mtimeAt s (t₄ .1)) _ (t₄ .3) in
-    let v : _≡_ {A = File} (record { hash = placed (t₂ .0); path = placed (t₃ .0); size = t₄ .0; mtime = t₅ .0 }) f = cc (t₅ .3) in
+    let v : _≡_ {A = File} (record { hash = t₂ .0; path = t₃ .0; size = t₄ .0; mtime = t₅ .0 }) f = got-value (t₅ .3) in
     let w = string-field-within s (t₁ .1) hashKey 2 32 32 19 (t₂ .2) in
     let p = path-within s (t₂ .1) prev (t₃ .2) in
     let z = number-field-within s (t₃ .1) sizeKey 0 4294967295 (t₄ .2) in
     subst (λ (f : File). (f .hash .start + 32 ≤ length s) × (f .hash .len ≡ 32) × (f .path .start + f .path .len ≤ length s) × (f .size ≤ 4294967295)) v
     (omega (arith, w .0, w .1, w .2), omega (arith, w .2, w .3), p, z .1)
   where
-    path-within : (s : List ℕ) (at : ℕ) (prev : List ℕ) {v : Place} {next : ℕ} → pathAt s at prev ≡ got v next → v .start + v .len ≤ length s
+    path-within : (s : List ℕ) (at : ℕ) (prev : List ℕ) {v : Span} {next : ℕ} → pathAt s at prev ≡ got v next → v .start + v .len ≤ length s
     path-within s at prev {v} {next} e =
         let t = then-passed (stringFieldAt s at pathKey 3 pathLeast pathMost 20) _ e in
         let u = passed (pathAllowed (partAt s (t .0))) _ 20 (t .3) in
         let w = passed (below prev (partAt s (t .0))) (got (t .0) (t .1)) 20 (u .1) in
-        let f : t .0 ≡ v = cc (w .1) in
+        let f : t .0 ≡ v = got-value (w .1) in
         let i = string-field-within s at pathKey 3 pathLeast pathMost 20 (t .2) in
-        subst (λ (v : Place). v .start + v .len ≤ length s) f (omega (arith, i .0, i .1))
+        subst (λ (v : Span). v .start + v .len ≤ length s) f (omega (arith, i .0, i .1))

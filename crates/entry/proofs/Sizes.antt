@@ -6,20 +6,20 @@ use mathlib.Core.List.{List, _++_}
 use native.Mathlib.Omega.{arith}
 use lib.ListN.{length, drop, length-append, length-drop}
 use lib.Seq.{length-take-le}
+use Rattle.wire.specs.declared.Span.{Span}
+use Rattle.wire.specs.Span.{partAt}
 use Rattle.cbor.specs.Form.{headSize, stringOf, stringFieldOf, numberFieldOf}
 use Rattle.cbor.specs.Names.{hashKey, pathKey, sizeKey, mtimeKey}
 use Rattle.cbor.proofs.Sizes.{length-head, length-string, length-string-field, length-number-field, length-field-two, size-one, size-most}
 use Rattle.path.specs.Path.{pathMost}
-use Rattle.entry.specs.File.{partIn}
 use Rattle.entry.specs.Writing.{Entry, entryIn, entryOf, fileOf, integerOf, mtimeOf}
 use Rattle.entry.specs.Parts.{mtimeSize, fileSize}
-use Rattle.entry.specs.declared.Part.{Part}
 use Rattle.entry.specs.declared.Mtime.{Mtime}
 use Rattle.entry.specs.declared.Mtime.the-variants.{Null, Integer}
 use Rattle.entry.specs.declared.File.{File}
 
 -- a part that does not reach past the pool has its length
-pub part-length : (pool : List ℕ) (p : Part) → p .start + p .len ≤ length pool → length (partIn pool p) ≡ p .len
+pub part-length : (pool : List ℕ) (p : Span) → p .start + p .len ≤ length pool → length (partAt pool p) ≡ p .len
 part-length pool p h = length-take-le (p .len) (drop (p .start) pool) (omega (arith, length-drop (p .start) pool))
 
 pub mtime-length : (t : Mtime) → length (mtimeOf t) ≡ mtimeSize t

@@ -8,13 +8,14 @@ use borrow.Author.Tests.{leb-true, eqb-true, le-leb, lt-leb, eq-eqb}
 use lib.Dec.{ltb, leb, eqb}
 use lib.ListN.{length, take, drop, length-drop, drop-of-length-le}
 use lib.Seq.{take-nil, take-all}
-use Rattle.wire.specs.Answer.{choose, done, failed}
-use Rattle.wire.specs.Writing.{Verdict, bytes, fault, told, outcome}
+use Rattle.wire.specs.Answer.{choose, Answer, done, refusedAt, refused}
+use Rattle.wire.specs.Writing.{told, outcome}
 use Rattle.wire.specs.declared.Wrote.{Wrote}
 use Rattle.wire.specs.declared.Wrote.the-variants.{Done, Refused}
-use Rattle.wire.proofs.Cases.{both-hold, said-no, said-yes}
+use Rattle.wire.proofs.Cases.{both-hold, said-no, said-yes, passed, not-done, done-value}
 use Rattle.wire.proofs.Overs.{over-none, over-out}
-use Rattle.wire.proofs.Writes.{passed, bytes-injective}
+use Rattle.wire.specs.declared.Span.{Span}
+use Rattle.wire.specs.Span.{partAt}
 use Rattle.path.specs.Order.{below}
 use Rattle.path.specs.Path.{pathMost, pathAllowed}
 use Rattle.path.proofs.Paths.{allowed-length}
@@ -22,10 +23,8 @@ use Rattle.cbor.specs.Form.{headOf, headSize, stringOf, stringFieldOf, numberFi
 use Rattle.cbor.specs.Names.{hashKey, pathKey, sizeKey, mtimeKey}
 use Rattle.cbor.specs.Put.{past, Put}
 use Rattle.cbor.proofs.Runs.{Left, left-all, left-on, left-last, put-none}
-use Rattle.entry.specs.File.{partIn}
 use Rattle.entry.specs.Writing.{entryIn, entryOf, fileOf, integerOf, mtimeOf, held, digestIn, pathIn, mtimeAllowed, fileVerdict, formOf}
 use Rattle.entry.specs.Parts.{mtimeFieldOf, mtimeSize, fileSize}
-use Rattle.entry.specs.declared.Part.{Part}
 use Rattle.entry.specs.declared.Mtime.{Mtime}
 use Rattle.entry.specs.declared.Mtime.the-variants.{Null, Integer}
 use Rattle.entry.specs.declared.File.{File}
@@ -33,25 +32,25 @@ use Rattle.entry.proofs.Sizes.{part-length, file-length, file-most}
 
 -- ---- `part`
 
-module _ (pool : List ℕ) (p : Part) where
-  pub part-none : length pool < p .start → take (length pool - length pool) (drop (length pool) pool) ≡ partIn pool p
+module _ (pool : List ℕ) (p : Span) where
+  pub part-none : length pool < p .start → take (length pool - length pool) (drop (length pool) pool) ≡ partAt pool p
   part-none h =
       let n : length pool - length pool ≡ 0 = omega arith in
       ap (λ (k : ℕ). take k (drop (length pool) pool)) n
       ∙ sym (take-nil (p .len))
       ∙ ap (take (p .len)) (sym (drop-of-length-le pool {i = p .start} (omega arith)))
 
-  pub part-rest : p .start ≤ length pool → length pool - p .start < p .len → take (length pool - p .start) (drop (p .start) pool) ≡ partIn pool p
+  pub part-rest : p .start ≤ length pool → length pool - p .start < p .len → take (length pool - p .start) (drop (p .start) pool) ≡ partAt pool p
   part-rest h l =
       take-all (length pool - p .start) (drop (p .start) pool) (omega (arith, length-drop (p .start) pool))
       ∙ sym (take-all (p .len) (drop (p .start) pool) (omega (arith, length-drop (p .start) pool)))
 
-  pub part-whole : take (p .start + p .len - p .start) (drop (p .start) pool) ≡ partIn pool p
+  pub part-whole : take (p .start + p .len - p .start) (drop (p .start) pool) ≡ partAt pool p
   part-whole = let n : p .start + p .len - p .start ≡ p .len = omega arith in ap (λ (k : ℕ). take k (drop (p .start) pool)) n
 
 -- ---- the tests
 
-module _ (pool : List ℕ) (p : Part) where
+module _ (pool : List ℕ) (p : Span) where
   pub held-outside : length pool < p .start → false ≡ held pool p
   unfolding held
   held-outside h = sym (lt-leb (p .start + p .len) (length pool) (omega arith))
@@ -66,11 +65,11 @@ module _ (pool : List ℕ) (p : Part) where
     held-all l = sym (le-leb (p .start + p .len) (length pool) (omega arith))
 
 -- what the bytes at a place decide, by the bytes that the code looks at
-pub path-bad : (pool prev bs : List ℕ) (p : Part) (d a : Bool) → d ≡ held pool p → not d ≡ false → bs ≡ partIn pool p → a ≡ pathAllowed bs → not a ≡ true → false ≡ pathIn pool prev p
+pub path-bad : (pool prev bs : List ℕ) (p : Span) (d a : Bool) → d ≡ held pool p → not d ≡ false → bs ≡ partAt pool p → a ≡ pathAllowed bs → not a ≡ true → false ≡ pathIn pool prev p
 unfolding pathIn
 path-bad pool prev bs p d a h k e q l = rw (said-yes d _ h k, ← e, said-no a _ q l)
 
-pub path-decides : (pool prev bs : List ℕ) (p : Part) (d a b : Bool) → d ≡ held pool p → not d ≡ false → bs ≡ partIn pool p → a ≡ pathAllowed bs → not a ≡ false → b ≡ below prev bs
+pub path-decides : (pool prev bs : List ℕ) (p : Span) (d a b : Bool) → d ≡ held pool p → not d ≡ false → bs ≡ partAt pool p → a ≡ pathAllowed bs → not a ≡ false → b ≡ below prev bs
     → b ≡ pathIn pool prev p
 unfolding pathIn
 path-decides pool prev bs p d a b h k e q l w = rw (said-yes d _ h k, ← e, said-yes a _ q l) w
@@ -94,42 +93,42 @@ module _ (t : Mtime) where
 
 -- ---- what the tests say
 
-pub held-within : (pool : List ℕ) (p : Part) → held pool p ≡ true → p .start + p .len ≤ length pool
+pub held-within : (pool : List ℕ) (p : Span) → held pool p ≡ true → p .start + p .len ≤ length pool
 unfolding held
 held-within pool p h = leb-true (p .start + p .len) (length pool) h
 
-pub within-held : (pool : List ℕ) (p : Part) → p .start + p .len ≤ length pool → held pool p ≡ true
+pub within-held : (pool : List ℕ) (p : Span) → p .start + p .len ≤ length pool → held pool p ≡ true
 unfolding held
 within-held pool p h = le-leb (p .start + p .len) (length pool) h
 
-pub digest-within : (pool : List ℕ) (p : Part) → digestIn pool p ≡ true → (p .start + p .len ≤ length pool) × (p .len ≡ 32)
+pub digest-within : (pool : List ℕ) (p : Span) → digestIn pool p ≡ true → (p .start + p .len ≤ length pool) × (p .len ≡ 32)
 unfolding digestIn
 digest-within pool p h =
     let b = both-hold (held pool p) (eqb (p .len) 32) h in
     (held-within pool p (b .0), eqb-true (p .len) 32 (b .1))
 
-pub within-digest : (pool : List ℕ) (p : Part) → p .start + p .len ≤ length pool → p .len ≡ 32 → digestIn pool p ≡ true
+pub within-digest : (pool : List ℕ) (p : Span) → p .start + p .len ≤ length pool → p .len ≡ 32 → digestIn pool p ≡ true
 unfolding digestIn
 within-digest pool p h l = rw (within-held pool p h) (eq-eqb (p .len) 32 l)
 
-pub record Named (pool prev : List ℕ) (p : Part) : Type 0 where
+pub record Named (pool prev : List ℕ) (p : Span) : Type 0 where
   pub within : p .start + p .len ≤ length pool
-  pub permitted : pathAllowed (partIn pool p) ≡ true
-  pub above : below prev (partIn pool p) ≡ true
+  pub permitted : pathAllowed (partAt pool p) ≡ true
+  pub above : below prev (partAt pool p) ≡ true
 
-pub path-named : (pool prev : List ℕ) (p : Part) → pathIn pool prev p ≡ true → Named pool prev p
+pub path-named : (pool prev : List ℕ) (p : Span) → pathIn pool prev p ≡ true → Named pool prev p
 unfolding pathIn
 path-named pool prev p h =
-    let b = both-hold (held pool p) (pathAllowed (partIn pool p) && below prev (partIn pool p)) h in
-    let d = both-hold (pathAllowed (partIn pool p)) (below prev (partIn pool p)) (b .1) in
+    let b = both-hold (held pool p) (pathAllowed (partAt pool p) && below prev (partAt pool p)) h in
+    let d = both-hold (pathAllowed (partAt pool p)) (below prev (partAt pool p)) (b .1) in
     record { within = held-within pool p (b .0); permitted = d .0; above = d .1 }
 
-pub named-path : (pool prev : List ℕ) (p : Part) → Named pool prev p → pathIn pool prev p ≡ true
+pub named-path : (pool prev : List ℕ) (p : Span) → Named pool prev p → pathIn pool prev p ≡ true
 unfolding pathIn
 named-path pool prev p n = rw (within-held pool p (n .within), n .permitted) (n .above)
 
-pub named-length : (pool prev : List ℕ) (p : Part) → Named pool prev p → p .len ≤ pathMost
-named-length pool prev p n = omega (arith, part-length pool p (n .within), allowed-length (partIn pool p) (n .permitted) .1)
+pub named-length : (pool prev : List ℕ) (p : Span) → Named pool prev p → p .len ≤ pathMost
+named-length pool prev p n = omega (arith, part-length pool p (n .within), allowed-length (partAt pool p) (n .permitted) .1)
 
 -- the values of a file that may be written
 pub record Good (pool prev : List ℕ) (f : File) : Type 0 where
@@ -140,7 +139,7 @@ pub record Good (pool prev : List ℕ) (f : File) : Type 0 where
   pub dated : mtimeAllowed (f .mtime) ≡ true
 
 module _ (pool prev : List ℕ) (f : File) where
-  pub verdict-good : {bs : List ℕ} → fileVerdict pool prev f ≡ bytes bs → Good pool prev f × (bs ≡ fileOf pool f)
+  pub verdict-good : {bs : List ℕ} → fileVerdict pool prev f ≡ done bs → Good pool prev f × (bs ≡ fileOf pool f)
   unfolding fileVerdict
   verdict-good h =
       let a = passed (digestIn pool (f .hash)) _ 19 h in
@@ -155,10 +154,10 @@ module _ (pool prev : List ℕ) (f : File) where
           sized = leb-true (f .size) 4294967295 (c .0);
           dated = d .0;
         },
-        sym (bytes-injective (d .1)),
+        sym (done-value (d .1)),
       )
 
-  pub good-verdict : Good pool prev f → fileVerdict pool prev f ≡ bytes (fileOf pool f)
+  pub good-verdict : Good pool prev f → fileVerdict pool prev f ≡ done (fileOf pool f)
   unfolding fileVerdict
   good-verdict g =
       rw (
@@ -184,17 +183,17 @@ module _ (pool prev : List ℕ) (f : File) (e : Bool) (q : e ≡ pathIn pool pre
       let h = digest-within pool (f .hash) (said-yes d _ p x) in
       let g : Good pool prev f =
       record { hash-within = h .0; hash-long = h .1; named = path-named pool prev (f .path) (said-yes e _ q y); sized = z; dated = said-yes t _ r w } in
-      ap (done {A = ℕ}) (k ∙ sym (good-length pool prev f g .0)) ∙ ap outcome (sym (good-verdict pool prev f g))
+      ap done (k ∙ sym (good-length pool prev f g .0)) ∙ ap outcome (sym (good-verdict pool prev f g))
 
 -- ---- what an answer says of its verdict
 
-pub done-verdict : (v : Verdict) (j : Wrote) (n : ℕ) → told j ≡ outcome v → j ≡ Done n → (bs : List ℕ) × (v ≡ bytes bs) × (length bs ≡ n)
-done-verdict (bytes bs) j n e k = let h : done n ≡ done (length bs) = ap told (sym k) ∙ e in let l : length bs ≡ n = cc in (bs, refl, l)
-done-verdict (fault f) j n e k = let h : done n ≡ failed f = ap told (sym k) ∙ e in let z : _≡_ {A = ℕ} 0 1 = cc in absurd (omega arith)
+pub done-verdict : (v : Answer (List ℕ)) (j : Wrote) (n : ℕ) → told j ≡ outcome v → j ≡ Done n → (bs : List ℕ) × (v ≡ done bs) × (length bs ≡ n)
+done-verdict (done bs) j n e k = (bs, refl, sym (done-value (ap told (sym k) ∙ e)))
+done-verdict (refusedAt f place) j n e k = not-done (sym (ap told (sym k) ∙ e))
 
-pub refused-verdict : (v : Verdict) (j : Wrote) (n : ℕ) → told j ≡ outcome v → j ≡ Refused n → v ≡ fault n
-refused-verdict (bytes bs) j n e k = let h : failed n ≡ done (length bs) = ap told (sym k) ∙ e in let z : _≡_ {A = ℕ} 0 1 = cc in absurd (omega arith)
-refused-verdict (fault f) j n e k = let h : failed {A = ℕ} n ≡ failed f = ap told (sym k) ∙ e in let l : f ≡ n = cc in ap fault l
+pub refused-verdict : (v : Answer (List ℕ)) (j : Wrote) (n : ℕ) → told j ≡ outcome v → j ≡ Refused n → v ≡ refused n
+refused-verdict (done bs) j n e k = not-done (ap told (sym k) ∙ e)
+refused-verdict (refusedAt f place) j n e k = let h : refused {A = ℕ} n ≡ refusedAt f place = ap told (sym k) ∙ e in cc
 
 -- ---- `file`
 
@@ -212,7 +211,7 @@ put-past at bs x h =
     let l : length x < at + length bs = omega arith in
     record { answer = rw (lt-leb (at + length bs) (length x) l); output = sym (over-out at bs x l) }
 
-module _ (v : Verdict) (j : Wrote) (e : told j ≡ outcome v) (at : ℕ) (x : List ℕ) where
+module _ (v : Answer (List ℕ)) (j : Wrote) (e : told j ≡ outcome v) (at : ℕ) (x : List ℕ) where
   pub put-refused : (n : ℕ) → j ≡ Refused n → Put at (formOf v) x x at
   unfolding formOf
   put-refused n k = rw (refused-verdict v j n e k) (put-nothing at x)
@@ -261,14 +260,14 @@ module _ (t : Mtime) (at : ℕ) (x : List ℕ) (l : at + length (mtimeFieldOf t)
   unfolding mtimeOf
   integer-run negative n e w = mtime-run (rw e w)
 
-module _ (pool : List ℕ) (f : File) (at : ℕ) (x : List ℕ) (l : at + length (fileOf pool f) ≤ length x) (hash path : List ℕ) (h : hash ≡ partIn pool (f .hash)) (p : path ≡ partIn pool (f .path))
+module _ (pool : List ℕ) (f : File) (at : ℕ) (x : List ℕ) (l : at + length (fileOf pool f) ≤ length x) (hash path : List ℕ) (h : hash ≡ partAt pool (f .hash)) (p : path ≡ partAt pool (f .path))
     (a b c d : ℕ) (x₁ x₂ x₃ x₄ : List ℕ) (w₁ : Put at (0xA4 ∷ []) x x₁ a) (w₂ : Put a (stringFieldOf hashKey 2 hash) x₁ x₂ b)
     (w₃ : Put b (stringFieldOf pathKey 3 path) x₂ x₃ c) (w₄ : Put c (numberFieldOf sizeKey (f .size)) x₃ x₄ d) where
   run-left : Left at (fileOf pool f) x x₄ d (mtimeFieldOf (f .mtime))
   unfolding fileOf entryOf entryIn mtimeFieldOf
   run-left =
-      let v₂ : Put a (stringFieldOf hashKey 2 (partIn pool (f .hash))) x₁ x₂ b = rw (← h) w₂ in
-      let v₃ : Put b (stringFieldOf pathKey 3 (partIn pool (f .path))) x₂ x₃ c = rw (← p) w₃ in
+      let v₂ : Put a (stringFieldOf hashKey 2 (partAt pool (f .hash))) x₁ x₂ b = rw (← h) w₂ in
+      let v₃ : Put b (stringFieldOf pathKey 3 (partAt pool (f .path))) x₂ x₃ c = rw (← p) w₃ in
       left-on (left-on (left-on (left-on (left-all at (fileOf pool f) x l) w₁) v₂) v₃) w₄
 
   pub run-room : d + length (mtimeFieldOf (f .mtime)) ≤ length x₄

@@ -1,5 +1,5 @@
 -- What `file` answers, as document 01's number and values.
-use Rattle.wire.specs.Answer.{Got, got, refused}
+use Rattle.wire.specs.Answer.{refused, Got, got}
 use Rattle.entry.specs.declared.File.{File}
 use Rattle.entry.specs.declared.FileRead.{FileRead}
 use Rattle.entry.specs.declared.FileRead.the-variants.{Value, Refused}

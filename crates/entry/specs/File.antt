@@ -2,48 +2,40 @@
 use Prim.Native.Nat.{ℕ}
 use mathlib.Core.List.{List}
 use lib.Dec.{ltb, eqb}
-use lib.ListN.{take, drop}
-use Rattle.wire.specs.Answer.{choose, Got, got, then}
+use Rattle.wire.specs.Answer.{choose, then, demand, Got, got}
+use Rattle.wire.specs.declared.Span.{Span}
+use Rattle.wire.specs.Span.{partAt}
 use Rattle.path.specs.Order.{below}
 use Rattle.path.specs.Path.{pathLeast, pathMost, pathAllowed}
-use Rattle.cbor.specs.Item.{demand, byteAt, oneAt, Head, headAt, Place, partAt, keyAt, stringFieldAt, numberFieldAt}
+use Rattle.cbor.specs.Item.{byteAt, oneAt, Head, headAt, keyAt, stringFieldAt, numberFieldAt}
 use Rattle.cbor.specs.Names.{hashKey, pathKey, sizeKey, mtimeKey}
-use Rattle.entry.specs.declared.Part.{Part}
 use Rattle.entry.specs.declared.Mtime.{Mtime}
 use Rattle.entry.specs.declared.Mtime.the-variants.{Null, Integer}
 use Rattle.entry.specs.declared.File.{File}
 
--- where the contents of a string are, as the code has it
-abbrev pub placed : Place → Part
-placed v = record { start = v .start; len = v .len }
-
--- the bytes at a place of a pool: a value that was read has its places in the input
-abbrev pub partIn : List ℕ → Part → List ℕ
-partIn pool p = take (p .len) (drop (p .start) pool)
-
 -- "integers in `created` and `mtime` run from -2^63 to 2^63 - 1": of major type 1 the number n stands for -1 - n
 unfoldable pub integerAt : List ℕ → ℕ → Got Head
-integerAt s at = then (headAt s at 0) (λ h next. demand (ltb (h .number) 9223372036854775808) 19 (got h next))
+integerAt s at = then (headAt s at 0) (λ (h, next). demand (ltb (h .number) 9223372036854775808) 19 (got h next))
 
 -- "mtime may be null", which is F6
 unfoldable pub mtimeAt : List ℕ → ℕ → Got Mtime
 mtimeAt s at =
-    then (keyAt s at mtimeKey) (λ _ a.
-    then (byteAt s a) (λ x p.
-    choose (eqb x 0xF6) (got Null p) (then (integerAt s a) (λ h next. got (Integer (eqb (h .major) 1) (h .number)) next))))
+    then (keyAt s at mtimeKey) (λ (_, a).
+    then (byteAt s a) (λ (x, p).
+    choose (eqb x 0xF6) (got Null p) (then (integerAt s a) (λ (h, next). got (Integer (eqb (h .major) 1) (h .number)) next))))
 
 -- a path that is allowed, and above prev, the path before it: its length is judged before its contents
-unfoldable pub pathAt : List ℕ → ℕ → List ℕ → Got Place
+unfoldable pub pathAt : List ℕ → ℕ → List ℕ → Got Span
 pathAt s at prev =
-    then (stringFieldAt s at pathKey 3 pathLeast pathMost 20) (λ v next.
+    then (stringFieldAt s at pathKey 3 pathLeast pathMost 20) (λ (v, next).
     demand (pathAllowed (partAt s v)) 20 (demand (below prev (partAt s v)) 20 (got v next)))
 
 -- head A4: `hash`, `path`, `size`, `mtime`
 unfoldable pub fileAt : List ℕ → ℕ → List ℕ → Got File
 fileAt s at prev =
-    then (oneAt s at 0xA4) (λ _ a.
-    then (stringFieldAt s a hashKey 2 32 32 19) (λ hash b.
-    then (pathAt s b prev) (λ path c.
-    then (numberFieldAt s c sizeKey 0 4294967295) (λ size d.
-    then (mtimeAt s d) (λ mtime next.
-    got (record { hash = placed hash; path = placed path; size = size; mtime = mtime }) next)))))
+    then (oneAt s at 0xA4) (λ (_, a).
+    then (stringFieldAt s a hashKey 2 32 32 19) (λ (hash, b).
+    then (pathAt s b prev) (λ (path, c).
+    then (numberFieldAt s c sizeKey 0 4294967295) (λ (size, d).
+    then (mtimeAt s d) (λ (mtime, next).
+    got (record { hash = hash; path = path; size = size; mtime = mtime }) next)))))

@@ -1,7 +1,7 @@
 -- What a part of the code answers, for the contract of a private function: nothing here is promised to a caller.
 use Prim.Native.Nat.{ℕ, _+_}
 use mathlib.Core.List.{List, _++_}
-use Rattle.wire.specs.Answer.{Got, got, refused}
+use Rattle.wire.specs.Answer.{refused, Got, got}
 use Rattle.cbor.specs.Form.{headSize, stringOf}
 use Rattle.cbor.specs.Names.{mtimeKey}
 use Rattle.entry.specs.Writing.{mtimeOf}

@@ -4,14 +4,13 @@ use mathlib.Core.Bool.{Bool, true, _&&_}
 use mathlib.Core.List.{List, [], _∷_, _++_}
 use lib.Dec.{ltb, leb, eqb}
 use lib.ListN.{length}
-use Rattle.wire.specs.Answer.{choose}
-use Rattle.wire.specs.Writing.{Verdict, bytes, fault}
+use Rattle.wire.specs.Answer.{choose, Answer, done, refusedAt, demand}
+use Rattle.wire.specs.declared.Span.{Span}
+use Rattle.wire.specs.Span.{partAt}
 use Rattle.path.specs.Order.{below}
 use Rattle.path.specs.Path.{pathAllowed}
 use Rattle.cbor.specs.Form.{headOf, stringOf, stringFieldOf, numberFieldOf}
 use Rattle.cbor.specs.Names.{hashKey, pathKey, sizeKey, mtimeKey}
-use Rattle.entry.specs.File.{partIn}
-use Rattle.entry.specs.declared.Part.{Part}
 use Rattle.entry.specs.declared.Mtime.{Mtime}
 use Rattle.entry.specs.declared.Mtime.the-variants.{Null, Integer}
 use Rattle.entry.specs.declared.File.{File}
@@ -25,7 +24,7 @@ pub record Entry : Type 0 where
 
 -- what a file says whose places are in a pool
 unfoldable pub entryIn : List ℕ → File → Entry
-entryIn pool f = record { hash = partIn pool (f .hash); path = partIn pool (f .path); size = f .size; mtime = f .mtime }
+entryIn pool f = record { hash = partAt pool (f .hash); path = partAt pool (f .path); size = f .size; mtime = f .mtime }
 
 -- n, or -1 - n
 unfoldable pub integerOf : Bool → ℕ → List ℕ
@@ -48,16 +47,16 @@ fileOf pool f = entryOf (entryIn pool f)
 -- ---- which values may be written
 
 -- the place does not reach past the pool
-unfoldable pub held : List ℕ → Part → Bool
+unfoldable pub held : List ℕ → Span → Bool
 held pool p = leb (p .start + p .len) (length pool)
 
 -- a hash or a seed: 32 bytes
-unfoldable pub digestIn : List ℕ → Part → Bool
+unfoldable pub digestIn : List ℕ → Span → Bool
 digestIn pool p = held pool p && eqb (p .len) 32
 
 -- a path that is allowed and above prev
-unfoldable pub pathIn : List ℕ → List ℕ → Part → Bool
-pathIn pool prev p = held pool p && (pathAllowed (partIn pool p) && below prev (partIn pool p))
+unfoldable pub pathIn : List ℕ → List ℕ → Span → Bool
+pathIn pool prev p = held pool p && (pathAllowed (partAt pool p) && below prev (partAt pool p))
 
 -- from -2^63 to 2^63 - 1, or null
 unfoldable pub mtimeAllowed : Mtime → Bool
@@ -65,15 +64,15 @@ mtimeAllowed Null = true
 mtimeAllowed (Integer negative n) = ltb n 9223372036854775808
 
 -- a value out of range is 19, a path 20, in the order of the keys
-unfoldable pub fileVerdict : List ℕ → List ℕ → File → Verdict
+unfoldable pub fileVerdict : List ℕ → List ℕ → File → Answer (List ℕ)
 fileVerdict pool prev f =
-    choose (digestIn pool (f .hash))
-    (choose (pathIn pool prev (f .path))
-    (choose (leb (f .size) 4294967295) (choose (mtimeAllowed (f .mtime)) (bytes (fileOf pool f)) (fault 19)) (fault 19))
-    (fault 20))
-    (fault 19)
+    demand (digestIn pool (f .hash)) 19
+    (demand (pathIn pool prev (f .path)) 20
+    (demand (leb (f .size) 4294967295) 19
+    (demand (mtimeAllowed (f .mtime)) 19
+    (done (fileOf pool f)))))
 
 -- what stands in a buffer for a verdict: nothing for a refusal
-unfoldable pub formOf : Verdict → List ℕ
-formOf (bytes bs) = bs
-formOf (fault e) = []
+unfoldable pub formOf : Answer (List ℕ) → List ℕ
+formOf (done bs) = bs
+formOf (refusedAt e place) = []

@@ -6,12 +6,7 @@ ghost use mathlib.Core.Path.{_≡_};
 ghost use Rattle.wire.specs.Answer.{numberOf};
 ghost use Rattle.entry.specs.Answer.{fileTold};
 ghost use Rattle.entry.specs.Parts.{mtimeTold};
-
-// A place in a pool of bytes. Of a file that was read the pool is the input.
-pub struct Part {
-    pub start: usize,
-    pub len: usize,
-}
+use wire::Span;
 
 pub enum Mtime {
     Null,
@@ -19,9 +14,10 @@ pub enum Mtime {
     Integer { negative: bool, n: u64 },
 }
 
+// Its hash and path stand in a pool of bytes. Of a file that was read the pool is the input.
 pub struct File {
-    pub hash: Part,
-    pub path: Part,
+    pub hash: Span,
+    pub path: Span,
     pub size: u64,
     pub mtime: Mtime,
 }

@@ -8,7 +8,6 @@ use super::File;
 use super::FileRead;
 use super::Mtime;
 use super::MtimeRead;
-use super::Part;
 use super::mtime_no;
 use cbor::BYTES;
 use cbor::HeadRead;
@@ -24,6 +23,7 @@ use cbor::step_no;
 use cbor::string_no;
 use wire::BAD_PATH;
 use wire::OUT_OF_RANGE;
+use wire::Span;
 
 // 2^63: an integer is n or -1 - n with n below it.
 const END: u64 = 0x8000000000000000;
@@ -102,12 +102,12 @@ pub fn file(s: &[u8], at: usize, prev: &[u8]) -> FileRead
     let StringRead::Value { start, len, next } = h else {
         return FileRead::Refused { no: string_no(h) };
     };
-    let hash = Part { start, len };
+    let hash = Span { start, len };
     let p = path_field(s, next, prev);
     let StringRead::Value { start, len, next } = p else {
         return FileRead::Refused { no: string_no(p) };
     };
-    let path = Part { start, len };
+    let path = Span { start, len };
     let z = cbor::read::number_field(s, next, b"size", 0, 0xFFFFFFFF);
     let NumberRead::Value { n: size, next } = z else {
         return FileRead::Refused { no: number_no(z) };

@@ -3,25 +3,25 @@ ghost use mathlib.Core.Path.{_≡_};
 ghost use Prim.Native.Nat.{_+_, _≤_};
 ghost use lib.ListN.{length};
 ghost use Rattle.wire.specs.Writing.{told, outcome};
+ghost use Rattle.wire.specs.Span.{partAt};
 ghost use Rattle.path.specs.Path.{pathMost};
 ghost use Rattle.cbor.specs.Put.{Put};
-ghost use Rattle.entry.specs.File.{partIn};
 ghost use Rattle.entry.specs.Writing.{integerOf, fileOf, held, digestIn, pathIn, mtimeAllowed, fileVerdict, formOf};
 ghost use Rattle.entry.specs.Parts.{mtimeFieldOf, mtimeSize, fileSize};
 use super::File;
 use super::Mtime;
-use super::Part;
 use cbor::BYTES;
 use cbor::INTEGER;
 use cbor::NEGATIVE;
 use cbor::TEXT;
 use wire::BAD_PATH;
 use wire::OUT_OF_RANGE;
+use wire::Span;
 use wire::Wrote;
 
 // The bytes at a place; of one that reaches past the pool those that are there.
-pub fn part(pool: &[u8], p: Part) -> &[u8]
-    ensures { λ r. ⌜ now r ≡ partIn (now (pool .entry)) p ⌝ }
+pub fn part(pool: &[u8], p: Span) -> &[u8]
+    ensures { λ r. ⌜ now r ≡ partAt (now (pool .entry)) p ⌝ }
 {
     let start = p.start;
     let len = p.len;
@@ -36,7 +36,7 @@ pub fn part(pool: &[u8], p: Part) -> &[u8]
     &pool[start..end]
 }
 
-fn holds(pool: &[u8], p: Part) -> bool
+fn holds(pool: &[u8], p: Span) -> bool
     ensures { λ r. ⌜ r ≡ held (now (pool .entry)) p ⌝ }
 {
     if pool.len() < p.start {
@@ -49,7 +49,7 @@ fn holds(pool: &[u8], p: Part) -> bool
 }
 
 // Whether a hash or a seed is at that place.
-pub fn digest(pool: &[u8], p: Part) -> bool
+pub fn digest(pool: &[u8], p: Span) -> bool
     ensures { λ r. ⌜ r ≡ digestIn (now (pool .entry)) p ⌝ }
 {
     if !holds(pool, p) {
@@ -58,7 +58,7 @@ pub fn digest(pool: &[u8], p: Part) -> bool
     p.len == 32
 }
 
-fn path_fits(pool: &[u8], prev: &[u8], p: Part) -> bool
+fn path_fits(pool: &[u8], prev: &[u8], p: Span) -> bool
     ensures { λ r. ⌜ r ≡ pathIn (now (pool .entry)) (now (prev .entry)) p ⌝ }
 {
     if !holds(pool, p) {

@@ -8,7 +8,7 @@ use borrow.Author.Tests.{eqb-true}
 use lib.Dec.{eqb}
 use lib.ListN.{length, take, length-append, replicate}
 use lib.Seq.{take-at}
-use Rattle.wire.specs.Answer.{Got, got, refused, numberOf}
+use Rattle.wire.specs.Answer.{Answer, done, refusedAt, numberOf, then, Got, got, valueOf}
 use Rattle.cbor.specs.Answer.{stepTold}
 use Rattle.cbor.specs.declared.StepRead.the-variants as step
 use Rattle.entry.specs.declared.File.{File}
@@ -16,7 +16,6 @@ use Rattle.manifest.specs.Manifest.{Listing, manifestAt}
 use Rattle.manifest.specs.Answer.{blankFile, padded, answerFor}
 use Rattle.manifest.specs.declared.ManifestRead.{ManifestRead}
 use Rattle.manifest.proofs.Rounds.{manifest-within}
-use Rattle.envelope.specs.Placed.{Placed, faulty, on, unplaced}
 use Rattle.envelope.specs.Envelope.{total, digests, contents, judged}
 
 -- the files of an array are those that were put into it
@@ -40,7 +39,7 @@ pub told-listed : (m : List ℕ) (r : ManifestRead) (next : ℕ) → r ≡ answe
 told-listed m r next e a = go (manifestAt m) refl e
   where
     go : (g : Got Listing) → manifestAt m ≡ g → r ≡ answerFor g → Listed m r
-    go (got v k) q h =
+    go (done (v, k)) q h =
         record {
           listing = v;
           next = k;
@@ -48,23 +47,23 @@ told-listed m r next e a = go (manifestAt m) refl e
           count-is = ap (λ (x : ManifestRead). x .value .count) h;
           files-are = ap (λ (x : ManifestRead). x .value .files) h;
         }
-    go (refused n) q h =
+    go (refusedAt n place) q h =
         let b : _≡_ (step.Refused n) (step.Past next) = sym (ap (λ (x : ManifestRead). x .answer) h) ∙ a in
         let z : _≡_ {A = ℕ} 0 1 = cc in
         absurd (omega arith)
 
 -- the manifest was refused
 pub judge-refused : (m p : List ℕ) (r : ManifestRead) (e n : ℕ) → r ≡ answerFor (manifestAt m) → r .answer ≡ step.Refused e → n ≡ numberOf (stepTold (r .answer))
-    → faulty n 0 ≡ judged m p
+    → refusedAt n 0 ≡ judged m p
 unfolding judged
 judge-refused m p r e n h a w = go (manifestAt m) h
   where
-    go : (g : Got Listing) → r ≡ answerFor g → faulty n 0 ≡ on (unplaced g) (λ v. contents m (v .files) p)
-    go (got v k) q =
+    go : (g : Got Listing) → r ≡ answerFor g → refusedAt n 0 ≡ then (valueOf g) (λ v. contents m (v .files) p)
+    go (done (v, k)) q =
         let b : _≡_ (step.Past k) (step.Refused e) = sym (ap (λ (x : ManifestRead). x .answer) q) ∙ a in
         let z : _≡_ {A = ℕ} 0 1 = cc in
         absurd (omega arith)
-    go (refused k) q = ap (λ (i : ℕ). faulty i 0) (w ∙ ap (λ (x : ManifestRead). numberOf (stepTold (x .answer))) q)
+    go (refusedAt k place) q = ap (λ (i : ℕ). refusedAt i 0) (w ∙ ap (λ (x : ManifestRead). numberOf (stepTold (x .answer))) q)
 
 -- it was read: its files against the payload
 module _ (m p : List ℕ) (r : ManifestRead) (l : Listed m r) where
@@ -83,11 +82,11 @@ module _ (m p : List ℕ) (r : ManifestRead) (l : Listed m r) where
 
   judged-contents : judged m p ≡ contents m meant p
   unfolding judged
-  judged-contents = ap (λ (g : Got Listing). on (unplaced g) (λ v. contents m (v .files) p)) (l .read) ∙ ap (λ (fs : List File). contents m fs p) (sym meant-are)
+  judged-contents = ap (λ (g : Got Listing). then (valueOf g) (λ v. contents m (v .files) p)) (l .read) ∙ ap (λ (fs : List File). contents m fs p) (sym meant-are)
 
   module _ (b : Bool) (e : b ≡ eqb (total meant) (length p)) where
     -- the sizes do not add up
-    pub judge-sum : b ≡ false → faulty 21 (r .value .count) ≡ judged m p
+    pub judge-sum : b ≡ false → refusedAt 21 (r .value .count) ≡ judged m p
     unfolding contents
     judge-sum w =
         let f : eqb (total meant) (length p) ≡ false = sym e ∙ w in
@@ -98,7 +97,7 @@ module _ (m p : List ℕ) (r : ManifestRead) (l : Listed m r) where
     pub sum-holds : b ≡ true → total meant ≡ length p
     sum-holds w = eqb-true (total meant) (length p) (sym e ∙ w)
 
-    pub judge-digests : b ≡ true → (y : Placed Unit) → y ≡ digests m meant 0 p → y ≡ judged m p
+    pub judge-digests : b ≡ true → (y : Answer Unit) → y ≡ digests m meant 0 p → y ≡ judged m p
     unfolding contents
     judge-digests w y d =
         let f : eqb (total meant) (length p) ≡ true = sym e ∙ w in

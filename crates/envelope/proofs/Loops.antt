@@ -12,11 +12,11 @@ use lib.Seq.{drop-drop, length-take-le}
 use Rattle.wire.proofs.Cases.{eq-or-ne}
 use Rattle.lend.specs.Same.{same}
 use Rattle.sha256.specs.Sha.{sha256}
-use Rattle.entry.specs.File.{partIn}
 use Rattle.entry.specs.declared.File.{File}
 use Rattle.entry.specs.declared.Mtime.the-variants.{Null}
 use Rattle.manifest.proofs.Judging.{file-next}
-use Rattle.envelope.specs.Placed.{fine, faulty}
+use Rattle.wire.specs.Answer.{done, refusedAt}
+use Rattle.wire.specs.Span.{partAt}
 use Rattle.envelope.specs.Envelope.{total, digests}
 
 -- k files were taken off n, and left is left: the answer is that of the others
@@ -77,13 +77,13 @@ module _ (files : List File) (count k : ℕ) (d : File) (known : count ≤ lengt
     contents-within = omega (arith, total-next, s .left)
 
     -- what the code compares: the digest of the contents, and the hash
-    module _ (digest hash : List ℕ) (b : Bool) (e : digest ≡ sha256 (take (at + f .size - at) (drop at p))) (h : hash ≡ partIn m (f .hash)) (c : b ≡ same digest hash) where
-      compared : same (sha256 (take (f .size) (drop at p))) (partIn m (f .hash)) ≡ b
+    module _ (digest hash : List ℕ) (b : Bool) (e : digest ≡ sha256 (take (at + f .size - at) (drop at p))) (h : hash ≡ partAt m (f .hash)) (c : b ≡ same digest hash) where
+      compared : same (sha256 (take (f .size) (drop at p))) (partAt m (f .hash)) ≡ b
       compared =
           let z : at + f .size - at ≡ f .size = omega arith in
           sym (c ∙ rw (e, h, z))
 
-      pub digesting-stop : b ≡ false → faulty 21 k ≡ digests m fs 0 p
+      pub digesting-stop : b ≡ false → refusedAt 21 k ≡ digests m fs 0 p
       unfolding digests
       digesting-stop w = sym (s .rest ∙ rw (file-next files count k d known here, compared, w))
 
@@ -104,6 +104,6 @@ module _ (files : List File) (count k : ℕ) (known : count ≤ length files) (p
   unfolding total
   summing-end n left s = sym (s .rest ∙ rw none-left (same-test 0 left left 0 sym sym))
 
-  pub digesting-end : (m p : List ℕ) (at : ℕ) → Digesting m p (take count files) at k → fine tt ≡ digests m (take count files) 0 p
+  pub digesting-end : (m p : List ℕ) (at : ℕ) → Digesting m p (take count files) at k → done tt ≡ digests m (take count files) 0 p
   unfolding digests
   digesting-end m p at s = sym (s .rest ∙ rw none-left)

@@ -3,14 +3,13 @@ use Prim.Native.Nat.{ℕ, _+_}
 use mathlib.Core.List.{List, [], _∷_}
 use lib.Dec.{eqb}
 use lib.ListN.{length, take, drop}
-use Rattle.wire.specs.Answer.{choose}
+use Rattle.wire.specs.Answer.{Answer, done, then, demandAt, valueOf}
+use Rattle.wire.specs.Span.{partAt}
 use Rattle.lend.specs.Same.{same}
 use Rattle.sha256.specs.Sha.{sha256}
 use Rattle.cover.specs.Cover.{Cover, manifestOf, payloadOf, coverAt, coverOf}
-use Rattle.entry.specs.File.{partIn}
 use Rattle.entry.specs.declared.File.{File}
 use Rattle.manifest.specs.Manifest.{manifestAt}
-use Rattle.envelope.specs.Placed.{Placed, fine, faulty, on, unplaced}
 
 -- the files' sizes, summed
 unfoldable pub total : List File → ℕ
@@ -18,23 +17,24 @@ total [] = 0
 total (f ∷ fs) = f .size + total fs
 
 -- "each SHA-256 in turn": of file i and those after it, whose contents stand one after the other in rest
-unfoldable pub digests : List ℕ → List File → ℕ → List ℕ → Placed Unit
-digests manifest [] i rest = fine tt
+unfoldable pub digests : (manifest : List ℕ) (files : List File) (i : ℕ) (rest : List ℕ) → Answer Unit
+digests manifest [] i rest = done tt
 digests manifest (f ∷ fs) i rest =
-    choose (same (sha256 (take (f .size) rest)) (partIn manifest (f .hash))) (digests manifest fs (i + 1) (drop (f .size) rest)) (faulty 21 i)
+    demandAt (same (sha256 (take (f .size) rest)) (partAt manifest (f .hash))) 21 i
+    (digests manifest fs (i + 1) (drop (f .size) rest))
 
 -- "21 for the sum", with the file count as its place
-unfoldable pub contents : List ℕ → List File → List ℕ → Placed Unit
-contents manifest files payload = choose (eqb (total files) (length payload)) (digests manifest files 0 payload) (faulty 21 (length files))
+unfoldable pub contents : List ℕ → List File → List ℕ → Answer Unit
+contents manifest files payload = demandAt (eqb (total files) (length payload)) 21 (length files) (digests manifest files 0 payload)
 
 -- "manifest size 9, manifest faults", which are the manifest reader's; then its files against the payload
-unfoldable pub judged : List ℕ → List ℕ → Placed Unit
-judged manifest payload = on (unplaced (manifestAt manifest)) (λ v. contents manifest (v .files) payload)
+unfoldable pub judged : List ℕ → List ℕ → Answer Unit
+judged manifest payload = then (valueOf (manifestAt manifest)) (λ v. contents manifest (v .files) payload)
 
 -- "left to right as for frames; then" the two parts
-unfoldable pub envelopeAt : List ℕ → Placed Cover
-envelopeAt s = on (unplaced (coverAt s)) (λ c. on (judged (manifestOf s c) (payloadOf s c)) (λ _. fine c))
+unfoldable pub envelopeAt : List ℕ → Answer Cover
+envelopeAt s = then (valueOf (coverAt s)) (λ c. then (judged (manifestOf s c) (payloadOf s c)) (λ _. done c))
 
 -- "the writer takes manifest bytes and payload: the same from 9 on"
-unfoldable pub verdict : List ℕ → List ℕ → Placed (List ℕ)
-verdict manifest payload = on (judged manifest payload) (λ _. fine (coverOf manifest payload))
+unfoldable pub verdict : List ℕ → List ℕ → Answer (List ℕ)
+verdict manifest payload = then (judged manifest payload) (λ _. done (coverOf manifest payload))

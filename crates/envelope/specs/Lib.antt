@@ -1,4 +1,3 @@
-pub mod Placed
 pub mod Envelope
 pub mod Answer
 pub mod Parts

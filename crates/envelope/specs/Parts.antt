@@ -1,16 +1,16 @@
 -- What private functions answer, for their contracts: nothing here is promised to a caller.
 use Rattle.wire.specs.declared.Wrote.{Wrote}
 use Rattle.wire.specs.declared.Wrote.the-variants as O
-use Rattle.envelope.specs.Placed.{Placed, fine, faulty}
+use Rattle.wire.specs.Answer.{Answer, done, refusedAt}
 use Rattle.envelope.specs.declared.EnvelopeWrote.{EnvelopeWrote}
 use Rattle.envelope.specs.declared.EnvelopeWrote.the-variants as W
 use Rattle.envelope.specs.declared.judge.Judge.{Judge}
 use Rattle.envelope.specs.declared.judge.Judge.the-variants as J
 
 -- what the judge of the two parts answers
-abbrev pub judgeTold : Judge → Placed Unit
-judgeTold J.Fine = fine tt
-judgeTold (J.Faulty e place) = faulty e place
+abbrev pub judgeTold : Judge → Answer Unit
+judgeTold J.Fine = done tt
+judgeTold (J.Faulty e place) = refusedAt e place
 
 -- the same answer, with 0 as the place of a refusal
 abbrev pub wroteAs : Wrote → EnvelopeWrote

@@ -2,7 +2,6 @@
 mod judge;
 
 ghost use mathlib.Core.Path.{_≡_};
-ghost use Rattle.envelope.specs.Placed.{said};
 ghost use Rattle.envelope.specs.Envelope.{envelopeAt, verdict};
 ghost use Rattle.envelope.specs.Answer.{readTold, EnvelopeWritten};
 ghost use Rattle.envelope.specs.Parts.{wroteAs};
@@ -34,7 +33,7 @@ pub enum EnvelopeWrote {
 
 // The envelope that s is, all of s.
 pub fn read(s: &[u8]) -> EnvelopeRead
-    ensures { λ r. ⌜ readTold r ≡ said (envelopeAt (now (s .entry))) ⌝ }
+    ensures { λ r. ⌜ readTold r ≡ envelopeAt (now (s .entry)) ⌝ }
 {
     let r = cover::read(s);
     let CoverRead::Cover {

@@ -1,6 +1,6 @@
 -- The answer of `read` says no more than 01. Assumes nothing.
 use mathlib.Core.Path.{_≡_, ap}
-use Rattle.wire.proofs.Cases.{got-value}
+use Rattle.wire.proofs.Cases.{got-value, got-next}
 use Rattle.frame.specs.Frame as F
 use Rattle.frame.specs.Answer.{told}
 use Rattle.frame.specs.declared.FrameRead.{FrameRead}
@@ -15,6 +15,7 @@ told-injective (Frame k i t a l) (Frame k' i' t' a' l') e =
     let pt : t ≡ t' = ap (λ (f : F.Frame). f .total) p in
     let pa : a ≡ a' = ap (λ (f : F.Frame). f .at) p in
     let pl : l ≡ l' = ap (λ (f : F.Frame). f .len) p in
+    let o = got-next e in
     cc
 told-injective (Frame k i t a l) (Refused n) e = cc
 told-injective (Refused m) (Frame k i t a l) e = cc

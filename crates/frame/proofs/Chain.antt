@@ -1,7 +1,7 @@
 -- For `search`: one field of a chain. `go-..`: it was read, and the chain goes on; `no-..`: it was refused, and so is the chain. Assumes nothing.
 use Prim.Native.Nat.{ℕ}
 use mathlib.Core.Path.{_≡_, refl}
-use Rattle.wire.specs.Answer.{Got, refused, then, numberOf}
+use Rattle.wire.specs.Answer.{refused, numberOf, then, Got, Answer}
 use Rattle.wire.proofs.Branch.{branch, go, stop}
 use Rattle.varint.proofs.Answers.{go-varint, no-varint}
 use Rattle.mark.proofs.Answers.{go-mark, no-mark}
@@ -14,23 +14,23 @@ use Rattle.frame.specs.declared.part.KindRead.the-variants as K
 use Rattle.frame.specs.declared.part.NumbersRead.{NumbersRead}
 use Rattle.frame.specs.declared.part.NumbersRead.the-variants as N
 
-module _ {B : Type 0} (g : Got Unit) (f : Unit → ℕ → Got B) where
-  pub go-step : (r : Step) (next : ℕ) (y : Got B) → stepOf r ≡ g → r ≡ S.At next → y ≡ f tt next → y ≡ then g f
+module _ {B : Type 0} (g : Got Unit) (f : Unit × ℕ → Answer B) where
+  pub go-step : (r : Step) (next : ℕ) (y : Answer B) → stepOf r ≡ g → r ≡ S.At next → y ≡ f (tt, next) → y ≡ then g f
   go-step r next y = go stepOf g f r (S.At next) y
 
   pub no-step : (r : Step) (n e : ℕ) → stepOf r ≡ g → r ≡ S.Refused e → n ≡ numberOf (stepOf r) → refused n ≡ then g f
   no-step r n e h k q = stop stepOf g f r (S.Refused e) n e h k refl q
 
-module _ {B : Type 0} (g : Got ℕ) (f : ℕ → ℕ → Got B) where
-  pub go-kind : (r : KindRead) (kind next : ℕ) (y : Got B) → kindOf r ≡ g → r ≡ K.Kind kind next → y ≡ f kind next → y ≡ then g f
+module _ {B : Type 0} (g : Got ℕ) (f : ℕ × ℕ → Answer B) where
+  pub go-kind : (r : KindRead) (kind next : ℕ) (y : Answer B) → kindOf r ≡ g → r ≡ K.Kind kind next → y ≡ f (kind, next) → y ≡ then g f
   go-kind r kind next y = go kindOf g f r (K.Kind kind next) y
 
   pub no-kind : (r : KindRead) (n e : ℕ) → kindOf r ≡ g → r ≡ K.Refused e → n ≡ numberOf (kindOf r) → refused n ≡ then g f
   no-kind r n e h k q = stop kindOf g f r (K.Refused e) n e h k refl q
 
-module _ {B : Type 0} (g : Got Numbers) (f : Numbers → ℕ → Got B) where
-  pub go-numbers : (r : NumbersRead) (i t l next : ℕ) (y : Got B) → numbersOf r ≡ g → r ≡ N.Numbers i t l next
-      → y ≡ f (record { index = i; total = t; len = l }) next → y ≡ then g f
+module _ {B : Type 0} (g : Got Numbers) (f : Numbers × ℕ → Answer B) where
+  pub go-numbers : (r : NumbersRead) (i t l next : ℕ) (y : Answer B) → numbersOf r ≡ g → r ≡ N.Numbers i t l next
+      → y ≡ f ((record { index = i; total = t; len = l }), next) → y ≡ then g f
   go-numbers r i t l next y = go numbersOf g f r (N.Numbers i t l next) y
 
   pub no-numbers : (r : NumbersRead) (n e : ℕ) → numbersOf r ≡ g → r ≡ N.Refused e → n ≡ numberOf (numbersOf r) → refused n ≡ then g f

@@ -6,7 +6,8 @@ use native.Mathlib.Omega.{arith}
 use lib.ListN.{length, take}
 use Rattle.wire.specs.Number.{bigEndian}
 use Rattle.wire.specs.Over.{over}
-use Rattle.wire.specs.Writing.{Written, bytes}
+use Rattle.wire.specs.Answer.{done}
+use Rattle.wire.specs.Writing.{Written}
 use Rattle.wire.specs.declared.Wrote.the-variants.{Done, Refused}
 use Rattle.wire.proofs.Digits.{length-digits}
 use Rattle.wire.proofs.Overs.{over-run, over-append, read-over}
@@ -59,14 +60,14 @@ module _ (kind : ℕ) (id : List ℕ) (index total : ℕ) (contents l : List ℕ
   -- m is how many bytes the varints take
   module _ (m : ℕ) (e : m ≡ length (numbers index total (length contents))) where
     -- there is no room for the whole
-    pub lay-short : length l < 16 + m + length contents → Written 0 (bytes (layout kind id index total contents)) l l (Refused 11)
+    pub lay-short : length l < 16 + m + length contents → Written 0 (done (layout kind id index total contents)) l l (Refused 11)
     lay-short h = no-room 0 l (layout kind id index total contents) (omega (arith, layout-length kind id index total contents eight))
 
     -- there is: x is l with all before the CRC, y is x with the CRC, and what is summed is what was written
     pub lay-done : 16 + m + length contents ≤ length l → (x y : List ℕ) (k : ℕ)
         → (k ≡ length (body kind id index total contents)) × (x ≡ over 0 (body kind id index total contents) l)
         → y ≡ over k (bigEndian 4 (crc32 (take k x))) x
-        → Written 0 (bytes (layout kind id index total contents)) l y (Done (16 + m + length contents))
+        → Written 0 (done (layout kind id index total contents)) l y (Done (16 + m + length contents))
     unfolding layout
     lay-done h x y k laid ey =
         let bs : List ℕ = body kind id index total contents in

@@ -7,3 +7,4 @@ pub mod Laying
 pub mod Allowed
 pub mod ReadsBack
 pub mod OnlyLayouts
+pub mod Placeless

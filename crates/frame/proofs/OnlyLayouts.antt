@@ -9,7 +9,7 @@ use borrow.Author.Tests.{ltb-false}
 use lib.Dec.{ltb}
 use lib.ListN.{length, take, drop}
 use lib.Seq.{take-at}
-use Rattle.wire.specs.Answer.{got, then}
+use Rattle.wire.specs.Answer.{then, got}
 use Rattle.wire.specs.Number.{bigEndian, Bytes}
 use Rattle.wire.proofs.Cases.{passed, escaped, then-passed, got-value, got-next, got-as}
 use Rattle.varint.specs.Varint.{varintAt}
@@ -37,7 +37,7 @@ id-was : (s : List ℕ) (at : ℕ) (u : Unit) (next : ℕ) → idAt s at ≡ got
 unfolding idAt
 id-was s at u next h =
     let t = escaped (ltb (length s - at) 8) (got tt (at + 8)) 3 h in
-    let p : next ≡ at + 8 = cc (t .1) in
+    let p : next ≡ at + 8 = sym (got-next (t .1)) in
     (omega (arith, ltb-false (length s - at) 8 (t .0)), p)
 
 abbrev framed : ℕ → Numbers → ℕ → Frame
@@ -62,11 +62,11 @@ started s kind a b next m k y (room, e) =
     }
 
 -- the type byte and the id behind the version
-type-was : (s : List ℕ) (b kind next : ℕ) → then (kindAt s b) (λ k c. then (idAt s c) (λ _ d. got k d)) ≡ got kind next
+type-was : (s : List ℕ) (b kind next : ℕ) → then (kindAt s b) (λ (k, c). then (idAt s c) (λ (_, d). got k d)) ≡ got kind next
     → (c : ℕ) × (Stands s b (kind ∷ []) c) × (known kind ≡ true) × (c + 8 ≤ length s) × (next ≡ c + 8)
 type-was s b kind next h =
     let t = then-passed (kindAt s b) _ h in
-    let u = then-passed (idAt s (t .1)) (λ _ d. got (t .0) d) (t .3) in
+    let u = then-passed (idAt s (t .1)) (λ (_, d). got (t .0) d) (t .3) in
     let k : kindAt s b ≡ got kind (t .1) = got-as (t .2) (got-value (u .3)) refl in
     let i = id-was s (t .1) (u .0) next (got-as (u .2) refl (got-next (u .3))) in
     (t .1, kind-was s b kind (t .1) k, kind-got s b kind (t .1) k .3, i .0, i .1)

@@ -8,7 +8,7 @@ use native.Mathlib.Omega.{arith}
 use borrow.Author.Tests.{le-ltb, lt-leb}
 use lib.ListN.{length, take, drop, length-append}
 use lib.Seq.{take-at, drop-at}
-use Rattle.wire.specs.Answer.{choose, got, refused}
+use Rattle.wire.specs.Answer.{choose, refused, got}
 use Rattle.wire.specs.Number.{bigEndian}
 use Rattle.wire.proofs.Digits.{length-digits}
 use Rattle.wire.proofs.Standing.{stands-next, stands-take, stands-left, stands-head}

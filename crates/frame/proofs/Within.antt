@@ -7,9 +7,9 @@ use native.Mathlib.Omega.{arith}
 use borrow.Author.Tests.{leb-false, eqb-true, eq-eqb, ne-eqb}
 use lib.Dec.{leb, eqb}
 use lib.ListN.{length, take, drop, getD}
-use Rattle.wire.specs.Answer.{Got, got, refused, then}
+use Rattle.wire.specs.Answer.{refused, then, got, Answer}
 use Rattle.wire.specs.Number.{bigEndian, Bytes}
-use Rattle.wire.proofs.Cases.{passed, escaped, then-passed}
+use Rattle.wire.proofs.Cases.{passed, escaped, then-passed, got-value, got-next}
 use Rattle.lend.specs.Same.{same}
 use Rattle.lend.proofs.Sames.{same-eq}
 use Rattle.crc.specs.Crc.{crc32}
@@ -30,8 +30,8 @@ unfolding kindAt
 kind-got s at kind next h =
     let t = escaped (leb (length s) at) _ 3 h in
     let u = passed (known (getD s at 0)) (got (getD s at 0) (at + 1)) 6 (t .1) in
-    let p : next ≡ at + 1 = cc (u .1) in
-    let k : kind ≡ getD s at 0 = cc (u .1) in
+    let p : next ≡ at + 1 = sym (got-next (u .1)) in
+    let k : kind ≡ getD s at 0 = sym (got-value (u .1)) in
     (p, omega (arith, leb-false), k, ap known k ∙ u .0)
 
 -- the data and the CRC are all that is left
@@ -41,7 +41,7 @@ unfolding dataAt
 data-got s at len next u h =
     let t = passed (eqb (length s - at) (len + 4)) _ 3 h in
     let w = passed (same (drop (at + len) s) (bigEndian 4 (crc32 (take (at + len) s)))) (got tt (at + len + 4)) 10 (t .1) in
-    let p : next ≡ at + len + 4 = cc (w .1) in
+    let p : next ≡ at + len + 4 = sym (got-next (w .1)) in
     (p, omega (arith, eqb-true (length s - at) (len + 4) (t .0)), same-eq (drop (at + len) s) (bigEndian 4 (crc32 (take (at + len) s))) (w .0))
 
 -- and how it is known
@@ -60,8 +60,8 @@ module _ (s : List ℕ) (at len : ℕ) where
     data-differs e = rw (eq-eqb (length s - at) (len + 4) left, e)
 
 -- for `search`, the last field of a chain: it ends where the data and the CRC do
-pub go-data : {B : Type 0} (s : List ℕ) (at len : ℕ) (f : Unit → ℕ → Got B) (r : Step) (next : ℕ) (y : Got B)
-    → stepOf r ≡ dataAt s at len → r ≡ S.At next → y ≡ f tt (at + len + 4) → y ≡ then (dataAt s at len) f
+pub go-data : {B : Type 0} (s : List ℕ) (at len : ℕ) (f : Unit × ℕ → Answer B) (r : Step) (next : ℕ) (y : Answer B)
+    → stepOf r ≡ dataAt s at len → r ≡ S.At next → y ≡ f (tt, (at + len + 4)) → y ≡ then (dataAt s at len) f
 go-data s at len f r next y e k h =
     let g : dataAt s at len ≡ got tt next = sym e ∙ ap stepOf k in
     rw (g, data-got s at len next tt g .0) h
@@ -77,5 +77,5 @@ numbers-within s at r i t l next y e k =
     let t₁ = then-passed (varintAt s at) _ h in
     let t₂ = then-passed (varintAt s (t₁ .1)) _ (t₁ .3) in
     let t₃ = then-passed (varintAt s (t₂ .1)) _ (t₂ .3) in
-    let p : t₃ .1 ≡ next = cc (t₃ .3) in
+    let p : t₃ .1 ≡ next = got-next (t₃ .3) in
     omega (arith, read-stands s (t₂ .1) (t₃ .0) (t₃ .1) y (t₃ .2) .0 .within)

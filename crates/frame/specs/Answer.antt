@@ -1,6 +1,6 @@
 -- What `read` answers, as document 01's number and values.
 use Prim.Native.Nat.{_+_}
-use Rattle.wire.specs.Answer.{Got, got, refused}
+use Rattle.wire.specs.Answer.{refused, Got, got}
 use Rattle.frame.specs.Frame as F
 use Rattle.frame.specs.declared.FrameRead.{FrameRead}
 use Rattle.frame.specs.declared.FrameRead.the-variants.{Frame, Refused}

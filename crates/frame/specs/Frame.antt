@@ -4,7 +4,7 @@ use mathlib.Core.Bool.{Bool, true, false}
 use mathlib.Core.List.{List, [], _∷_}
 use lib.Dec.{ltb, leb, eqb}
 use lib.ListN.{length, take, drop, getD}
-use Rattle.wire.specs.Answer.{choose, Got, got, refused, then}
+use Rattle.wire.specs.Answer.{choose, refused, then, demand, Got, got}
 use Rattle.wire.specs.Number.{bigEndian}
 use Rattle.lend.specs.Same.{same}
 use Rattle.varint.specs.Varint.{varintAt}
@@ -46,9 +46,9 @@ idAt s at = choose (ltb (length s - at) 8) (refused 3) (got tt (at + 8))
 -- all before the varints: the type byte
 unfoldable pub startOf : List ℕ → Got ℕ
 startOf s =
-    then (markOf magic s) (λ _ a.
-    then (kindAt s a) (λ kind b.
-    then (idAt s b) (λ _ c. got kind c)))
+    then (markOf magic s) (λ (_, a).
+    then (kindAt s a) (λ (kind, b).
+    then (idAt s b) (λ (_, c). got kind c)))
 
 -- varints INDEX, TOTAL, DATA_LEN
 pub record Numbers : Type 0 where
@@ -58,16 +58,16 @@ pub record Numbers : Type 0 where
 
 unfoldable pub numbersAt : List ℕ → ℕ → Got Numbers
 numbersAt s at =
-    then (varintAt s at) (λ index a.
-    then (varintAt s a) (λ total b.
-    then (varintAt s b) (λ len c. got (record { index = index; total = total; len = len }) c)))
+    then (varintAt s at) (λ (index, a).
+    then (varintAt s a) (λ (total, b).
+    then (varintAt s b) (λ (len, c). got (record { index = index; total = total; len = len }) c)))
 
 -- after DATA_LEN exactly DATA_LEN + 4 bytes must remain, else 3; then the CRC-32/ISO-HDLC of all before it, big-endian, else 10
 unfoldable pub dataAt : List ℕ → ℕ → ℕ → Got Unit
 dataAt s at len =
-    choose (eqb (length s - at) (len + 4))
-    (choose (same (drop (at + len) s) (bigEndian 4 (crc32 (take (at + len) s)))) (got tt (at + len + 4)) (refused 10))
-    (refused 3)
+    demand (eqb (length s - at) (len + 4)) 3
+    (demand (same (drop (at + len) s) (bigEndian 4 (crc32 (take (at + len) s)))) 10
+    (got tt (at + len + 4)))
 
 -- ---- the frame as a whole
 
@@ -80,17 +80,15 @@ unfoldable pub inSize : ℕ → ℕ → Bool
 inSize total len = choose (ltb 96 total) false (leb len 480)
 
 -- the type byte and the numbers are judged together, after the CRC: 8, then 9
-unfoldable pub judged : ℕ → Numbers → ℕ → ℕ → Got Frame
+unfoldable pub judged : (kind : ℕ) (n : Numbers) (at next : ℕ) → Got Frame
 judged kind n at next =
-    choose (inPlace kind (n .index) (n .total))
-    (choose (inSize (n .total) (n .len))
-    (got (record { kind = kind; index = n .index; total = n .total; at = at; len = n .len }) next)
-    (refused 9))
-    (refused 8)
+    demand (inPlace kind (n .index) (n .total)) 8
+    (demand (inSize (n .total) (n .len)) 9
+    (got (record { kind = kind; index = n .index; total = n .total; at = at; len = n .len }) next))
 
 -- fields are read left to right and the first fault decides; then 10, then 8, then 9
 unfoldable pub frameOf : List ℕ → Got Frame
 frameOf s =
-    then (startOf s) (λ kind a.
-    then (numbersAt s a) (λ n b.
-    then (dataAt s b (n .len)) (λ _ c. judged kind n b c)))
+    then (startOf s) (λ (kind, a).
+    then (numbersAt s a) (λ (n, b).
+    then (dataAt s b (n .len)) (λ (_, c). judged kind n b c)))

@@ -1,6 +1,6 @@
 -- What the readers of the fields answer, for the contracts of private functions: nothing here is promised to a caller.
 use Prim.Native.Nat.{ℕ}
-use Rattle.wire.specs.Answer.{Got, got, refused}
+use Rattle.wire.specs.Answer.{refused, Got, got}
 use Rattle.frame.specs.Frame as F
 use Rattle.frame.specs.declared.part.Step.{Step}
 use Rattle.frame.specs.declared.part.Step.the-variants as S

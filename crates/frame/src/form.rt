@@ -4,7 +4,8 @@ ghost use Prim.Native.Nat.{_+_, _≤_};
 ghost use lib.ListN.{length, take};
 ghost use Rattle.wire.specs.Number.{bigEndian};
 ghost use Rattle.wire.specs.Over.{over};
-ghost use Rattle.wire.specs.Writing.{Written, bytes};
+ghost use Rattle.wire.specs.Answer.{done};
+ghost use Rattle.wire.specs.Writing.{Written};
 ghost use Rattle.varint.specs.Varint.{varint};
 ghost use Rattle.crc.specs.Crc.{crc32};
 ghost use Rattle.frame.specs.Layout as L;
@@ -77,7 +78,7 @@ pub(super) fn lay(
     out: &mut [u8],
 ) -> Wrote
     requires { ⌜ length (now id) ≡ 8 ⌝ }
-    ensures { λ r. ⌜ Written 0 (bytes (L.layout kind (now (id .entry)) index total (now (contents .entry)))) (now (out .entry)) (now (out .exit)) r ⌝ }
+    ensures { λ r. ⌜ Written 0 (done (L.layout kind (now (id .entry)) index total (now (contents .entry)))) (now (out .entry)) (now (out .exit)) r ⌝ }
 {
     let len = SHORTEST + numbers_size(index, total, contents.len() as u64) + contents.len();
     if out.len() < len {

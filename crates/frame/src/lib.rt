@@ -4,7 +4,8 @@ mod part;
 
 ghost use mathlib.Core.Path.{_≡_};
 ghost use Prim.Native.Nat.{_+_};
-ghost use Rattle.wire.specs.Writing.{Written, bytes};
+ghost use Rattle.wire.specs.Answer.{done};
+ghost use Rattle.wire.specs.Writing.{Written};
 ghost use Rattle.frame.specs.Frame.{frameOf, judged, inPlace, inSize};
 ghost use Rattle.frame.specs.Layout.{layout};
 ghost use Rattle.frame.specs.Answer.{told};
@@ -120,7 +121,7 @@ pub fn read(s: &[u8]) -> FrameRead
 
 // The frame of these parts, whatever they are, at the front of out.
 pub fn lay(kind: u8, id: &[u8; 8], index: u64, total: u64, contents: &[u8], out: &mut [u8]) -> Wrote
-    ensures { λ r. ⌜ Written 0 (bytes (layout kind (now (id .entry)) index total (now (contents .entry)))) (now (out .entry)) (now (out .exit)) r ⌝ }
+    ensures { λ r. ⌜ Written 0 (done (layout kind (now (id .entry)) index total (now (contents .entry)))) (now (out .entry)) (now (out .exit)) r ⌝ }
 {
     form::lay(kind, id, index, total, contents, out)
 }

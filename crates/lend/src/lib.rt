@@ -4,7 +4,8 @@ ghost use mathlib.Core.List.{[], _∷_};
 ghost use Prim.Native.Nat.{_+_, _≤_};
 ghost use lib.ListN.{length, replicate};
 ghost use Rattle.wire.specs.Over.{over};
-ghost use Rattle.wire.specs.Writing.{Written, bytes};
+ghost use Rattle.wire.specs.Answer.{done};
+ghost use Rattle.wire.specs.Writing.{Written};
 ghost use Rattle.lend.specs.Same.{same};
 use wire::Wrote;
 
@@ -89,7 +90,7 @@ pub fn equal(a: &[u8], b: &[u8]) -> bool
 
 // All of text at the front of out, where it fits: the whole answer of a call that writes what was put together elsewhere.
 pub fn give(text: &[u8], out: &mut [u8]) -> Wrote
-    ensures { λ r. ⌜ Written 0 (bytes (now (text .entry))) (now (out .entry)) (now (out .exit)) r ⌝ }
+    ensures { λ r. ⌜ Written 0 (done (now (text .entry))) (now (out .entry)) (now (out .exit)) r ⌝ }
 {
     if out.len() < text.len() {
         return Wrote::Refused { no: wire::NO_ROOM };

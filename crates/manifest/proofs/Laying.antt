@@ -6,20 +6,21 @@ use mathlib.Core.List.{List, [], _∷_, _++_, append-assoc, map}
 use native.Mathlib.Omega.{arith}
 use lib.ListN.{length, take, drop, getD, length-append, drop-of-length-le, length-map}
 use lib.Seq.{length-take-le}
-use Rattle.wire.specs.Answer.{choose}
+use Rattle.wire.specs.Answer.{choose, Answer, done}
 use Rattle.wire.specs.Over.{over}
-use Rattle.wire.specs.Writing.{Verdict, bytes, told, outcome, Written}
+use Rattle.wire.specs.Writing.{told, outcome, Written}
 use Rattle.wire.specs.declared.Wrote.{Wrote}
 use Rattle.wire.specs.declared.Wrote.the-variants.{Done, Refused}
 use Rattle.wire.proofs.Overs.{over-none}
-use Rattle.wire.proofs.Writes.{bytes-injective, written, no-room, denied}
+use Rattle.wire.proofs.Cases.{done-value, then-done}
+use Rattle.wire.proofs.Writes.{written, no-room, denied}
+use Rattle.wire.specs.declared.Span.{Span}
+use Rattle.wire.specs.Span.{partAt}
 use Rattle.cbor.specs.Form.{headOf, stringOf, doubleOf, numberFieldOf}
 use Rattle.cbor.specs.Names.{seedKey, filesKey, sealedKey, createdKey, versionKey}
 use Rattle.cbor.specs.Put.{Put}
 use Rattle.cbor.proofs.Runs.{Left, left-all, left-on, left-last, put-fits}
-use Rattle.entry.specs.File.{partIn}
 use Rattle.entry.specs.Writing.{entryIn, integerOf, fileVerdict, formOf}
-use Rattle.entry.specs.declared.Part.{Part}
 use Rattle.entry.specs.declared.File.{File}
 use Rattle.entry.proofs.Writers.{done-verdict, refused-verdict}
 use Rattle.manifest.specs.Writing.{seedIn, saidIn, secretOf, entriesOf, createdOf, saidOf, manifestOf, filesVerdict, listed, manifestVerdict}
@@ -29,16 +30,16 @@ use Rattle.manifest.specs.declared.Seed.the-variants as seed
 use Rattle.manifest.specs.declared.Created.{Created}
 use Rattle.manifest.specs.declared.Created.the-variants as created
 use Rattle.manifest.specs.declared.Manifest.{Manifest}
-use Rattle.manifest.proofs.Judging.{followed-passed, good-files, file-next}
+use Rattle.manifest.proofs.Judging.{good-files, file-next}
 use Rattle.manifest.proofs.Lengths.{Fit, verdict-fit}
 
 -- ---- the loop
 
 -- after i files: those that are left are judged, and still to be written at p
-pub record Laying (pool : List ℕ) (files : List File) (count at : ℕ) (x y : List ℕ) (i p : ℕ) (last : Part) : Type 0 where
+pub record Laying (pool : List ℕ) (files : List File) (count at : ℕ) (x y : List ℕ) (i p : ℕ) (last : Span) : Type 0 where
   pub most : i ≤ count
   pub rest : List ℕ
-  pub judged : filesVerdict pool (partIn pool last) (drop i (take count files)) ≡ bytes rest
+  pub judged : filesVerdict pool (partAt pool last) (drop i (take count files)) ≡ done rest
   pub left : Left at (formOf (filesVerdict pool [] (take count files))) x y p rest
 
 pub lay-none : (pool : List ℕ) (m : Manifest) (at : ℕ) (x : List ℕ) → Room pool m at x (formOf (filesVerdict pool [] (take (m .count) (m .files))))
@@ -51,29 +52,29 @@ lay-none pool m at x r =
       left = left-all at (formOf (filesVerdict pool [] (take (m .count) (m .files)))) x (r .room);
     }
 
-module _ (pool : List ℕ) (files : List File) (count at : ℕ) (x y : List ℕ) (i p : ℕ) (last : Part) (h : Laying pool files count at x y i p last) (array : length files ≡ 64) (few : count ≤ 64) where
+module _ (pool : List ℕ) (files : List File) (count at : ℕ) (x y : List ℕ) (i p : ℕ) (last : Span) (h : Laying pool files count at x y i p last) (array : length files ≡ 64) (few : count ≤ 64) where
   pub lay-end : at + length (formOf (filesVerdict pool [] (take count files))) ≤ length x → count ≤ i → Put at (formOf (filesVerdict pool [] (take count files))) x y p
   unfolding filesVerdict
   lay-end room l =
       let n = length-take-le count files (omega arith) in
       let z : drop i (take count files) ≡ [] = drop-of-length-le (take count files) {i = i} (omega arith) in
-      let r : h .rest ≡ [] = sym (bytes-injective (ap (filesVerdict pool (partIn pool last)) (sym z) ∙ h .judged)) in
+      let r : h .rest ≡ [] = sym (done-value (ap (filesVerdict pool (partAt pool last)) (sym z) ∙ h .judged)) in
       let q : Left at (formOf (filesVerdict pool [] (take count files))) x y p [] = subst (λ (r : List ℕ). Left at (formOf (filesVerdict pool [] (take count files))) x y p r) r (h .left) in
       put-fits at (formOf (filesVerdict pool [] (take count files))) x y p room (sym (over-none p y) ∙ q .whole) (omega (arith, q .ends))
 
   pub lay-same : length y ≡ length x
   lay-same = h .left .same
 
-  pub lay-more : i < count → (d : File) (prev : List ℕ) → prev ≡ partIn pool last → (z : List ℕ) (q : ℕ) → Put p (formOf (fileVerdict pool prev (getD files i d))) y z q
+  pub lay-more : i < count → (d : File) (prev : List ℕ) → prev ≡ partAt pool last → (z : List ℕ) (q : ℕ) → Put p (formOf (fileVerdict pool prev (getD files i d))) y z q
       → Laying pool files count at x z (i + 1) q (getD files i d .path)
   unfolding filesVerdict formOf
   lay-more l d prev e z q w =
       let f : File = getD files i d in
-      let v = ap (filesVerdict pool (partIn pool last)) (sym (file-next files count i d (omega arith) l)) ∙ h .judged in
-      let a = followed-passed (fileVerdict pool (partIn pool last) f) _ v in
-      let b = followed-passed (filesVerdict pool (partIn pool (f .path)) (drop (i + 1) (take count files))) _ (a .2) in
-      let r : h .rest ≡ a .0 ++ b .0 = sym (bytes-injective (b .2)) in
-      let u : Put p (a .0) y z q = subst (λ (v : Verdict). Put p (formOf v) y z q) (ap (λ (k : List ℕ). fileVerdict pool k f) e ∙ a .1) w in
+      let v = ap (filesVerdict pool (partAt pool last)) (sym (file-next files count i d (omega arith) l)) ∙ h .judged in
+      let a = then-done (fileVerdict pool (partAt pool last) f) _ v in
+      let b = then-done (filesVerdict pool (partAt pool (f .path)) (drop (i + 1) (take count files))) _ (a .2) in
+      let r : h .rest ≡ a .0 ++ b .0 = sym (done-value (b .2)) in
+      let u : Put p (a .0) y z q = subst (λ (v : Answer (List ℕ)). Put p (formOf v) y z q) (ap (λ (k : List ℕ). fileVerdict pool k f) e ∙ a .1) w in
       let t : Left at (formOf (filesVerdict pool [] (take count files))) x y p (a .0 ++ b .0) = subst (λ (r : List ℕ). Left at (formOf (filesVerdict pool [] (take count files))) x y p r) r (h .left) in
       record { most = omega arith; rest = b .0; judged = b .1; left = left-on t u }
 
@@ -88,7 +89,7 @@ module _ (pool : List ℕ) (v : Seed) (at : ℕ) (x : List ℕ) (l : at + length
   unfolding secretOf seedIn
   null-run e u = seed-run (rw e u)
 
-  pub bytes-run : (start len : ℕ) (bs : List ℕ) → v ≡ seed.Bytes start len → bs ≡ partIn pool (record { start = start; len = len }) → Put a (stringOf 2 bs) y z r → Put at (seedFieldOf pool v) x z r
+  pub bytes-run : (start len : ℕ) (bs : List ℕ) → v ≡ seed.Bytes start len → bs ≡ partAt pool (record { start = start; len = len }) → Put a (stringOf 2 bs) y z r → Put at (seedFieldOf pool v) x z r
   unfolding secretOf seedIn
   bytes-run start len bs e p u = seed-run (rw (e, ← p) u)
 
@@ -174,7 +175,7 @@ module _ (pool : List ℕ) (m : Manifest) (x : List ℕ) (h : Ready pool m x) wh
         record {
           few = fit .few;
           array = h .array;
-          judged = good-files pool [] (take (m .count) (m .files)) (fit .filed) ∙ ap bytes (sym files-form);
+          judged = good-files pool [] (take (m .count) (m .files)) (fit .filed) ∙ ap done (sym files-form);
           room = omega (arith, list-left .room, length-append (formOf (filesVerdict pool [] (take (m .count) (m .files)))) (closingOf m));
         }
 
@@ -187,7 +188,7 @@ module _ (pool : List ℕ) (m : Manifest) (x : List ℕ) (h : Ready pool m x) wh
 
 -- ---- `write`
 
-module _ (v : Verdict) (j : Wrote) (e : told j ≡ outcome v) (x : List ℕ) where
+module _ (v : Answer (List ℕ)) (j : Wrote) (e : told j ≡ outcome v) (x : List ℕ) where
   pub write-refused : (n : ℕ) → j ≡ Refused n → Written 0 v x x j
   write-refused n k = rw (refused-verdict v j n e k, k) (denied 0 x n)
 
@@ -195,8 +196,8 @@ module _ (v : Verdict) (j : Wrote) (e : told j ≡ outcome v) (x : List ℕ) whe
   write-short n k l = let d = done-verdict v j n e k in rw (d .1) (no-room 0 x (d .0) (omega (arith, d .2)))
 
 module _ (pool : List ℕ) (m : Manifest) (j : Wrote) (e : told j ≡ outcome (manifestVerdict pool m)) (n : ℕ) (k : j ≡ Done n) (x : List ℕ) (l : n ≤ length x) where
-  judged : manifestVerdict pool m ≡ bytes (manifestOf pool (listed m))
-  judged = let d = done-verdict (manifestVerdict pool m) j n e k in d .1 ∙ ap bytes (verdict-fit pool m (d .1) .1)
+  judged : manifestVerdict pool m ≡ done (manifestOf pool (listed m))
+  judged = let d = done-verdict (manifestVerdict pool m) j n e k in d .1 ∙ ap done (verdict-fit pool m (d .1) .1)
 
   long : length (manifestOf pool (listed m)) ≡ n
   long = let d = done-verdict (manifestVerdict pool m) j n e k in ap length (sym (verdict-fit pool m (d .1) .1)) ∙ d .2

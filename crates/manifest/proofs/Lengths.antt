@@ -8,30 +8,29 @@ use borrow.Author.Tests.{leb-true, le-leb, lt-leb}
 use lib.Dec.{leb}
 use lib.ListN.{length, take, length-append, length-map}
 use lib.Seq.{length-take-le}
-use Rattle.wire.specs.Answer.{choose, Answer, done, failed}
-use Rattle.wire.specs.Writing.{Verdict, bytes, told, outcome}
+use Rattle.wire.specs.Answer.{choose, Answer, done, refused, then}
+use Rattle.wire.specs.Writing.{told, outcome}
 use Rattle.wire.specs.declared.Wrote.{Wrote}
 use Rattle.wire.specs.declared.Wrote.the-variants.{Done, Refused}
-use Rattle.wire.proofs.Cases.{both-hold, said-yes}
+use Rattle.wire.proofs.Cases.{both-hold, said-yes, passed, done-value, then-done}
 use Rattle.wire.proofs.Digits.{length-digits}
-use Rattle.wire.proofs.Writes.{passed, bytes-injective}
+use Rattle.wire.specs.Span.{partAt}
 use Rattle.cbor.specs.Form.{headOf, headSize, stringOf, doubleOf, numberFieldOf}
 use Rattle.cbor.specs.Names.{seedKey, filesKey, sealedKey, createdKey, versionKey}
 use Rattle.cbor.proofs.Sizes.{length-head, length-string, length-number-field-one, size-one, size-two, size-most}
-use Rattle.entry.specs.File.{partIn}
 use Rattle.entry.specs.Writing.{entryIn, integerOf}
 use Rattle.entry.specs.declared.File.{File}
 use Rattle.entry.proofs.Sizes.{part-length}
 use Rattle.entry.proofs.Writers.{digest-within, done-verdict, refused-verdict}
 use Rattle.manifest.specs.Manifest.{agrees}
-use Rattle.manifest.specs.Writing.{Said, seedIn, saidIn, secretOf, entriesOf, createdOf, saidOf, manifestOf, seedAllowed, followed, filesVerdict, createdAllowed, listed, manifestVerdict}
+use Rattle.manifest.specs.Writing.{Said, seedIn, saidIn, secretOf, entriesOf, createdOf, saidOf, manifestOf, seedAllowed, filesVerdict, createdAllowed, listed, manifestVerdict}
 use Rattle.manifest.specs.Parts.{seedSize, createdSize}
 use Rattle.manifest.specs.declared.Seed.{Seed}
 use Rattle.manifest.specs.declared.Seed.the-variants as seed
 use Rattle.manifest.specs.declared.Created.{Created}
 use Rattle.manifest.specs.declared.Created.the-variants as created
 use Rattle.manifest.specs.declared.Manifest.{Manifest}
-use Rattle.manifest.proofs.Judging.{AllGood, followed-passed, files-good, good-files, files-most}
+use Rattle.manifest.proofs.Judging.{AllGood, files-good, good-files, files-most}
 
 -- ---- lengths
 
@@ -41,7 +40,7 @@ seed-length pool seed.Null h = refl
 seed-length pool (seed.Bytes start len) h =
     let d = digest-within pool (record { start = start; len = len }) h in
     let l = part-length pool (record { start = start; len = len }) (d .0) ∙ d .1 in
-    omega (arith, length-string 2 (partIn pool (record { start = start; len = len })), l, size-32 l)
+    omega (arith, length-string 2 (partAt pool (record { start = start; len = len })), l, size-32 l)
   where
     size-32 : {n : ℕ} → n ≡ 32 → headSize n ≡ 2
     size-32 {n} e = size-two n (omega arith) (omega arith)
@@ -108,13 +107,13 @@ pub record Fit (pool : List ℕ) (m : Manifest) : Type 0 where
   pub small : length (manifestOf pool (listed m)) ≤ 16384
 
 module _ (pool : List ℕ) (m : Manifest) where
-  pub verdict-fit : {bs : List ℕ} → manifestVerdict pool m ≡ bytes bs → Fit pool m × (bs ≡ manifestOf pool (listed m))
+  pub verdict-fit : {bs : List ℕ} → manifestVerdict pool m ≡ done bs → Fit pool m × (bs ≡ manifestOf pool (listed m))
   unfolding manifestVerdict listed
   verdict-fit h =
       let a = passed (seedAllowed pool (m .seed)) _ 19 h in
       let b = passed (leb 1 (m .count) && leb (m .count) 64) _ 19 (a .1) in
       let n = both-hold (leb 1 (m .count)) (leb (m .count) 64) (b .0) in
-      let f = followed-passed (filesVerdict pool [] (take (m .count) (m .files))) _ (b .1) in
+      let f = then-done (filesVerdict pool [] (take (m .count) (m .files))) _ (b .1) in
       let d = passed (agrees (m .seed) (m .sealed)) _ 19 (f .2) in
       let t = passed (createdAllowed (m .created)) _ 19 (d .1) in
       let w = passed (leb (length (manifestOf pool (listed m))) 16384) _ 9 (t .1) in (
@@ -127,10 +126,10 @@ module _ (pool : List ℕ) (m : Manifest) where
           dated = t .0;
           small = leb-true (length (manifestOf pool (listed m))) 16384 (w .0);
         },
-        sym (bytes-injective (w .1)),
+        sym (done-value (w .1)),
       )
 
-  pub fit-verdict : Fit pool m → manifestVerdict pool m ≡ bytes (manifestOf pool (listed m))
+  pub fit-verdict : Fit pool m → manifestVerdict pool m ≡ done (manifestOf pool (listed m))
   unfolding manifestVerdict listed
   fit-verdict f =
       rw (
@@ -144,7 +143,7 @@ module _ (pool : List ℕ) (m : Manifest) where
       )
 
   -- how long it is, by the length of its files
-  pub fit-length : length (m .files) ≡ 64 → m .count ≤ 64 → seedAllowed pool (m .seed) ≡ true → {bs : List ℕ} → filesVerdict pool [] (take (m .count) (m .files)) ≡ bytes bs
+  pub fit-length : length (m .files) ≡ 64 → m .count ≤ 64 → seedAllowed pool (m .seed) ≡ true → {bs : List ℕ} → filesVerdict pool [] (take (m .count) (m .files)) ≡ done bs
       → length (manifestOf pool (listed m)) ≡ 37 + seedSize (m .seed) + headSize (m .count) + length bs + createdSize (m .created)
   unfolding manifestOf saidIn listed
   fit-length array few s {bs} h =
@@ -160,14 +159,14 @@ module _ (pool : List ℕ) (m : Manifest) where
 
 -- ---- `judge::whole`
 
-module _ (v : Verdict) (j : Wrote) (k : List ℕ → Verdict) (e : told j ≡ outcome v) where
+module _ (v : Answer (List ℕ)) (j : Wrote) (k : List ℕ → Answer (List ℕ)) (e : told j ≡ outcome v) where
   -- the files are refused
-  pub outcome-stop : (x : ℕ) → j ≡ Refused x → told j ≡ outcome (followed v k)
-  outcome-stop x h = e ∙ ap outcome (refused-verdict v j x e h ∙ sym (ap (λ (w : Verdict). followed w k) (refused-verdict v j x e h)))
+  pub outcome-stop : (x : ℕ) → j ≡ Refused x → told j ≡ outcome (then v k)
+  outcome-stop x h = e ∙ ap outcome (refused-verdict v j x e h ∙ sym (ap (λ (w : Answer (List ℕ)). then w k) (refused-verdict v j x e h)))
 
   -- they are not
-  pub outcome-on : (n : ℕ) (r : Answer ℕ) → j ≡ Done n → ((bs : List ℕ) → v ≡ bytes bs → length bs ≡ n → r ≡ outcome (k bs)) → r ≡ outcome (followed v k)
-  outcome-on n r h f = let d = done-verdict v j n e h in f (d .0) (d .1) (d .2) ∙ sym (ap (λ (w : Verdict). outcome (followed w k)) (d .1))
+  pub outcome-on : (n : ℕ) (r : Answer ℕ) → j ≡ Done n → ((bs : List ℕ) → v ≡ done bs → length bs ≡ n → r ≡ outcome (k bs)) → r ≡ outcome (then v k)
+  outcome-on n r h f = let d = done-verdict v j n e h in f (d .0) (d .1) (d .2) ∙ sym (ap (λ (w : Answer (List ℕ)). outcome (then w k)) (d .1))
 
 pub list-small : (pool : List ℕ) (fs : List File) (j : Wrote) (n : ℕ) → told j ≡ outcome (filesVerdict pool [] fs) → j ≡ Done n → length fs ≤ 64 → n ≤ 65536
 list-small pool fs j n e k l = let d = done-verdict (filesVerdict pool [] fs) j n e k in omega (arith, d .2, files-most pool [] fs (d .1))
@@ -184,7 +183,7 @@ module _ (pool : List ℕ) (m : Manifest) (array : length (m .files) ≡ 64) (a 
         let d = done-verdict (filesVerdict pool [] (take (m .count) (m .files))) j len e k in
         omega (arith, d .2, fit-length pool m array few (said-yes a _ sa ya) (d .1))
 
-    pub judge-large : 16384 < n → failed 9 ≡ outcome (manifestVerdict pool m)
+    pub judge-large : 16384 < n → refused 9 ≡ outcome (manifestVerdict pool m)
     unfolding manifestVerdict listed
     judge-large l =
         let d = done-verdict (filesVerdict pool [] (take (m .count) (m .files))) j len e k in
@@ -211,4 +210,4 @@ module _ (pool : List ℕ) (m : Manifest) (array : length (m .files) ≡ 64) (a 
           dated = said-yes t _ st yt;
           small = omega (arith, long-whole);
         } in
-        ap (done {A = ℕ}) long-whole ∙ ap outcome (sym (fit-verdict pool m f))
+        ap done long-whole ∙ ap outcome (sym (fit-verdict pool m f))

@@ -8,9 +8,10 @@ use lib.ListN.{length, take, drop, set, replicate, length-append}
 use lib.Seq.{set-at}
 use mir.Syntax.{w64}
 use mir.Val.{Fits}
-use Rattle.wire.specs.Answer.{Got, got, refused, then, numberOf}
+use Rattle.wire.specs.Answer.{done, refusedAt, refused, numberOf, then, Got, got}
+use Rattle.wire.specs.Span.{partAt}
 use Rattle.cbor.specs.declared.NumberRead.the-variants as number
-use Rattle.entry.specs.File.{partIn, fileAt}
+use Rattle.entry.specs.File.{fileAt}
 use Rattle.entry.specs.Answer.{fileTold}
 use Rattle.entry.specs.declared.File.{File}
 use Rattle.entry.specs.declared.FileRead.{FileRead}
@@ -33,25 +34,25 @@ padded-set fs f i e h =
 
 -- the files behind those that are done
 abbrev pub behind : List File → Got (List File) → Got (List File)
-behind done g = then g (λ fs next. got (done ++ fs) next)
+behind front g = then g (λ (fs, next). got (front ++ fs) next)
 
 behind-none : (g : Got (List File)) → g ≡ behind [] g
-behind-none (got fs next) = refl
-behind-none (refused e) = refl
+behind-none (done (fs, next)) = refl
+behind-none (refusedAt e place) = refl
 
-behind-one : (done : List File) (f : File) (g : Got (List File)) → behind done (then g (λ fs next. got (f ∷ fs) next)) ≡ behind (done ++ (f ∷ [])) g
-behind-one done f (got fs next) = ap (λ (l : List File). got l next) (sym (append-assoc done (f ∷ []) fs))
-behind-one done f (refused e) = refl
+behind-one : (front : List File) (f : File) (g : Got (List File)) → behind front (then g (λ (fs, next). got (f ∷ fs) next)) ≡ behind (front ++ (f ∷ [])) g
+behind-one front f (done (fs, next)) = ap (λ (l : List File). got l next) (sym (append-assoc front (f ∷ []) fs))
+behind-one front f (refusedAt e place) = refl
 
 -- after i files: those that are done stand in the array, and the rest of the work is the whole of it
 pub record Reading (s : List ℕ) (at count : ℕ) (files : List File) (i p start end : ℕ) : Type 0 where
   pub most : i ≤ count
   pub order : start ≤ end
   pub within : end ≤ length s
-  pub done : List File
-  pub many : length done ≡ i
-  pub array : files ≡ padded done
-  pub whole : filesAt s count at [] ≡ behind done (filesAt s (count - i) p (take (end - start) (drop start s)))
+  pub front : List File
+  pub many : length front ≡ i
+  pub array : files ≡ padded front
+  pub whole : filesAt s count at [] ≡ behind front (filesAt s (count - i) p (take (end - start) (drop start s)))
 
 pub read-none : (s : List ℕ) (at count : ℕ) (files : List File) → files ≡ padded [] → Reading s at count files 0 at 0 0
 read-none s at count files e =
@@ -59,7 +60,7 @@ read-none s at count files e =
       most = omega arith;
       order = omega arith;
       within = omega arith;
-      done = [];
+      front = [];
       many = refl;
       array = e;
       whole = behind-none (filesAt s count at []) ∙ ap (λ (k : ℕ). behind [] (filesAt s k at [])) (sym (sub-zero count));
@@ -70,16 +71,16 @@ module _ (s : List ℕ) (at count : ℕ) (files : List File) (i p start end : �
   unfolding filesAt
   read-end l =
       let z : count - i ≡ 0 = omega arith in
-      let n : length (h .done) ≡ count = omega (arith, h .many, h .most) in
-      let w : filesAt s count at [] ≡ got (h .done) p =
+      let n : length (h .front) ≡ count = omega (arith, h .many, h .most) in
+      let w : filesAt s count at [] ≡ got (h .front) p =
       h .whole
-      ∙ ap (λ (k : ℕ). behind (h .done) (filesAt s k p (take (end - start) (drop start s)))) z
-      ∙ ap (λ (l : List File). got l p) (append-nil (h .done)) in
+      ∙ ap (λ (k : ℕ). behind (h .front) (filesAt s k p (take (end - start) (drop start s)))) z
+      ∙ ap (λ (l : List File). got l p) (append-nil (h .front)) in
       rw (w, n, h .array)
 
   module _ (l : i < count) (r : FileRead) (e : fileTold r ≡ fileAt s p (take (end - start) (drop start s))) where
     one-more : filesAt s count at []
-        ≡ behind (h .done) (then (fileTold r) (λ f q. then (filesAt s (count - (i + 1)) q (partIn s (f .path))) (λ fs next. got (f ∷ fs) next)))
+        ≡ behind (h .front) (then (fileTold r) (λ (f, q). then (filesAt s (count - (i + 1)) q (partAt s (f .path))) (λ (fs, next). got (f ∷ fs) next)))
     unfolding filesAt
     one-more = let n : count - i ≡ suc (count - (i + 1)) = omega arith in rw (h .whole, n, e)
 
@@ -87,7 +88,7 @@ module _ (s : List ℕ) (at count : ℕ) (files : List File) (i p start end : �
     read-no n x y k q u =
         let z : n ≡ x = q ∙ ap (λ (v : FileRead). numberOf (fileTold v)) k in
         let w : filesAt s count at [] ≡ refused x =
-        one-more ∙ ap (λ (v : FileRead). behind (h .done) (then (fileTold v) (λ f q. then (filesAt s (count - (i + 1)) q (partIn s (f .path))) (λ fs next. got (f ∷ fs) next)))) k in
+        one-more ∙ ap (λ (v : FileRead). behind (h .front) (then (fileTold v) (λ (f, q). then (filesAt s (count - (i + 1)) q (partAt s (f .path))) (λ (fs, next). got (f ∷ fs) next)))) k in
         u ∙ rw (w, z)
 
     module _ (f : File) (next : ℕ) (k : r ≡ Value f next) where
@@ -104,12 +105,12 @@ module _ (s : List ℕ) (at count : ℕ) (files : List File) (i p start end : �
             most = omega arith;
             order = omega arith;
             within = path-within;
-            done = h .done ++ (f ∷ []);
-            many = omega (arith, length-append (h .done) (f ∷ []), h .many);
-            array = ap (λ (l : List File). set l i f) (h .array) ∙ padded-set (h .done) f i (h .many) (omega arith);
+            front = h .front ++ (f ∷ []);
+            many = omega (arith, length-append (h .front) (f ∷ []), h .many);
+            array = ap (λ (l : List File). set l i f) (h .array) ∙ padded-set (h .front) f i (h .many) (omega arith);
             whole =
                 one-more
-                ∙ ap (λ (x : FileRead). behind (h .done) (then (fileTold x) (λ f q. then (filesAt s (count - (i + 1)) q (partIn s (f .path))) (λ fs next. got (f ∷ fs) next)))) k
-                ∙ behind-one (h .done) f (filesAt s (count - (i + 1)) next (partIn s (f .path)))
-                ∙ ap (λ (j : ℕ). behind (h .done ++ (f ∷ [])) (filesAt s (count - (i + 1)) next (take j (drop (f .path .start) s)))) (sym n);
+                ∙ ap (λ (x : FileRead). behind (h .front) (then (fileTold x) (λ (f, q). then (filesAt s (count - (i + 1)) q (partAt s (f .path))) (λ (fs, next). got (f ∷ fs) next)))) k
+                ∙ behind-one (h .front) f (filesAt s (count - (i + 1)) next (partAt s (f .path)))
+                ∙ ap (λ (j : ℕ). behind (h .front ++ (f ∷ [])) (filesAt s (count - (i + 1)) next (take j (drop (f .path .start) s)))) (sym n);
           }

@@ -7,10 +7,11 @@ use native.Mathlib.Omega.{arith}
 use borrow.Author.Tests.{ltb-true, lt-ltb, leb-true, le-leb, ne-eqb, eqb-true, eqb-false}
 use lib.Dec.{leb, eqb}
 use lib.ListN.{length}
-use Rattle.wire.specs.Answer.{choose, Got, got, then}
+use Rattle.wire.specs.Answer.{choose, then, Got, got}
 use Rattle.wire.specs.Number.{Bytes, bigEndian}
-use Rattle.wire.proofs.Cases.{passed, then-passed}
+use Rattle.wire.proofs.Cases.{passed, then-passed, got-next, got-value}
 use Rattle.wire.proofs.Standing.{Stands, stands-none, stands-first, stands-second, stands-join, stands-as}
+use Rattle.wire.specs.Span.{partAt}
 use Rattle.cbor.specs.Form.{infoOf, widthOf, headOf, stringOf, doubleOf}
 use Rattle.cbor.specs.Item.{byteAt, numberAt, keyAt, stringAt, doubleAt}
 use Rattle.cbor.specs.Names.{seedKey, filesKey, sealedKey, createdKey}
@@ -18,7 +19,7 @@ use Rattle.cbor.proofs.Sizes.{info-most, either}
 use Rattle.cbor.proofs.Within.{number-within, string-within}
 use Rattle.cbor.proofs.Written.{kind-bytes, kind-array, byte-back, double-back, key-back, number-back, string-back}
 use Rattle.cbor.proofs.Only.{byte-only, double-only, key-only, number-only, string-only}
-use Rattle.entry.specs.File.{partIn, integerAt, fileAt}
+use Rattle.entry.specs.File.{integerAt, fileAt}
 use Rattle.entry.specs.Writing.{Entry, entryIn, entryOf, integerOf, fileOf}
 use Rattle.entry.specs.declared.File.{File}
 use Rattle.entry.proofs.Writers.{within-digest}
@@ -72,23 +73,21 @@ seed-only {s} {at} {next} {v} y e =
     (stands-join (key-only seedKey (k .2) .0) (r .0), r .1)
   where
     value : (a x p : ℕ) → byteAt s a ≡ got x p
-        → choose (eqb x 0xF6) (got seed.Null p) (then (stringAt s a 2 32 32 19) (λ v next. got (seed.Bytes (v .start) (v .len)) next)) ≡ got v next
+        → choose (eqb x 0xF6) (got seed.Null p) (then (stringAt s a 2 32 32 19) (λ (v, next). got (seed.Bytes (v .start) (v .len)) next)) ≡ got v next
         → Stands s a (secretOf (seedIn s v)) next × (seedAllowed s v ≡ true)
     value a x p b = either (λ (g : Got Seed). g ≡ got v next → Stands s a (secretOf (seedIn s v)) next × (seedAllowed s v ≡ true)) (eqb x 0xF6) null whole
       where
         null : eqb x 0xF6 ≡ true → got seed.Null p ≡ got v next → Stands s a (secretOf (seedIn s v)) next × (seedAllowed s v ≡ true)
         null q g =
-            let f : seed.Null ≡ v = cc in
-            let n : p ≡ next = cc in
-            subst (λ (v : Seed). Stands s a (secretOf (seedIn s v)) next × (seedAllowed s v ≡ true)) f
-            (stands-as (ap (λ (z : ℕ). z ∷ []) (eqb-true x 0xF6 q)) n (byte-only b), refl)
+            subst (λ (v : Seed). Stands s a (secretOf (seedIn s v)) next × (seedAllowed s v ≡ true)) (got-value g)
+            (stands-as (ap (λ (z : ℕ). z ∷ []) (eqb-true x 0xF6 q)) (got-next g) (byte-only b), refl)
 
-        whole : eqb x 0xF6 ≡ false → then (stringAt s a 2 32 32 19) (λ v next. got (seed.Bytes (v .start) (v .len)) next) ≡ got v next
+        whole : eqb x 0xF6 ≡ false → then (stringAt s a 2 32 32 19) (λ (v, next). got (seed.Bytes (v .start) (v .len)) next) ≡ got v next
             → Stands s a (secretOf (seedIn s v)) next × (seedAllowed s v ≡ true)
         whole q g =
-            let i = then-passed (stringAt s a 2 32 32 19) (λ v next. got (seed.Bytes (v .start) (v .len)) next) g in
-            let f : seed.Bytes (i .0 .start) (i .0 .len) ≡ v = cc (i .3) in
-            let n : i .1 ≡ next = cc (i .3) in
+            let i = then-passed (stringAt s a 2 32 32 19) (λ (v, next). got (seed.Bytes (v .start) (v .len)) next) g in
+            let f : seed.Bytes (i .0 .start) (i .0 .len) ≡ v = got-value (i .3) in
+            let n : i .1 ≡ next = got-next (i .3) in
             let w = string-within s a 2 32 32 19 (i .2) in
             subst (λ (v : Seed). Stands s a (secretOf (seedIn s v)) next × (seedAllowed s v ≡ true)) f (
               stands-as refl n (string-only 2 32 32 19 y (i .2) .0),
@@ -105,7 +104,7 @@ AllSound prev (e ∷ es) = Sound prev e × AllSound (e .path) es
 pub all-sound : (pool prev : List ℕ) (fs : List File) → AllGood pool prev fs → AllSound prev (map (entryIn pool) fs)
 unfolding entryIn
 all-sound pool prev [] g = tt
-all-sound pool prev (f ∷ fs) g = (good-sound pool prev f (g .0), all-sound pool (partIn pool (f .path)) fs (g .1))
+all-sound pool prev (f ∷ fs) g = (good-sound pool prev f (g .0), all-sound pool (partAt pool (f .path)) fs (g .1))
 
 pub files-back : {s : List ℕ} {at next : ℕ} (prev : List ℕ) (es : List Entry) → AllSound prev es → Stands s at (entriesOf es) next
     → (fs : List File) × (filesAt s (length es) at prev ≡ got fs next) × (map (entryIn s) fs ≡ es)
@@ -114,23 +113,22 @@ files-back {s} {at} {next} prev [] g h = ([], ap (got []) (omega (arith, h .ends
 files-back {s} {at} {next} prev (e ∷ es) g h =
     let a = file-back prev e (g .0) (stands-first (entryOf e) (entriesOf es) h) in
     let r = files-back (e .path) es (g .1) (stands-second (entryOf e) (entriesOf es) h) in
-    let p : partIn s (a .0 .path) ≡ e .path = ap (λ (x : Entry). x .path) (a .2) in
+    let p : partAt s (a .0 .path) ≡ e .path = ap (λ (x : Entry). x .path) (a .2) in
     (a .0 ∷ r .0, rw (a .1, p, r .1), ap₂ (λ (x : Entry) (xs : List Entry). x ∷ xs) (a .2) (r .2))
 
 pub files-only : {s : List ℕ} {next : ℕ} (at : ℕ) (prev : List ℕ) (k : ℕ) {fs : List File} → Bytes s → at ≤ length s → filesAt s k at prev ≡ got fs next
     → Stands s at (entriesOf (map (entryIn s) fs)) next × AllGood s prev fs × (length fs ≡ k)
 unfolding filesAt entriesOf fileOf
 files-only {s} {next} at prev zero {fs} y l e =
-    let f : [] ≡ fs = cc in
-    let n : at ≡ next = cc in
-    subst (λ (fs : List File). Stands s at (entriesOf (map (entryIn s) fs)) next × AllGood s prev fs × (length fs ≡ 0)) f (stands-as refl n (stands-none at l), tt, refl)
+    subst (λ (fs : List File). Stands s at (entriesOf (map (entryIn s) fs)) next × AllGood s prev fs × (length fs ≡ 0)) (got-value e)
+    (stands-as refl (got-next e) (stands-none at l), tt, refl)
 files-only {s} {next} at prev (suc k) {fs} y l e =
     let a = then-passed (fileAt s at prev) _ e in
-    let b = then-passed (filesAt s k (a .1) (partIn s (a .0 .path))) _ (a .3) in
-    let f : a .0 ∷ b .0 ≡ fs = cc (b .3) in
-    let n : b .1 ≡ next = cc (b .3) in
+    let b = then-passed (filesAt s k (a .1) (partAt s (a .0 .path))) _ (a .3) in
+    let f : a .0 ∷ b .0 ≡ fs = got-value (b .3) in
+    let n : b .1 ≡ next = got-next (b .3) in
     let p = file-only prev y (a .2) in
-    let r = files-only (a .1) (partIn s (a .0 .path)) k y (p .0 .within) (b .2) in
+    let r = files-only (a .1) (partAt s (a .0 .path)) k y (p .0 .within) (b .2) in
     subst (λ (fs : List File). Stands s at (entriesOf (map (entryIn s) fs)) next × AllGood s prev fs × (length fs ≡ suc k)) f
     (stands-join (p .0) (stands-as refl n (r .0)), (p .1, r .1), ap suc (r .2))
 
@@ -208,8 +206,8 @@ sealed-only {s} {at} {next} {v} {b} e =
     let p = passed (leb 0xF4 (c .0)) _ 18 (c .3) in
     let q = passed (leb (c .0) 0xF5) _ 18 (p .1) in
     let r = passed (agrees v (eqb (c .0) 0xF5)) (got (eqb (c .0) 0xF5) (c .1)) 19 (q .1) in
-    let f : eqb (c .0) 0xF5 ≡ b = cc (r .1) in
-    let n : c .1 ≡ next = cc (r .1) in
+    let f : eqb (c .0) 0xF5 ≡ b = got-value (r .1) in
+    let n : c .1 ≡ next = got-next (r .1) in
     let x = flag-of (c .0) (leb-true 0xF4 (c .0) (p .0)) (leb-true (c .0) 0xF5 (q .0)) in
     record {
       after-key = k .1;
@@ -250,7 +248,7 @@ created-only {s} {at} {next} {v} y e =
     let r = value (k .1) (b .0) (b .3) in
     (stands-join (key-only createdKey (k .2) .0) (r .0), r .1, r .2)
   where
-    value : (a x : ℕ) → choose (eqb x 0xFB) (finiteAt s a) (then (integerAt s a) (λ h next. got (created.Integer (eqb (h .major) 1) (h .number)) next)) ≡ got v next
+    value : (a x : ℕ) → choose (eqb x 0xFB) (finiteAt s a) (then (integerAt s a) (λ (h, next). got (created.Integer (eqb (h .major) 1) (h .number)) next)) ≡ got v next
         → Stands s a (createdOf v) next × (createdAllowed v ≡ true) × CreatedFits v
     value a x = either (λ (g : Got Created). g ≡ got v next → Stands s a (createdOf v) next × (createdAllowed v ≡ true) × CreatedFits v) (eqb x 0xFB) double whole
       where
@@ -258,17 +256,17 @@ created-only {s} {at} {next} {v} y e =
         double q g =
             let i = then-passed (doubleAt s a) _ g in
             let u = passed (finite (i .0)) (got (created.Double (i .0)) (i .1)) 19 (i .3) in
-            let f : created.Double (i .0) ≡ v = cc (u .1) in
-            let n : i .1 ≡ next = cc (u .1) in
+            let f : created.Double (i .0) ≡ v = got-value (u .1) in
+            let n : i .1 ≡ next = got-next (u .1) in
             let r = double-only y (i .2) in
             subst (λ (v : Created). Stands s a (createdOf v) next × (createdAllowed v ≡ true) × CreatedFits v) f (stands-as refl n (r .0), u .0, r .1)
 
-        whole : eqb x 0xFB ≡ false → then (integerAt s a) (λ h next. got (created.Integer (eqb (h .major) 1) (h .number)) next) ≡ got v next
+        whole : eqb x 0xFB ≡ false → then (integerAt s a) (λ (h, next). got (created.Integer (eqb (h .major) 1) (h .number)) next) ≡ got v next
             → Stands s a (createdOf v) next × (createdAllowed v ≡ true) × CreatedFits v
         whole q g =
-            let i = then-passed (integerAt s a) (λ h next. got (created.Integer (eqb (h .major) 1) (h .number)) next) g in
-            let f : created.Integer (eqb (i .0 .major) 1) (i .0 .number) ≡ v = cc (i .3) in
-            let n : i .1 ≡ next = cc (i .3) in
+            let i = then-passed (integerAt s a) (λ (h, next). got (created.Integer (eqb (h .major) 1) (h .number)) next) g in
+            let f : created.Integer (eqb (i .0 .major) 1) (i .0 .number) ≡ v = got-value (i .3) in
+            let n : i .1 ≡ next = got-next (i .3) in
             let r = integer-only y (i .2) in
             subst (λ (v : Created). Stands s a (createdOf v) next × (createdAllowed v ≡ true) × CreatedFits v) f
             (stands-as refl n (r .0), lt-ltb (i .0 .number) 9223372036854775808 (r .1), tt)

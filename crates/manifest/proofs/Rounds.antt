@@ -8,18 +8,18 @@ use borrow.Author.Tests.{le-leb, leb-true, eq-eqb, eqb-true}
 use lib.Dec.{leb, eqb}
 use lib.ListN.{length, take, length-map}
 use lib.Seq.{take-at, length-take-le}
-use Rattle.wire.specs.Answer.{choose, Got, got}
+use Rattle.wire.specs.Answer.{choose, done, Got, got}
 use Rattle.wire.specs.Number.{Bytes}
-use Rattle.wire.specs.Writing.{bytes}
 use Rattle.wire.proofs.Cases.{passed, then-passed, got-value, got-next, got-as}
 use Rattle.wire.proofs.Standing.{Stands, stands-whole, stands-all, stands-first, stands-second, stands-join, stands-as}
+use Rattle.wire.specs.Span.{partAt}
 use Rattle.cbor.specs.Form.{headOf, stringOf, numberFieldOf}
 use Rattle.cbor.specs.Item.{oneAt, numberAt, keyAt, numberFieldAt}
 use Rattle.cbor.specs.Names.{seedKey, filesKey, sealedKey, createdKey, versionKey}
 use Rattle.cbor.proofs.Within.{number-within, number-field-within}
 use Rattle.cbor.proofs.Written.{one-back, number-field-back}
 use Rattle.cbor.proofs.Only.{one-only, number-field-only}
-use Rattle.entry.specs.File.{partIn, fileAt}
+use Rattle.entry.specs.File.{fileAt}
 use Rattle.entry.specs.Writing.{Entry, entryIn}
 use Rattle.entry.specs.declared.File.{File}
 use Rattle.entry.proofs.Sizes.{part-length}
@@ -56,14 +56,13 @@ AllInside s (f ∷ fs) = Inside s f × AllInside s fs
 files-inside : (s : List ℕ) (k at : ℕ) (prev : List ℕ) {fs : List File} {next : ℕ} → filesAt s k at prev ≡ got fs next → AllInside s fs × (length fs ≡ k)
 unfolding filesAt
 files-inside s zero at prev {fs} e =
-    let f : [] ≡ fs = cc in
-    subst (λ (fs : List File). AllInside s fs × (length fs ≡ 0)) f (tt, refl)
+    subst (λ (fs : List File). AllInside s fs × (length fs ≡ 0)) (got-value e) (tt, refl)
 files-inside s (suc k) at prev {fs} e =
     let a = then-passed (fileAt s at prev) _ e in
-    let b = then-passed (filesAt s k (a .1) (partIn s (a .0 .path))) _ (a .3) in
-    let f : a .0 ∷ b .0 ≡ fs = cc (b .3) in
+    let b = then-passed (filesAt s k (a .1) (partAt s (a .0 .path))) _ (a .3) in
+    let f : a .0 ∷ b .0 ≡ fs = got-value (b .3) in
     let w = file-within s at prev (a .2) in
-    let r = files-inside s k (a .1) (partIn s (a .0 .path)) (b .2) in
+    let r = files-inside s k (a .1) (partAt s (a .0 .path)) (b .2) in
     subst (λ (fs : List File). AllInside s fs × (length fs ≡ suc k)) f
     ((record { hash-within = w .0; hash-long = w .1; path-within = w .2; sized = omega (arith, w .3) }, r .0), ap suc (r .1))
 
@@ -195,7 +194,7 @@ said-back s v w sl fs a b ca cf l t₀ =
     )
 
 -- every value that the writer accepts, written, reads back as what it says
-pub manifest-back : (pool : List ℕ) (m : Manifest) {bs : List ℕ} → Typed m → manifestVerdict pool m ≡ bytes bs
+pub manifest-back : (pool : List ℕ) (m : Manifest) {bs : List ℕ} → Typed m → manifestVerdict pool m ≡ done bs
     → (v : Listing) × (manifestAt bs ≡ got v (length bs)) × (saidIn bs v ≡ saidIn pool (listed m))
 unfolding saidIn listed manifestOf
 manifest-back pool m {bs} y h =
@@ -227,7 +226,7 @@ listed-value v =
 -- a payload of bytes that is read is the written form, with itself as the pool, of the value read; and the writer accepts that value:
 -- what is read and then written is as it was
 pub manifest-only : {s : List ℕ} {v : Listing} {next : ℕ} → Bytes s → manifestAt s ≡ got v next
-    → (s ≡ manifestOf s v) × (next ≡ length s) × (manifestVerdict s (answerFor (manifestAt s) .value) ≡ bytes s)
+    → (s ≡ manifestOf s v) × (next ≡ length s) × (manifestVerdict s (answerFor (manifestAt s) .value) ≡ done s)
 unfolding manifestOf saidOf saidIn listed
 manifest-only {s} {v} {next} y e =
     let t = manifest-steps s e in
@@ -250,7 +249,7 @@ manifest-only {s} {v} {next} y e =
     (whole, z .ends, verdict whole (a .1) b (c .agreed) (d .1) (t .small))
   where
     verdict : s ≡ manifestOf s v → seedAllowed s (v .seed) ≡ true → {at q : ℕ} → Listed s at (v .files) q → agrees (v .seed) (v .sealed) ≡ true → createdAllowed (v .created) ≡ true → length s ≤ 16384
-        → manifestVerdict s (answerFor (manifestAt s) .value) ≡ bytes s
+        → manifestVerdict s (answerFor (manifestAt s) .value) ≡ done s
     verdict whole a b c d small =
         let m : Manifest = record { seed = v .seed; files = padded (v .files); count = length (v .files); sealed = v .sealed; created = v .created } in
         let i = listed-value v in
@@ -266,7 +265,7 @@ manifest-only {s} {v} {next} y e =
         } in
         ap (λ (g : Got Listing). manifestVerdict s (answerFor g .value)) e
         ∙ fit-verdict s (record { seed = v .seed; files = padded (v .files); count = length (v .files); sealed = v .sealed; created = v .created }) f
-        ∙ ap bytes (ap (manifestOf s) i ∙ sym whole)
+        ∙ ap done (ap (manifestOf s) i ∙ sym whole)
 
 -- For the reader: two payloads of bytes that say the same are one
 pub manifest-once : {s t : List ℕ} {v w : Listing} {i j : ℕ} → Bytes s → Bytes t → manifestAt s ≡ got v i → manifestAt t ≡ got w j → saidIn s v ≡ saidIn t w → s ≡ t

@@ -3,7 +3,7 @@ use Prim.Native.Nat.{_-_}
 use mathlib.Core.Bool.{true, false}
 use mathlib.Core.List.{List, [], _++_}
 use lib.ListN.{length, replicate}
-use Rattle.wire.specs.Answer.{Got, got, refused}
+use Rattle.wire.specs.Answer.{done, refusedAt, Got}
 use Rattle.cbor.specs.declared.StepRead.the-variants as step
 use Rattle.entry.specs.declared.Mtime.the-variants as mtime
 use Rattle.entry.specs.declared.File.{File}
@@ -27,9 +27,9 @@ blankManifest = record { seed = seed.Null; files = padded []; count = 0; sealed 
 
 -- the whole answer
 abbrev pub answerFor : Got Listing → ManifestRead
-answerFor (got v next) =
+answerFor (done (v, next)) =
     record {
       answer = step.Past next;
       value = record { seed = v .seed; files = padded (v .files); count = length (v .files); sealed = v .sealed; created = v .created };
     }
-answerFor (refused e) = record { answer = step.Refused e; value = blankManifest }
+answerFor (refusedAt e place) = record { answer = step.Refused e; value = blankManifest }

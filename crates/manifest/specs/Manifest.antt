@@ -4,10 +4,11 @@ use mathlib.Core.Bool.{Bool, not}
 use mathlib.Core.List.{List, [], _∷_}
 use lib.Dec.{leb, eqb}
 use lib.ListN.{length}
-use Rattle.wire.specs.Answer.{choose, Got, got, then}
-use Rattle.cbor.specs.Item.{demand, byteAt, oneAt, numberAt, keyAt, stringAt, doubleAt, numberFieldAt}
+use Rattle.wire.specs.Answer.{choose, then, demand, Got, got}
+use Rattle.wire.specs.Span.{partAt}
+use Rattle.cbor.specs.Item.{byteAt, oneAt, numberAt, keyAt, stringAt, doubleAt, numberFieldAt}
 use Rattle.cbor.specs.Names.{seedKey, filesKey, sealedKey, createdKey, versionKey}
-use Rattle.entry.specs.File.{partIn, integerAt, fileAt}
+use Rattle.entry.specs.File.{integerAt, fileAt}
 use Rattle.entry.specs.declared.File.{File}
 use Rattle.manifest.specs.declared.Seed.{Seed}
 use Rattle.manifest.specs.declared.Seed.the-variants as seed
@@ -24,19 +25,19 @@ pub record Listing : Type 0 where
 -- null, which is F6, or 32 bytes
 unfoldable pub seedAt : List ℕ → ℕ → Got Seed
 seedAt s at =
-    then (keyAt s at seedKey) (λ _ a.
-    then (byteAt s a) (λ x p.
-    choose (eqb x 0xF6) (got seed.Null p) (then (stringAt s a 2 32 32 19) (λ v next. got (seed.Bytes (v .start) (v .len)) next))))
+    then (keyAt s at seedKey) (λ (_, a).
+    then (byteAt s a) (λ (x, p).
+    choose (eqb x 0xF6) (got seed.Null p) (then (stringAt s a 2 32 32 19) (λ (v, next). got (seed.Bytes (v .start) (v .len)) next))))
 
 -- so many files, the first above prev and each above the one before it
 unfoldable pub filesAt : List ℕ → ℕ → ℕ → List ℕ → Got (List File)
 filesAt s zero at prev = got [] at
 filesAt s (suc k) at prev =
-    then (fileAt s at prev) (λ f p. then (filesAt s k p (partIn s (f .path))) (λ fs next. got (f ∷ fs) next))
+    then (fileAt s at prev) (λ (f, p). then (filesAt s k p (partAt s (f .path))) (λ (fs, next). got (f ∷ fs) next))
 
 -- "1 to 64 files": every path is above the empty one
 unfoldable pub listAt : List ℕ → ℕ → Got (List File)
-listAt s at = then (keyAt s at filesKey) (λ _ a. then (numberAt s a 4 1 64 19) (λ k p. filesAt s k p []))
+listAt s at = then (keyAt s at filesKey) (λ (_, a). then (numberAt s a 4 1 64 19) (λ (k, p). filesAt s k p []))
 
 -- "sealed means seed null; unsealed means 32 bytes"
 unfoldable pub agrees : Seed → Bool → Bool
@@ -46,8 +47,8 @@ agrees (seed.Bytes start len) sealed = not sealed
 -- true, which is F5, or false, which is F4; it is judged here whether it agrees with the seed
 unfoldable pub sealedAt : List ℕ → ℕ → Seed → Got Bool
 sealedAt s at key =
-    then (keyAt s at sealedKey) (λ _ a.
-    then (byteAt s a) (λ x next.
+    then (keyAt s at sealedKey) (λ (_, a).
+    then (byteAt s a) (λ (x, next).
     demand (leb 0xF4 x) 18 (demand (leb x 0xF5) 18 (demand (agrees key (eqb x 0xF5)) 19 (got (eqb x 0xF5) next)))))
 
 -- a double is finite where its eleven exponent bits are not all ones
@@ -55,15 +56,15 @@ unfoldable pub finite : ℕ → Bool
 finite bits = not (eqb (bits / 4503599627370496 % 2048) 2047)
 
 unfoldable pub finiteAt : List ℕ → ℕ → Got Created
-finiteAt s at = then (doubleAt s at) (λ bits next. demand (finite bits) 19 (got (created.Double bits) next))
+finiteAt s at = then (doubleAt s at) (λ (bits, next). demand (finite bits) 19 (got (created.Double bits) next))
 
 -- an integer, or FB with eight bytes
 unfoldable pub createdAt : List ℕ → ℕ → Got Created
 createdAt s at =
-    then (keyAt s at createdKey) (λ _ a.
-    then (byteAt s a) (λ x _.
+    then (keyAt s at createdKey) (λ (_, a).
+    then (byteAt s a) (λ (x, _).
     choose (eqb x 0xFB) (finiteAt s a)
-    (then (integerAt s a) (λ h next. got (created.Integer (eqb (h .major) 1) (h .number)) next))))
+    (then (integerAt s a) (λ (h, next). got (created.Integer (eqb (h .major) 1) (h .number)) next))))
 
 -- what stands after the files
 pub record Ending : Type 0 where
@@ -73,17 +74,17 @@ pub record Ending : Type 0 where
 -- `sealed`, `created`, and `version`, which is 1, and nothing after
 unfoldable pub endAt : List ℕ → ℕ → Seed → Got Ending
 endAt s at key =
-    then (sealedAt s at key) (λ sealed a.
-    then (createdAt s a) (λ created b.
-    then (numberFieldAt s b versionKey 1 1) (λ _ next.
+    then (sealedAt s at key) (λ (sealed, a).
+    then (createdAt s a) (λ (created, b).
+    then (numberFieldAt s b versionKey 1 1) (λ (_, next).
     demand (eqb next (length s)) 3 (got (record { sealed = sealed; created = created }) next))))
 
 -- "a manifest above 16,384 bytes is 9 before all else"; head A5: `seed`, `files`, `sealed`, `created`, `version`
 unfoldable pub manifestAt : List ℕ → Got Listing
 manifestAt s =
     demand (leb (length s) 16384) 9
-    (then (oneAt s 0 0xA5) (λ _ a.
-    then (seedAt s a) (λ key b.
-    then (listAt s b) (λ files c.
-    then (endAt s c key) (λ end next.
+    (then (oneAt s 0 0xA5) (λ (_, a).
+    then (seedAt s a) (λ (key, b).
+    then (listAt s b) (λ (files, c).
+    then (endAt s c key) (λ (end, next).
     got (record { seed = key; files = files; sealed = end .sealed; created = end .created }) next)))))

@@ -4,8 +4,7 @@ use mathlib.Core.Path.{_≡_}
 use mathlib.Core.Bool.{Bool}
 use mathlib.Core.List.{List, [], _∷_, _++_}
 use lib.ListN.{length, take}
-use Rattle.wire.specs.Answer.{choose, Got, got, refused}
-use Rattle.wire.specs.Writing.{bytes}
+use Rattle.wire.specs.Answer.{choose, done, refusedAt, refused, Got, got}
 use Rattle.cbor.specs.Form.{headOf, headSize, stringOf, numberFieldOf}
 use Rattle.cbor.specs.Names.{seedKey, filesKey, sealedKey, createdKey, versionKey}
 use Rattle.cbor.specs.declared.NumberRead.the-variants as number
@@ -55,13 +54,13 @@ closingOf m = stringOf 3 sealedKey ++ ((choose (m .sealed) 0xF5 0xF4 ∷ []) ++ 
 pub record Room (pool : List ℕ) (m : Manifest) (at : ℕ) (out form : List ℕ) : Type 0 where
   pub few : m .count ≤ 64
   pub array : length (m .files) ≡ 64
-  pub judged : filesVerdict pool [] (take (m .count) (m .files)) ≡ bytes form
+  pub judged : filesVerdict pool [] (take (m .count) (m .files)) ≡ done form
   pub room : at + length form ≤ length out
 
 -- m may be written, and there is room for it
 pub record Ready (pool : List ℕ) (m : Manifest) (out : List ℕ) : Type 0 where
   pub array : length (m .files) ≡ 64
-  pub judged : manifestVerdict pool m ≡ bytes (manifestOf pool (listed m))
+  pub judged : manifestVerdict pool m ≡ done (manifestOf pool (listed m))
   pub room : length (manifestOf pool (listed m)) ≤ length out
 
 -- ---- what a field's reader answers, as document 01's number and value
@@ -84,5 +83,5 @@ endTold (endread.Refused e) = refused e
 
 -- the files stand in an array beside their answer
 abbrev pub filesAnswer : Got (List File) → FilesRead
-filesAnswer (got fs next) = record { answer = number.Value (length fs) next; files = padded fs }
-filesAnswer (refused e) = record { answer = number.Refused e; files = padded [] }
+filesAnswer (done (fs, next)) = record { answer = number.Value (length fs) next; files = padded fs }
+filesAnswer (refusedAt e place) = record { answer = number.Refused e; files = padded [] }

@@ -5,11 +5,10 @@ use mathlib.Core.Bool.{Bool, true, _&&_}
 use mathlib.Core.List.{List, [], _∷_, _++_, map}
 use lib.Dec.{ltb, leb}
 use lib.ListN.{length, take}
-use Rattle.wire.specs.Answer.{choose}
-use Rattle.wire.specs.Writing.{Verdict, bytes, fault}
+use Rattle.wire.specs.Answer.{choose, Answer, done, then, demand}
+use Rattle.wire.specs.Span.{partAt}
 use Rattle.cbor.specs.Form.{headOf, stringOf, doubleOf, numberFieldOf}
 use Rattle.cbor.specs.Names.{seedKey, filesKey, sealedKey, createdKey, versionKey}
-use Rattle.entry.specs.File.{partIn}
 use Rattle.entry.specs.Writing.{Entry, entryIn, entryOf, integerOf, digestIn, fileVerdict}
 use Rattle.entry.specs.declared.File.{File}
 use Rattle.manifest.specs.Manifest.{Listing, agrees, finite}
@@ -36,7 +35,7 @@ pub record Said : Type 0 where
 -- a seed whose place is in a pool
 unfoldable pub seedIn : List ℕ → Seed → Secret
 seedIn pool seed.Null = none
-seedIn pool (seed.Bytes start len) = some (partIn pool (record { start = start; len = len }))
+seedIn pool (seed.Bytes start len) = some (partAt pool (record { start = start; len = len }))
 
 -- a manifest whose places are in a pool
 unfoldable pub saidIn : List ℕ → Listing → Said
@@ -79,16 +78,11 @@ unfoldable pub seedAllowed : List ℕ → Seed → Bool
 seedAllowed pool seed.Null = true
 seedAllowed pool (seed.Bytes start len) = digestIn pool (record { start = start; len = len })
 
--- the first fault decides
-abbrev pub followed : Verdict → (List ℕ → Verdict) → Verdict
-followed (bytes bs) f = f bs
-followed (fault e) f = fault e
-
 -- each file, the first above prev and each above the one before it
-unfoldable pub filesVerdict : List ℕ → List ℕ → List File → Verdict
-filesVerdict pool prev [] = bytes []
+unfoldable pub filesVerdict : List ℕ → List ℕ → List File → Answer (List ℕ)
+filesVerdict pool prev [] = done []
 filesVerdict pool prev (f ∷ fs) =
-    followed (fileVerdict pool prev f) (λ b. followed (filesVerdict pool (partIn pool (f .path)) fs) (λ bs. bytes (b ++ bs)))
+    then (fileVerdict pool prev f) (λ b. then (filesVerdict pool (partAt pool (f .path)) fs) (λ bs. done (b ++ bs)))
 
 -- from -2^63 to 2^63 - 1, or finite
 unfoldable pub createdAllowed : Created → Bool
@@ -100,18 +94,15 @@ unfoldable pub listed : Manifest → Listing
 listed m = record { seed = m .seed; files = take (m .count) (m .files); sealed = m .sealed; created = m .created }
 
 -- the values are judged in the order of the keys, then a manifest above 16,384 bytes is 9
-unfoldable pub manifestVerdict : List ℕ → Manifest → Verdict
+unfoldable pub manifestVerdict : List ℕ → Manifest → Answer (List ℕ)
 manifestVerdict pool m =
-    choose (seedAllowed pool (m .seed))
-    (choose (leb 1 (m .count) && leb (m .count) 64)
-    (followed (filesVerdict pool [] (listed m .files)) (λ _.
-    choose (agrees (m .seed) (m .sealed))
-    (choose (createdAllowed (m .created))
-    (choose (leb (length (manifestOf pool (listed m))) 16384) (bytes (manifestOf pool (listed m))) (fault 9))
-    (fault 19))
-    (fault 19)))
-    (fault 19))
-    (fault 19)
+    demand (seedAllowed pool (m .seed)) 19
+    (demand (leb 1 (m .count) && leb (m .count) 64) 19
+    (then (filesVerdict pool [] (listed m .files)) (λ _.
+    demand (agrees (m .seed) (m .sealed)) 19
+    (demand (createdAllowed (m .created)) 19
+    (demand (leb (length (manifestOf pool (listed m))) 16384) 9
+    (done (manifestOf pool (listed m))))))))
 
 -- ---- what the types of the struct say of every value
 

@@ -12,8 +12,8 @@ use super::LARGEST;
 use super::Manifest;
 use super::Seed;
 use super::fields;
-use entry::Part;
 use wire::OUT_OF_RANGE;
+use wire::Span;
 use wire::Wrote;
 
 fn seed_allowed(pool: &[u8], seed: Seed) -> bool
@@ -21,7 +21,7 @@ fn seed_allowed(pool: &[u8], seed: Seed) -> bool
 {
     match seed {
         Seed::Null => true,
-        Seed::Bytes { start, len } => entry::write::digest(pool, Part { start, len }),
+        Seed::Bytes { start, len } => entry::write::digest(pool, Span { start, len }),
     }
 }
 
@@ -60,7 +60,7 @@ fn list(pool: &[u8], m: Manifest) -> Wrote
     let count = m.count;
     let mut i = 0;
     let mut sum = 0;
-    let mut last = Part { start: 0, len: 0 };
+    let mut last = Span { start: 0, len: 0 };
     while i < count {
         let f = m.files[i];
         let j = entry::write::judge(pool, entry::write::part(pool, last), f);

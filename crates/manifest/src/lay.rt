@@ -15,7 +15,7 @@ use super::Seed;
 use cbor::ARRAY;
 use cbor::BYTES;
 use cbor::TEXT;
-use entry::Part;
+use wire::Span;
 
 fn seed_field(pool: &[u8], seed: Seed, out: &mut [u8], at: usize) -> usize
     requires { ⌜ at + length (seedFieldOf (now pool) seed) ≤ length (now out) ⌝ }
@@ -25,7 +25,7 @@ fn seed_field(pool: &[u8], seed: Seed, out: &mut [u8], at: usize) -> usize
     let Seed::Bytes { start, len } = seed else {
         return cbor::write::fixed(out, a, b"\xF6");
     };
-    cbor::write::string(out, a, BYTES, entry::write::part(pool, Part { start, len }))
+    cbor::write::string(out, a, BYTES, entry::write::part(pool, Span { start, len }))
 }
 
 fn created_field(created: Created, out: &mut [u8], at: usize) -> usize
@@ -56,7 +56,7 @@ fn list(pool: &[u8], m: Manifest, out: &mut [u8], at: usize) -> usize
     let count = m.count;
     let mut i = 0;
     let mut p = at;
-    let mut last = Part { start: 0, len: 0 };
+    let mut last = Span { start: 0, len: 0 };
     while i < count {
         let f = m.files[i];
         p = entry::write::file(pool, entry::write::part(pool, last), f, out, p);

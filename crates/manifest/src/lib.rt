@@ -17,7 +17,7 @@ use cbor::number_no;
 use cbor::step_no;
 use entry::File;
 use entry::Mtime;
-use entry::Part;
+use wire::Span;
 use wire::Wrote;
 
 pub enum Seed {
@@ -88,7 +88,7 @@ const LARGEST: usize = 16384;
 fn blank_files() -> [File; 64]
     ensures { λ r. ⌜ r ≡ padded [] ⌝ }
 {
-    let none = Part { start: 0, len: 0 };
+    let none = Span { start: 0, len: 0 };
     let file = File {
         hash: none,
         path: none,

@@ -8,10 +8,10 @@ use borrow.Author.Tests.{le-ltb, ltb-false, eqb-true}
 use lib.Dec.{ltb, eqb}
 use lib.ListN.{length, take, drop, length-append}
 use lib.Seq.{take-append-seam, drop-append-seam}
-use Rattle.wire.specs.Answer.{got}
+use Rattle.wire.specs.Answer.{done, got}
 use Rattle.wire.specs.Number.{Bytes}
 use Rattle.wire.specs.Over.{over}
-use Rattle.wire.specs.Writing.{Written, bytes}
+use Rattle.wire.specs.Writing.{Written}
 use Rattle.wire.specs.declared.Wrote.{Wrote}
 use Rattle.wire.proofs.Cases.{passed, escaped, then-passed, got-next}
 use Rattle.wire.proofs.Overs.{over-run, over-out}
@@ -72,9 +72,9 @@ module _ (magic : List ℕ) where
   pub lay-short : (l : List ℕ) → length l ≤ length magic → l ≡ over 0 (marked magic) l
   lay-short l h = sym (over-out 0 (marked magic) l (omega (arith, mark-length)))
 
-  pub lay-done : (l x y : List ℕ) (r : Wrote) → length magic < length l → x ≡ over 0 magic l → Written (length magic) (bytes (varint 1)) x y r
+  pub lay-done : (l x y : List ℕ) (r : Wrote) → length magic < length l → x ≡ over 0 magic l → Written (length magic) (done (varint 1)) x y r
       → y ≡ over 0 (marked magic) l
   unfolding marked
   lay-done l x y r room ex w =
       let n : ℕ = length magic in
-      over-run 0 n n 1 magic (varint 1) l x y (written-over n (varint 1) x y r w) (ex, refl) (varint-length-one 1 (omega arith)) (omega arith) (omega arith) .0
+      over-run 0 n n 1 magic (varint 1) l x y (written-over n (varint 1) x y w) (ex, refl) (varint-length-one 1 (omega arith)) (omega arith) (omega arith) .0

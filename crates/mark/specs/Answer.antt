@@ -1,5 +1,5 @@
 -- What `read` answers, as document 01's number and values.
-use Rattle.wire.specs.Answer.{Got, got, refused}
+use Rattle.wire.specs.Answer.{refused, Got, got}
 use Rattle.mark.specs.declared.MarkRead.{MarkRead}
 use Rattle.mark.specs.declared.MarkRead.the-variants.{Past, Refused}
 

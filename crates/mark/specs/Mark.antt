@@ -4,19 +4,20 @@ use Prim.Native.Nat.{ℕ}
 use mathlib.Core.List.{List, _++_}
 use lib.Dec.{ltb, eqb}
 use lib.ListN.{length, take}
-use Rattle.wire.specs.Answer.{choose, Got, got, refused, then}
+use Rattle.wire.specs.Answer.{choose, refused, then, demand, Got, got}
 use Rattle.lend.specs.Same.{same}
 use Rattle.varint.specs.Varint.{varint, varintAt}
 
 -- version 1, else 5
 unfoldable pub versionAt : List ℕ → ℕ → Got Unit
-versionAt s at = then (varintAt s at) (λ version next. choose (eqb version 1) (got tt next) (refused 5))
+versionAt s at = then (varintAt s at) (λ (version, next). demand (eqb version 1) 5 (got tt next))
 
 -- the magic, else 4, and the version behind it
 unfoldable pub markOf : List ℕ → List ℕ → Got Unit
 markOf magic s =
     choose (ltb (length s) (length magic)) (refused 3)
-    (choose (same (take (length magic) s) magic) (versionAt s (length magic)) (refused 4))
+    (demand (same (take (length magic) s) magic) 4
+    (versionAt s (length magic)))
 
 -- the same, laid out
 unfoldable pub marked : List ℕ → List ℕ

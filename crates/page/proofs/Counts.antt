@@ -7,7 +7,8 @@ use native.Mathlib.Nat.{add-mul-div-right, one-mul}
 use native.Mathlib.Omega.{arith}
 use borrow.Author.Tests.{lt-ltb, le-ltb, le-leb, lt-leb}
 use lib.ListN.{length, take, getD}
-use Rattle.page.specs.Page.{pageCount, printable, pages, unprintable, countOf}
+use Rattle.wire.specs.Answer.{done, refused}
+use Rattle.page.specs.Page.{pageCount, printable, countOf}
 
 -- one more than the pages before the last
 pub count-is : (n size : ℕ) → 0 < n → 0 < size → pageCount n size ≡ (n - 1) / size + 1
@@ -18,15 +19,15 @@ count-is n size h z =
 
 module _ (n size : ℕ) where
   -- the three ways to have no pages
-  pub nothing : n ≡ 0 → unprintable 19 ≡ countOf n size
+  pub nothing : n ≡ 0 → refused 19 ≡ countOf n size
   unfolding countOf printable
   nothing e = rw (le-ltb 0 n (omega arith))
 
-  pub no-size : 0 < n → size ≡ 0 → unprintable 19 ≡ countOf n size
+  pub no-size : 0 < n → size ≡ 0 → refused 19 ≡ countOf n size
   unfolding countOf printable
   no-size h e = rw (lt-ltb 0 n h, le-ltb 0 size (omega arith))
 
-  pub large-size : 0 < n → 0 < size → 480 < size → unprintable 19 ≡ countOf n size
+  pub large-size : 0 < n → 0 < size → 480 < size → refused 19 ≡ countOf n size
   unfolding countOf printable
   large-size h z l = rw (lt-ltb 0 n h, lt-ltb 0 size z, lt-leb size 480 l)
 
@@ -35,11 +36,11 @@ module _ (n size : ℕ) where
     unfolding printable
     in-print = rw (lt-ltb 0 n h, lt-ltb 0 size z, le-leb size 480 l)
 
-    pub too-many : 96 ≤ (n - 1) / size → unprintable 9 ≡ countOf n size
+    pub too-many : 96 ≤ (n - 1) / size → refused 9 ≡ countOf n size
     unfolding countOf
     too-many m = rw (in-print, count-is n size h z, lt-leb ((n - 1) / size + 1) 96 (omega arith))
 
-    pub few-enough : (n - 1) / size < 96 → pages ((n - 1) / size + 1) ≡ countOf n size
+    pub few-enough : (n - 1) / size < 96 → done ((n - 1) / size + 1) ≡ countOf n size
     unfolding countOf
     few-enough m = rw (in-print, count-is n size h z, le-leb ((n - 1) / size + 1) 96 (omega arith))
 

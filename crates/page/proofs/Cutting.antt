@@ -10,11 +10,10 @@ use borrow.Author.Tests.{lt-ltb, le-ltb, ltb-true, leb-true}
 use lib.Dec.{ltb, leb}
 use lib.ListN.{length, take, drop, length-drop}
 use lib.Seq.{take-all}
-use Rattle.wire.specs.Answer.{choose}
-use Rattle.wire.specs.Writing.{bytes, fault}
+use Rattle.wire.specs.Answer.{choose, done, refused}
 use Rattle.wire.proofs.Cases.{lt-or-le, both-hold}
 use Rattle.frame.specs.Layout.{layout}
-use Rattle.page.specs.Page.{documentId, pageCount, pageData, printable, pages, unprintable, countOf, pageVerdict}
+use Rattle.page.specs.Page.{documentId, pageCount, pageData, printable, countOf, pageVerdict}
 use Rattle.page.proofs.Pages.{count-fewest}
 
 printable-facts : (n size : ℕ) → printable n size ≡ true → (0 < n) × (0 < size) × (size ≤ 480)
@@ -25,11 +24,11 @@ printable-facts n size e =
     (ltb-true 0 n (a .0), ltb-true 0 size (b .0), leb-true size 480 (b .1))
 
 -- where there are pages, all that was asked for holds
-pub counted-facts : (n size k : ℕ) → pages k ≡ countOf n size → (0 < n) × (0 < size) × (size ≤ 480) × (k ≡ pageCount n size) × (k ≤ 96)
+pub counted-facts : (n size k : ℕ) → done k ≡ countOf n size → (0 < n) × (0 < size) × (size ≤ 480) × (k ≡ pageCount n size) × (k ≤ 96)
 unfolding countOf
 counted-facts n size k e = go (printable n size) (leb (pageCount n size) 96) refl refl e
   where
-    go : (a b : Bool) → printable n size ≡ a → leb (pageCount n size) 96 ≡ b → pages k ≡ choose a (choose b (pages (pageCount n size)) (unprintable 9)) (unprintable 19)
+    go : (a b : Bool) → printable n size ≡ a → leb (pageCount n size) 96 ≡ b → done k ≡ choose a (choose b (done (pageCount n size)) (refused 9)) (refused 19)
         → (0 < n) × (0 < size) × (size ≤ 480) × (k ≡ pageCount n size) × (k ≤ 96)
     go true true p q h =
         let f = printable-facts n size p in
@@ -39,16 +38,16 @@ counted-facts n size k e = go (printable n size) (leb (pageCount n size) 96) ref
     go false b p q h = let z : _≡_ {A = ℕ} 0 1 = cc in absurd (omega arith)
 
 module _ (c : List ℕ) (size number : ℕ) where
-  pub refused-count : (e : ℕ) → unprintable e ≡ countOf (length c) size → pageVerdict c size number ≡ fault e
+  pub refused-count : (e : ℕ) → refused e ≡ countOf (length c) size → pageVerdict c size number ≡ refused e
   unfolding pageVerdict
   refused-count e h = rw (← h)
 
-  module _ (n : ℕ) (h : pages n ≡ countOf (length c) size) where
-    pub no-page : n ≤ number → pageVerdict c size number ≡ fault 8
+  module _ (n : ℕ) (h : done n ≡ countOf (length c) size) where
+    pub no-page : n ≤ number → pageVerdict c size number ≡ refused 8
     unfolding pageVerdict
     no-page l = rw (← h, le-ltb number n l)
 
-    pub page-is : number < n → pageVerdict c size number ≡ bytes (layout 0x44 (documentId c) number n (pageData c size number))
+    pub page-is : number < n → pageVerdict c size number ≡ done (layout 0x44 (documentId c) number n (pageData c size number))
     unfolding pageVerdict
     page-is l = rw (← h, lt-ltb number n l)
 

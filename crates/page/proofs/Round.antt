@@ -9,7 +9,7 @@ use borrow.Author.Tests.{lt-ltb, le-leb}
 use lib.Dec.{lit<}
 use lib.ListN.{length, take, drop}
 use Rattle.wire.specs.Number.{Bytes}
-use Rattle.wire.specs.Writing.{bytes}
+use Rattle.wire.specs.Answer.{done}
 use Rattle.wire.proofs.Digits.{small-take, small-drop}
 use Rattle.text.specs.Text.{Form, textOf, readText}
 use Rattle.text.proofs.Forms.{Lawful}
@@ -25,7 +25,7 @@ use Rattle.page.proofs.Typing.{id-length}
 
 module _ (c : List ℕ) (size : ℕ) (p : Printed c size) (i : ℕ) (here : i < pageCount (length c) size) where
   -- the page is printed
-  pub page-written : pageVerdict c size i ≡ bytes (pageFrame c size i)
+  pub page-written : pageVerdict c size i ≡ done (pageFrame c size i)
   unfolding pageVerdict countOf printable pageFrame
   page-written =
       rw (lt-ltb 0 (length c) (p .some), lt-ltb 0 size (p .least), le-leb size 480 (p .most), le-leb (pageCount (length c) size) 96 (p .fits), lt-ltb i (pageCount (length c) size) here)
@@ -55,5 +55,5 @@ module _ (c : List ℕ) (size : ℕ) (p : Printed c size) (i : ℕ) (here : i < 
         (omega (arith, allowed .short)) (small-take 256 size (drop (i * size) c) (small-drop 256 (i * size) c all))
 
     -- and so does its text, in every form
-    pub page-typed : (f : Form) → Lawful f → readText f (textOf f (pageFrame c size i)) ≡ bytes (pageFrame c size i)
+    pub page-typed : (f : Form) → Lawful f → readText f (textOf f (pageFrame c size i)) ≡ done (pageFrame c size i)
     page-typed f law = read-written f law (pageFrame c size i) page-bytes

@@ -1,52 +1,50 @@
 -- A page through a text form: the frame is made in a room of its own, which always suffices. Assumes nothing.
 use Prim.Native.Nat.{ℕ, _+_, _-_, _≤_, _<_}
-use mathlib.Core.Path.{_≡_, refl, sym, ap, _∙_}
+use mathlib.Core.Path.{_≡_, sym, ap, _∙_}
 use mathlib.Core.Logic.{_⊎_, ⊎-elim}
 use mathlib.Core.List.{List}
 use native.Mathlib.Omega.{arith}
+use borrow.Author.Tests.{ltb-true}
+use lib.Dec.{ltb}
 use lib.ListN.{length, take, drop}
 use lib.Seq.{length-take-le}
-use Rattle.wire.specs.Writing.{Verdict, bytes, fault, Written}
+use Rattle.wire.specs.Answer.{Answer, done}
+use Rattle.wire.specs.Writing.{Written}
 use Rattle.wire.specs.declared.Wrote.{Wrote}
 use Rattle.wire.specs.declared.Wrote.the-variants.{Done, Refused}
-use Rattle.wire.proofs.Cases.{lt-or-le}
+use Rattle.wire.proofs.Cases.{passed, then-done, done-value}
 use Rattle.wire.proofs.Overs.{read-over}
-use Rattle.wire.proofs.Writes.{bytes-injective, Stood, done-stood, refused-why, denied}
+use Rattle.wire.proofs.Writes.{Stood, done-stood, refused-why, denied}
 use Rattle.text.specs.Text.{Form, textOf}
 use Rattle.varint.proofs.Lengths.{varint-length-two}
 use Rattle.blake2b.specs.Blake2b.{blake2b}
 use Rattle.blake2b.proofs.Output.{length-blake2b}
 use Rattle.frame.specs.Layout.{layout}
 use Rattle.frame.proofs.Lengths.{layout-length-short}
-use Rattle.page.specs.Page.{documentId, pageData, Counted, pages, unprintable, countOf, pageVerdict, typed}
+use Rattle.page.specs.Page.{documentId, pageData, countOf, pageVerdict, typed}
 use Rattle.page.proofs.Pages.{page-length}
-use Rattle.page.proofs.Cutting.{counted-facts, refused-count, no-page, page-is}
+use Rattle.page.proofs.Cutting.{counted-facts}
 
 pub id-length : (c : List ℕ) → length (documentId c) ≡ 8
 unfolding documentId
 id-length c = length-take-le 8 (blake2b c) (omega (arith, length-blake2b c))
 
-not-both : {P : Type 0} {v : Verdict} {bs : List ℕ} {e : ℕ} → v ≡ bytes bs → v ≡ fault e → P
-not-both p q = let z : _≡_ {A = ℕ} 0 1 = cc in absurd (omega arith)
-
 -- a frame of a page has at most 500 bytes
-pub frame-short : (c : List ℕ) (size number : ℕ) (bs : List ℕ) → pageVerdict c size number ≡ bytes bs → length bs ≤ 500
-frame-short c size number bs e = go (countOf (length c) size) refl
+pub frame-short : (c : List ℕ) (size number : ℕ) (bs : List ℕ) → pageVerdict c size number ≡ done bs → length bs ≤ 500
+unfolding pageVerdict
+frame-short c size number bs e =
+    let (n, h, t) = then-done (countOf (length c) size) _ e in
+    let (l, q) = passed (ltb number n) _ 8 t in
+    omega (arith, laid n (sym h) (ltb-true number n l), ap length (done-value q))
   where
-    laid : (n : ℕ) → pages n ≡ countOf (length c) size → number < n → length (layout 0x44 (documentId c) number n (pageData c size number)) ≤ 500
+    laid : (n : ℕ) → done n ≡ countOf (length c) size → number < n → length (layout 0x44 (documentId c) number n (pageData c size number)) ≤ 500
     laid n h l =
         let f = counted-facts (length c) size n h in
         let d = page-length c size (f .1) number in
         omega (arith, f .2, f .4, layout-length-short 0x44 (documentId c) number n (pageData c size number) (id-length c) (omega (arith, f .4)) (omega (arith, f .4)), varint-length-two (length (pageData c size number)) (omega (arith, f .2)))
 
-    go : (k : Counted) → countOf (length c) size ≡ k → length bs ≤ 500
-    go (unprintable f) h = not-both e (refused-count c size number f (sym h))
-    go (pages n) h =
-        ⊎-elim (λ l. rw (bytes-injective (sym e ∙ page-is c size number n (sym h) l)) (laid n (sym h) l))
-        (λ l. not-both e (no-page c size number n (sym h) l)) (lt-or-le number n)
-
 -- for `search`, of both forms: made is what the frame's writer answered, and room' what it left in the room
-module _ (v : Verdict) (room room' : List ℕ) (made : Wrote) (n : ℕ) (w : Written 0 v room room' made) (k : made ≡ Done n) where
+module _ (v : Answer (List ℕ)) (room room' : List ℕ) (made : Wrote) (n : ℕ) (w : Written 0 v room room' made) (k : made ≡ Done n) where
   stood : Stood 0 v room room' n
   stood = done-stood 0 v room room' n (rw k at w)
 
@@ -54,7 +52,7 @@ module _ (v : Verdict) (room room' : List ℕ) (made : Wrote) (n : ℕ) (w : Wri
   made-fits l = omega (arith, stood .fits)
 
   -- the frame was made, and its text is what is written
-  pub typed-done : (f : Form) (out out' : List ℕ) (r : Wrote) → Written 0 (bytes (textOf f (take (n - 0) (drop 0 room')))) out out' r
+  pub typed-done : (f : Form) (out out' : List ℕ) (r : Wrote) → Written 0 (done (textOf f (take (n - 0) (drop 0 room')))) out out' r
       → Written 0 (typed f v) out out' r
   typed-done f out out' r t =
       let bs = stood .what in
@@ -70,4 +68,4 @@ pub typed-refused : (c : List ℕ) (size number : ℕ) (room room' : List ℕ) (
 typed-refused c size number room room' made e w k h f out =
     rw k
     (⊎-elim (λ q. rw q (denied 0 out e)) (λ q. absurd (omega (arith, q .2, frame-short c size number (q .0) (q .1), h)))
-    (refused-why 0 (pageVerdict c size number) room room' e (rw k at w)))
+    (refused-why 0 (pageVerdict c size number) room room' e 0 (rw k at w)))

@@ -4,8 +4,7 @@ use mathlib.Core.Bool.{Bool, _&&_}
 use mathlib.Core.List.{List, [], _++_}
 use lib.Dec.{ltb, leb}
 use lib.ListN.{length, take, drop}
-use Rattle.wire.specs.Answer.{choose}
-use Rattle.wire.specs.Writing.{Verdict, bytes, fault}
+use Rattle.wire.specs.Answer.{Answer, done, then, demand}
 use Rattle.blake2b.specs.Blake2b.{blake2b}
 use Rattle.text.specs.Text.{Form, textOf}
 use Rattle.frame.specs.Layout.{layout}
@@ -29,15 +28,12 @@ pageFrame c size i = layout 0x44 (documentId c) i (pageCount (length c) size) (p
 unfoldable pub printable : ℕ → ℕ → Bool
 printable n size = ltb 0 n && (ltb 0 size && leb size 480)
 
--- how many pages there are, or the number of a refusal
-pub data Counted : Type 0 where
-  pages : ℕ → Counted
-  unprintable : ℕ → Counted
-
--- page size or empty ciphertext 19, more than 96 pages 9
-unfoldable pub countOf : ℕ → ℕ → Counted
+-- how many pages there are: page size or empty ciphertext 19, more than 96 pages 9
+unfoldable pub countOf : ℕ → ℕ → Answer ℕ
 countOf n size =
-    choose (printable n size) (choose (leb (pageCount n size) 96) (pages (pageCount n size)) (unprintable 9)) (unprintable 19)
+    demand (printable n size) 19
+    (demand (leb (pageCount n size) 96) 9
+    (done (pageCount n size)))
 
 -- so a document that can be printed with this page size
 pub record Printed (c : List ℕ) (size : ℕ) : Type 0 where
@@ -47,18 +43,15 @@ pub record Printed (c : List ℕ) (size : ℕ) : Type 0 where
   pub fits : pageCount (length c) size ≤ 96
 
 -- then page number not below the total 8
-abbrev pub pageOf : List ℕ → ℕ → ℕ → Counted → Verdict
-pageOf c size number (pages total) =
-    choose (ltb number total) (bytes (layout 0x44 (documentId c) number total (pageData c size number))) (fault 8)
-pageOf c size number (unprintable e) = fault e
-
-unfoldable pub pageVerdict : List ℕ → ℕ → ℕ → Verdict
-pageVerdict c size number = pageOf c size number (countOf (length c) size)
+unfoldable pub pageVerdict : List ℕ → ℕ → ℕ → Answer (List ℕ)
+pageVerdict c size number =
+    then (countOf (length c) size) (λ total.
+    demand (ltb number total) 8
+    (done (layout 0x44 (documentId c) number total (pageData c size number))))
 
 -- the frame through a text form; the text's own refusals come last
-abbrev pub typed : Form → Verdict → Verdict
-typed f (bytes bs) = bytes (textOf f bs)
-typed f (fault e) = fault e
+abbrev pub typed : Form → Answer (List ℕ) → Answer (List ℕ)
+typed f v = then v (λ bs. done (textOf f bs))
 
 -- the data of the first n pages, in order
 unfoldable pub joined : ℕ → (ℕ → List ℕ) → List ℕ

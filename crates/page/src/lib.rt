@@ -1,10 +1,11 @@
 // A document's pages: document 01, "Frames", the paragraph "Printing".
 ghost use mathlib.Core.Path.{_≡_};
 ghost use Prim.Native.Nat.{_-_, _≤_, min};
+ghost use Rattle.wire.specs.Answer.{numberOf};
 ghost use Rattle.wire.specs.Writing.{Written};
 ghost use Rattle.text.specs.Text.{base64, zbase32};
 ghost use Rattle.page.specs.Page.{documentId, countOf, pageVerdict, typed};
-ghost use Rattle.page.specs.Answer.{told, numberOf};
+ghost use Rattle.page.specs.Answer.{told};
 use wire::Wrote;
 
 // The id is the front of the digest of the whole ciphertext.

@@ -13,8 +13,8 @@ use Rattle.wire.specs.Number.{Bytes}
 use Rattle.wire.proofs.Cases.{both-hold, lt-or-le}
 use Rattle.path.specs.Utf8.{outside, leads, follows, joined, twoBytes, codePoints}
 use Rattle.path.specs.Order.{below}
-use Rattle.path.specs.Every.{every, within}
-use Rattle.path.proofs.Both.{tests}
+use Rattle.wire.specs.Every.{every, within}
+use Rattle.wire.proofs.Both.{tests}
 use Rattle.path.proofs.Orders.{Compared, less, same, more, compared, below-less, below-more, below-same, below-front, below-asymmetric}
 use Rattle.path.proofs.Points.{points-one, points-two, points-cut}
 

@@ -1,5 +1,3 @@
-pub mod Both
-pub mod Every
 pub mod Orders
 pub mod Points
 pub mod Encoding

@@ -13,9 +13,9 @@ use borrow.Author.Tests.{eq-eqb, ne-eqb, eqb-false, not-true, not-false}
 use Rattle.wire.proofs.Cases.{both-hold, eq-or-ne}
 use Rattle.lend.specs.Same.{same}
 use Rattle.lend.proofs.Sames.{same-lengths}
-use Rattle.path.specs.Every.{every, without}
+use Rattle.wire.specs.Every.{every, without}
 use Rattle.path.specs.Names.{slash, here, above, partsAfter, parts, slashed, isName}
-use Rattle.path.proofs.Both.{and-true}
+use Rattle.wire.proofs.Both.{and-true}
 
 -- ---- the part at hand
 

@@ -9,13 +9,13 @@ use lib.ListN.{length}
 use borrow.Author.Tests.{leb-true, le-leb}
 use Rattle.wire.specs.Number.{Bytes}
 use Rattle.wire.proofs.Cases.{both-hold}
-use Rattle.path.specs.Every.{every, within, without}
+use Rattle.wire.specs.Every.{every, within, without}
 use Rattle.path.specs.Utf8.{codePoints}
 use Rattle.path.specs.Order.{below}
 use Rattle.path.specs.Names.{slash, partsAfter, parts, slashed, isName, staysBelow}
 use Rattle.path.specs.Path.{pathLeast, pathMost, plainText, pathAllowed}
-use Rattle.path.proofs.Both.{tests}
-use Rattle.path.proofs.Every.{every-fails}
+use Rattle.wire.proofs.Both.{tests}
+use Rattle.wire.proofs.Everys.{every-fails}
 use Rattle.path.proofs.Encoding.{within-more, utf8, utf8-decoded, decoded-utf8, utf8-bytes, utf8-below}
 use Rattle.path.proofs.Names.{part-ends, parts-joined, parts-append, parts-some, name-empty}
 use Rattle.path.proofs.Walks.{names-stay}

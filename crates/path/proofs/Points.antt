@@ -10,10 +10,10 @@ use lib.ListN.{length, drop, getD, drop-of-length-le}
 use lib.Seq.{drop-cons}
 use borrow.Author.Tests.{lt-ltb, le-ltb}
 use Rattle.path.specs.Utf8.{outside, oneByte, joined, twoBytes, codePoints}
-use Rattle.path.specs.Every.{every, within}
+use Rattle.wire.specs.Every.{every, within}
 use Rattle.path.specs.Path.{plainText}
 use Rattle.path.specs.Spans.{Spans}
-use Rattle.path.proofs.Both.{tests}
+use Rattle.wire.proofs.Both.{tests}
 
 -- ---- the code point in front
 

@@ -6,10 +6,10 @@ use Prim.Native.Nat.{ℕ, _≤_, _<_}
 use lib.ListN.{length}
 use borrow.Author.Tests.{le-leb, lt-leb}
 use Rattle.wire.proofs.Cases.{said-yes, said-no}
-use Rattle.path.specs.Every.{every, without}
+use Rattle.wire.specs.Every.{every, without}
 use Rattle.path.specs.Names.{parts, isName}
 use Rattle.path.specs.Path.{pathMost, plainText, pathAllowed}
-use Rattle.path.proofs.Both.{tests}
+use Rattle.wire.proofs.Both.{tests}
 
 module _ (s : List ℕ) where
   pub too-long : pathMost < length s → false ≡ pathAllowed s

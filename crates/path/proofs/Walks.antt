@@ -8,7 +8,7 @@ use lib.ListN.{length}
 use borrow.Author.Tests.{lt-ltb, not-true}
 use Rattle.wire.proofs.Cases.{both-hold}
 use Rattle.lend.specs.Same.{same}
-use Rattle.path.specs.Every.{every}
+use Rattle.wire.specs.Every.{every}
 use Rattle.path.specs.Names.{here, above, partsAfter, parts, isName, staysBelow}
 
 -- a name enters a folder

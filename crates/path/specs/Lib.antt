@@ -1,4 +1,3 @@
-pub mod Every
 pub mod Utf8
 pub mod Order
 pub mod Names

@@ -4,7 +4,7 @@ use mathlib.Core.Bool.{Bool, _&&_}
 use mathlib.Core.List.{List}
 use lib.Dec.{leb}
 use lib.ListN.{length}
-use Rattle.path.specs.Every.{every, within, without}
+use Rattle.wire.specs.Every.{every, within, without}
 use Rattle.path.specs.Utf8.{codePoints}
 use Rattle.path.specs.Names.{parts, isName}
 

@@ -4,7 +4,7 @@ ghost use Prim.Native.Nat.{_<_};
 ghost use lib.ListN.{length};
 ghost use Rattle.path.specs.Utf8.{twoBytes};
 ghost use Rattle.path.specs.Order.{below};
-ghost use Rattle.path.specs.Every.{every, without};
+ghost use Rattle.wire.specs.Every.{every, without};
 ghost use Rattle.path.specs.Names.{parts, isName};
 ghost use Rattle.path.specs.Path.{plainText, pathAllowed};
 ghost use Rattle.path.specs.Spans.{Spans};

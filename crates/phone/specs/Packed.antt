@@ -1,7 +1,7 @@
 -- The one number that each function for the phone answers. include/stiltbasket.h reads it apart.
 use Prim.Native.Nat.{ℕ, _+_, _*_, _/_, _%_}
 use lib.Dec.{eqb}
-use Rattle.wire.specs.Answer.{choose, Answer, reply, with, none}
+use Rattle.wire.specs.Answer.{choose, Answer, done, refusedAt}
 
 -- bits 0 to 7 the number of 01; bits 8 to 15 a place, or offer's 1, 2 or 3; bits 16 to 63 a count
 abbrev pub packed : ℕ → ℕ → ℕ → ℕ
@@ -9,17 +9,18 @@ packed number place count = number + 256 * place + 65536 * count
 
 -- open and join
 abbrev pub packedAnswer : Answer Unit → ℕ
-packedAnswer (reply number place v) = packed number place 0
+packedAnswer (done u) = packed 0 0 0
+packedAnswer (refusedAt e place) = packed e place 0
 
 -- offer: how the page stands takes the place of a place
 abbrev pub packedKind : Answer ℕ → ℕ
-packedKind (reply number place (with kind)) = packed number kind 0
-packedKind (reply number place none) = packed number place 0
+packedKind (done kind) = packed 0 kind 0
+packedKind (refusedAt e place) = packed e place 0
 
 -- finish: the number of bytes written, or a place
 abbrev pub packedFinish : Answer ℕ → ℕ
-packedFinish (reply number place (with n)) = packed number place n
-packedFinish (reply number place none) = packed number place 0
+packedFinish (done n) = packed 0 0 n
+packedFinish (refusedAt e place) = packed e place 0
 
 -- ---- the same, read apart: stilt_number, stilt_place and stilt_count of the header
 
@@ -34,4 +35,4 @@ countIn n = n / 65536
 
 -- what a C program makes of finish's answer: with 0 it looks at the count
 abbrev pub finishIn : ℕ → Answer ℕ
-finishIn n = reply (numberIn n) (placeIn n) (choose (eqb (numberIn n) 0) (with (countIn n)) none)
+finishIn n = choose (eqb (numberIn n) 0) (done (countIn n)) (refusedAt (numberIn n) (placeIn n))

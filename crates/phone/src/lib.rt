@@ -2,7 +2,8 @@
 // them. A slice passes as a pointer and a length.
 ghost use mathlib.Core.Path.{_≡_};
 ghost use Prim.Native.Nat.{_≤_};
-ghost use Rattle.collection.specs.Collection.{opening, offering, joining, answerOf, bytesAfter};
+ghost use Rattle.wire.specs.Answer.{bytesAfter, answerOf};
+ghost use Rattle.collection.specs.Collection.{opening, offering, joining};
 ghost use Rattle.collection.specs.Answer.{told};
 ghost use Rattle.closing.specs.Finish as F;
 ghost use Rattle.phone.specs.Packed.{packed, packedAnswer, packedKind, packedFinish};
@@ -57,8 +58,8 @@ pub extern "C" fn stilt_join(into: &mut [u8], from: &[u8]) -> u64
 
 #[no_mangle]
 pub extern "C" fn stilt_finish(c: &[u8], out: &mut [u8]) -> u64
-    ensures { λ r. ⌜ r ≡ packedFinish (F.outcome (F.finished (now (c .entry)) (now (out .entry)))) ⌝ }
-    ensures { λ _. ⌜ now (out .exit) ≡ F.after (now (out .entry)) (F.finished (now (c .entry)) (now (out .entry))) ⌝ }
+    ensures { λ r. ⌜ r ≡ packedFinish (answerOf (F.finishing (now (c .entry)) (now (out .entry)))) ⌝ }
+    ensures { λ _. ⌜ now (out .exit) ≡ bytesAfter (now (out .entry)) (F.finishing (now (c .entry)) (now (out .entry))) ⌝ }
 {
     let r = closing::finish(c, out);
     match r {

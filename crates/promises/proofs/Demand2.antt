@@ -5,11 +5,10 @@ use mathlib.Core.Logic.{inl, inr}
 use mathlib.Core.List.{List}
 use native.Mathlib.Omega.{arith}
 use lib.ListN.{length, take}
-use Rattle.wire.specs.Answer.{Got, Answer, done}
+use Rattle.wire.specs.Answer.{Answer, done, Got, valueOf, Kept}
 use Rattle.wire.specs.Number.{Bytes}
-use Rattle.wire.specs.Writing.{bytes, told, Written}
-use Rattle.wire.specs.declared.Wrote.{Wrote}
-use Rattle.wire.proofs.Writes.{bytes-injective}
+use Rattle.wire.specs.Writing.{writing}
+use Rattle.wire.proofs.Cases.{done-value}
 use Rattle.text.specs.Text.{Form, base64, zbase32, readText, textOf}
 use Rattle.text.proofs.Forms.{Lawful, base64-lawful, zbase32-lawful}
 use Rattle.frame.specs.Layout.{layout}
@@ -23,75 +22,71 @@ use Rattle.auth.specs.Auth.{authAt}
 use Rattle.shard.specs.Shard.{shardAt}
 use Rattle.slip.specs.Slip.{slip}
 use Rattle.slip.proofs.Round.{slip-carried, slip-reads, slip-short, shard-carried, auth-carried}
-use Rattle.envelope.specs.Placed.{fine, unplaced, said}
-use Rattle.promises.specs.Formats.{Format, Exact, frames, textRead, scans, typing, auths, shards}
+use Rattle.promises.specs.Formats.{Format, Exact, frames, scans, typing, auths, shards}
 use Rattle.promises.specs.Demand2.{ReadAs, Framed, Scanned, Typed, pageOf, ThroughText, Pages, Keyed, Signed, slipOf, Carries, Demand2}
 use Rattle.promises.proofs.Writers.{Stands, stands-front, wrote-done, written-room}
-use Rattle.promises.proofs.Formats.{got-unplaced, frames-exact}
+use Rattle.promises.proofs.Formats.{frames-exact}
 use Rattle.promises.proofs.Texts.{scans-exact, typing-exact}
 use Rattle.promises.proofs.Payloads.{envelopes-exact, manifests-exact, auths-ruled, auths-exact, shards-ruled, shards-exact}
 use Rattle.promises.proofs.Links.Page.{page-write-base64-link, page-write-link, page-write-zbase32-link}
 use Rattle.promises.proofs.Links.Slip.{slip-auth-link, slip-key-link}
 
 -- bytes that the rules read as a value are read so by every call
-by-rule : (f : Format) → Exact f → (s : List ℕ) (v : f .Value) (p : f .Place) → f .read s ≡ fine p → f .says s p ≡ v → ReadAs f s v
-by-rule f x s v p e h a r = (p, x .reason s a r ∙ ap said e, h)
+by-rule : (f : Format) → Exact f → (s : List ℕ) (v : f .Value) (p : f .Place) → f .read s ≡ done p → f .says s p ≡ v → ReadAs f s v
+by-rule f x s v p e h a r = (p, x .reason s a r ∙ e, h)
 
 -- a frame that is read as its parts says them
 read-as : {s : List ℕ} {kind : ℕ} {id : List ℕ} {index total : ℕ} {contents : List ℕ} → ReadsAs s kind id index total contents
     → ReadAs frames s (record { kind = kind; id = id; index = index; total = total; contents = contents })
 read-as {s} {kind} {id} {index} {total} {contents} r =
-    by-rule frames frames-exact s (record { kind = kind; id = id; index = index; total = total; contents = contents }) (r .frame) (got-unplaced (r .read))
+    by-rule frames frames-exact s (record { kind = kind; id = id; index = index; total = total; contents = contents }) (r .frame) (ap valueOf (r .read))
     (rw (r .kind-is, r .index-is, r .total-is, r .id-is, r .data-is))
 
 -- ---- the pages of a document
 
 module _ (c : List ℕ) (size : ℕ) (y : Bytes c) (p : Printed c size) (i : ℕ) (here : i < pageCount (length c) size) where
   -- what a call of page::write says
-  framed : (out x : List ℕ) (a : Answer ℕ) → Framed c size i out x a → (r : Wrote) × Written 0 (bytes (pageFrame c size i)) out x r × (told r ≡ a)
-  framed out x a (k, d, e, f, g, h, t) =
-      (k .answer, rw (page-written c size p i here) at (rw (d, e, f, g, h) at (page-write-link k)), t)
+  framed : (out x : List ℕ) (a : Answer ℕ) → Framed c size i out x a → Kept (writing 0 out (done (pageFrame c size i))) out x a
+  framed out x a (k, d, e, f, g, h, t) = rw (page-written c size p i here) at (rw (d, e, f, g, h, t) at (page-write-link k))
 
   framed-front : (out x : List ℕ) (n : ℕ) → Framed c size i out x (done n) → take n x ≡ pageFrame c size i
   framed-front out x n k =
-      let f = framed out x (done n) k in
-      let t = wrote-done (bytes (pageFrame c size i)) out x n (f .0) (f .1) (f .2) in
-      stands-front (t .2) ∙ sym (bytes-injective (t .1))
+      let t = wrote-done (done (pageFrame c size i)) out x n (framed out x (done n) k) in
+      stands-front (t .2) ∙ sym (done-value (t .1))
 
   page-room : (out x : List ℕ) (a : Answer ℕ) → 500 ≤ length out → Framed c size i out x a → (n : ℕ) × (a ≡ done n)
   page-room out x a h k =
-      let f = framed out x a k in
       let s = frame-short c size i (pageFrame c size i) (page-written c size p i here) in
-      (length (pageFrame c size i), written-room (pageFrame c size i) out x a (omega arith) (f .0) (f .1) (f .2) .0)
+      (length (pageFrame c size i), written-room (pageFrame c size i) out x a (omega arith) (framed out x a k) .0)
 
   page-back : (out x : List ℕ) (n : ℕ) → Framed c size i out x (done n) → ReadAs frames (take n x) (pageOf c size i)
   page-back out x n k = subst (λ (s : List ℕ). ReadAs frames s (pageOf c size i)) (sym (framed-front out x n k)) (read-as (page-reads c size p i here))
 
   -- a text that was written of the page is the text of its frame
-  text-front : (f : Form) (out x : List ℕ) (n : ℕ) (r : Wrote) → Written 0 (typed f (pageVerdict c size i)) out x r → told r ≡ done n → take n x ≡ textOf f (pageFrame c size i)
-  text-front f out x n r w e =
-      let t = wrote-done (bytes (textOf f (pageFrame c size i))) out x n r (rw (page-written c size p i here) at w) e in
-      stands-front (t .2) ∙ sym (bytes-injective (t .1))
+  text-front : (f : Form) (out x : List ℕ) (n : ℕ) → Kept (writing 0 out (typed f (pageVerdict c size i))) out x (done n) → take n x ≡ textOf f (pageFrame c size i)
+  text-front f out x n w =
+      let t = wrote-done (done (textOf f (pageFrame c size i))) out x n (rw (page-written c size p i here) at w) in
+      stands-front (t .2) ∙ sym (done-value (t .1))
 
   -- and reads as it
-  text-back : (f : Form) → Lawful f → textRead (readText f (textOf f (pageFrame c size i))) ≡ fine (pageFrame c size i)
-  text-back f law = ap textRead (page-typed c size p i here y f law)
+  text-back : (f : Form) → Lawful f → readText f (textOf f (pageFrame c size i)) ≡ done (pageFrame c size i)
+  text-back f law = page-typed c size p i here y f law
 
 module _ (c : List ℕ) (size : ℕ) (y : Bytes c) (p : Printed c size) where
   through-scans : ThroughText Scanned (scans .Reads) c size
   through-scans i here out x m out' z n a k (l, d, e, f, g, h, t) r =
-      let s = text-front c size y p i here base64 out' z n (l .answer) (rw (d, e, f, g, h) at (page-write-base64-link l)) t in
+      let s = text-front c size y p i here base64 out' z n (rw (d, e, f, g, h, t) at (page-write-base64-link l)) in
       scans-exact .reason (take n z) a r
-      ∙ ap (λ (w : List ℕ). said (textRead (readText base64 w))) s
-      ∙ ap said (text-back c size y p i here base64 base64-lawful)
+      ∙ ap (readText base64) s
+      ∙ text-back c size y p i here base64 base64-lawful
       ∙ ap (λ (w : List ℕ). done w) (sym (framed-front c size y p i here out x m k))
 
   through-typing : ThroughText Typed (typing .Reads) c size
   through-typing i here out x m out' z n a k (l, d, e, f, g, h, t) r =
-      let s = text-front c size y p i here zbase32 out' z n (l .answer) (rw (d, e, f, g, h) at (page-write-zbase32-link l)) t in
+      let s = text-front c size y p i here zbase32 out' z n (rw (d, e, f, g, h, t) at (page-write-zbase32-link l)) in
       typing-exact .reason (take n z) a r
-      ∙ ap (λ (w : List ℕ). said (textRead (readText zbase32 w))) s
-      ∙ ap said (text-back c size y p i here zbase32 zbase32-lawful)
+      ∙ ap (readText zbase32) s
+      ∙ text-back c size y p i here zbase32 zbase32-lawful
       ∙ ap (λ (w : List ℕ). done w) (sym (framed-front c size y p i here out x m k))
 
   printed-pages : Pages c size
@@ -106,34 +101,33 @@ module _ (c : List ℕ) (size : ℕ) (y : Bytes c) (p : Printed c size) where
 -- ---- slips
 
 -- a slip for the payload f: each call of its writer keeps what `slip` says, and whatever the payload's writer wrote is carried
-module _ (f : Format) (exactly : Exact f) (kind : ℕ) (k : Kind kind) (reader : List ℕ → Got (f .Place)) (rule : (s : List ℕ) → f .read s ≡ unplaced (reader s))
+module _ (f : Format) (exactly : Exact f) (kind : ℕ) (k : Kind kind) (reader : List ℕ → Got (f .Place)) (rule : (s : List ℕ) → f .read s ≡ valueOf (reader s))
     (Writer : List ℕ → List ℕ → List ℕ → List ℕ → Answer ℕ → Type 0)
-    (keeps : (id contents out x : List ℕ) (a : Answer ℕ) → Writer id contents out x a → (r : Wrote) × Written 0 (slip kind id contents (reader contents)) out x r × (told r ≡ a))
+    (keeps : (id contents out x : List ℕ) (a : Answer ℕ) → Writer id contents out x a → Kept (writing 0 out (slip kind id contents (reader contents))) out x a)
     (carried : (v : f .Value) (lent y : List ℕ) (m : ℕ) → f .Writes v lent y (done m) → (id : List ℕ) → length id ≡ 8
-    → (frame : List ℕ) × (slip kind id (take m y) (reader (take m y)) ≡ bytes frame)) where
-  wrote-slip : (id contents out x : List ℕ) (n : ℕ) → Writer id contents out x (done n) → (frame : List ℕ) × (slip kind id contents (reader contents) ≡ bytes frame) × Stands frame out x n
-  wrote-slip id contents out x n c = let t = keeps id contents out x (done n) c in wrote-done (slip kind id contents (reader contents)) out x n (t .0) (t .1) (t .2)
+    → (frame : List ℕ) × (slip kind id (take m y) (reader (take m y)) ≡ done frame)) where
+  wrote-slip : (id contents out x : List ℕ) (n : ℕ) → Writer id contents out x (done n) → (frame : List ℕ) × (slip kind id contents (reader contents) ≡ done frame) × Stands frame out x n
+  wrote-slip id contents out x n c = wrote-done (slip kind id contents (reader contents)) out x n (keeps id contents out x (done n) c)
 
   carries : Carries f kind Writer
   carries = record {
     taken = λ v lent y m w id out x a i l c.
-        let t = keeps id (take m y) out x a c in
         let h = carried v lent y m w id i in
         let s = slip-short kind id (take m y) (reader (take m y)) (h .0) (h .1) in
-        (length (h .0), written-room (h .0) out x a (omega arith) (t .0) (rw (h .1) at (t .1)) (t .2) .0);
+        (length (h .0), written-room (h .0) out x a (omega arith) (rw (h .1) at (keeps id (take m y) out x a c)) .0);
     back = λ id contents out x n c.
         let t = wrote-slip id contents out x n c in
         subst (λ (s : List ℕ). ReadAs frames s (slipOf kind id contents)) (sym (stands-front (t .2))) (read-as (slip-reads kind id contents (reader contents) (t .0) k (t .1)));
     accepted = λ id contents out x n c a r.
         let t = wrote-slip id contents out x n c in
         let u = slip-carried kind id contents (reader contents) (t .0) (t .1) in
-        (u .value, exactly .reason contents a r ∙ ap said (rule contents ∙ got-unplaced (u .accepted)));
+        (u .value, exactly .reason contents a r ∙ rule contents ∙ ap valueOf (u .accepted));
   }
 
 key-carries : Carries shards 0x4B Keyed
 key-carries =
     carries shards shards-exact 0x4B (inr (inl refl)) shardAt (λ s. refl) Keyed
-    (λ id contents out x a (k, i, c, o, l, e). (k .answer, rw (i, c, o, l) at (slip-key-link k), e))
+    (λ id contents out x a (k, i, c, o, l, e). rw (i, c, o, l, e) at (slip-key-link k))
     (λ v lent y m w id i.
     let t = shards-ruled .writes v lent y m w in
     let h = shard-carried id i (v .signed .public) (v .signed .sig) (v .signed .hash) (v .kind) (v .share) (v .len) (v .quorum) (t .1) in
@@ -142,7 +136,7 @@ key-carries =
 auth-carries : Carries auths 0x41 Signed
 auth-carries =
     carries auths auths-exact 0x41 (inr (inr refl)) authAt (λ s. refl) Signed
-    (λ id contents out x a (k, i, c, o, l, e). (k .answer, rw (i, c, o, l) at (slip-auth-link k), e))
+    (λ id contents out x a (k, i, c, o, l, e). rw (i, c, o, l, e) at (slip-auth-link k))
     (λ v lent y m w id i.
     let t = auths-ruled .writes v lent y m w in
     let h = auth-carried id i (v .public) (v .sig) (v .hash) (t .1) in

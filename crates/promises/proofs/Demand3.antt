@@ -6,12 +6,11 @@ use mathlib.Core.List.{List, _++_}
 use Prim.Native.Nat.{ℕ, _≤_}
 use native.Mathlib.Omega.{arith}
 use lib.ListN.{length}
-use Rattle.wire.specs.Answer.{refused, Answer, done}
+use Rattle.wire.specs.Answer.{Answer, done, refused, bytesAfter}
 use Rattle.wire.specs.Over.{over}
-use Rattle.wire.specs.Writing.{bytes}
 use Rattle.state.specs.Meaning.{BookIs}
 use Rattle.book.specs.Read.{idOf, readBook, okBook}
-use Rattle.collection.specs.Collection.{goodPage, offering, joining, bytesAfter}
+use Rattle.collection.specs.Collection.{goodPage, offering, joining}
 use Rattle.collection.specs.Built.{Built, opened, offered, joined, bytesOf, In, Lent, offeredAll}
 use Rattle.collection.proofs.Demand as D
 use Rattle.closing.specs.Sets.{Answers}
@@ -119,7 +118,7 @@ module _ (id : List ℕ) (eight : length id ≡ 8) where
       → (line : List ℕ) × LineIs (In id h) line × (a ≡ done (length line)) × (x ≡ over 0 line out)
   status-tells h c out x a l m r (k, i, j, p, q) =
       let s = left-says library library-lawful id eight h c l m in
-      let t = written-room (statusLine c) out x a (omega (arith, status-most c)) (k .answer) (rw (i, j, p) at (status-status-link k)) q in
+      let t = written-room (statusLine c) out x a (omega (arith, status-most c)) (rw (i, j, p, q) at (status-status-link k)) in
       (statusLine c, status-line-is (In id h) c (s .0) (s .2), t .0, t .1)
 
   mend-tells : (c x : List ℕ) (a : Answer ℕ) → Mended c x a → Mends c x a

@@ -5,7 +5,8 @@ use native.Mathlib.Omega.{arith}
 use lib.ListN.{length}
 use Rattle.wire.specs.Number.{digits, numberFrom}
 use Rattle.varint.specs.Varint.{varint, sevens, varintAt, varintFrom, laterFrom, ending}
-use Rattle.text.specs.Text.{base64, standard64, zbase32, zooko32, textOf, characters, filling, readText, values, kept, skipped, place, below, readValues, leftover}
+use Rattle.wire.specs.Every.{every}
+use Rattle.text.specs.Text.{base64, standard64, zbase32, zooko32, textOf, characters, filling, readText, values, kept, skipped, place, readValues, leftover}
 use Rattle.frame.proofs.Lengths.{layout-length-short}
 use Rattle.promises.specs.Examples.{frameHas, Holds, All, table}
 
@@ -15,7 +16,7 @@ frame-length n k e kind id index total contents a l =
     layout-length-short kind id index total contents (a .eight) (omega (arith, a .below, a .pages)) (omega (arith, a .pages)) ∙ rw (l, e)
 
 pub examples : All table
-unfolding varint sevens varintAt varintFrom laterFrom ending base64 standard64 zbase32 zooko32 textOf characters filling digits numberFrom readText values kept skipped place below readValues leftover
+unfolding varint sevens varintAt varintFrom laterFrom ending base64 standard64 zbase32 zooko32 textOf characters filling digits numberFrom readText values kept skipped place every readValues leftover
 examples = (
   (refl, refl),
   (

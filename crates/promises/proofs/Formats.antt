@@ -5,18 +5,16 @@ use mathlib.Core.Path.{_≡_, refl, sym, ap, _∙_}
 use mathlib.Core.List.{List, []}
 use native.Mathlib.Omega.{arith}
 use lib.ListN.{length, take}
-use Rattle.wire.specs.Answer.{Got, got, refused, Answer, done, failedAt}
+use Rattle.wire.specs.Answer.{Answer, done, refusedAt, valueOf}
 use Rattle.wire.specs.Over.{over}
-use Rattle.wire.specs.Writing.{bytes}
 use Rattle.wire.specs.declared.Wrote.the-variants.{Done}
-use Rattle.wire.proofs.Writes.{bytes-injective}
+use Rattle.wire.proofs.Cases.{done-value, value-passed}
 use Rattle.frame.specs.Frame as F
 use Rattle.frame.specs.Layout.{layout}
 use Rattle.frame.specs.Allowed.{Allowed}
 use Rattle.frame.specs.Answer as frame
 use Rattle.frame.proofs.ReadsBack.{reads-back}
 use Rattle.frame.proofs.OnlyLayouts.{only-layouts}
-use Rattle.envelope.specs.Placed.{Placed, fine, faulty, unplaced, said}
 use Rattle.frame.proofs.read as frame-read
 use Rattle.frame.proofs.lay as frame-lay
 use Rattle.promises.specs.Calls.{Call}
@@ -27,25 +25,13 @@ use Rattle.promises.proofs.Links.Frame.{frame-lay-link, frame-read-link
 
 -- ---- what all formats share
 
--- a reader's 0 is its definition's
-pub unplaced-got : {A : Type 0} (g : Got A) (p : A) → unplaced g ≡ fine p → (next : ℕ) × (g ≡ got p next)
-unplaced-got (got a next) p e = (next, cc)
-unplaced-got (refused n) p e = let z : _≡_ {A = ℕ} 0 1 = cc in absurd (omega arith)
-
-pub got-unplaced : {A : Type 0} {g : Got A} {p : A} {next : ℕ} → g ≡ got p next → unplaced g ≡ fine p
-got-unplaced e = ap unplaced e
-
-said-done : {A : Type 0} (x : Placed A) (p : A) → done p ≡ said x → x ≡ fine p
-said-done (fine a) p e = let q : p ≡ a = cc in ap fine (sym q)
-said-done (faulty n k) p e = let z : _≡_ {A = ℕ} 0 1 = cc in absurd (omega arith)
-
 -- the rules of a format, where `Form v s` says that s is the written form of v; and what its calls say
 pub record Ruled (f : Format) (Form : f .Value → List ℕ → Type 0) : Type 0 where
-  pub back : (v : f .Value) (s : List ℕ) → Form v s → (p : f .Place) × (f .read s ≡ fine p) × (f .says s p ≡ v)
-  pub only : (s : List ℕ) (p : f .Place) → Slice s → f .read s ≡ fine p → Form (f .says s p) (f .counting s)
+  pub back : (v : f .Value) (s : List ℕ) → Form v s → (p : f .Place) × (f .read s ≡ done p) × (f .says s p ≡ v)
+  pub only : (s : List ℕ) (p : f .Place) → Slice s → f .read s ≡ done p → Form (f .says s p) (f .counting s)
   pub form : (v : f .Value) (s t : List ℕ) → Form v s → Form v t → s ≡ t
   pub can-read : (s : List ℕ) → (a : Answer (f .Place)) × f .Reads s a
-  pub reads : (s : List ℕ) (a : Answer (f .Place)) → f .Reads s a → a ≡ said (f .read s)
+  pub reads : (s : List ℕ) (a : Answer (f .Place)) → f .Reads s a → a ≡ f .read s
   pub writes : (v : f .Value) (out x : List ℕ) (n : ℕ) → f .Writes v out x (done n) → (s : List ℕ) × Form v s × Stands s out x n
   pub write : (v : f .Value) (s : List ℕ) → Form v s → (out : List ℕ) → length s ≤ length out → f .Writes v out (over 0 s out) (done (length s))
 
@@ -56,11 +42,11 @@ module _ (f : Format) (Form : f .Value → List ℕ → Type 0) (w : Ruled f For
       let t = w .writes v out x n k in
       let e : take n x ≡ t .0 = stands-front (t .2) in
       let b = w .back v (t .0) (t .1) in
-      (b .0, w .reads (take n x) a r ∙ ap (λ (s : List ℕ). said (f .read s)) e ∙ ap said (b .1), ap (λ (s : List ℕ). f .says s (b .0)) e ∙ b .2)
+      (b .0, w .reads (take n x) a r ∙ ap (f .read) e ∙ b .1, ap (λ (s : List ℕ). f .says s (b .0)) e ∙ b .2)
 
   exact-only : (s : List ℕ) (p : f .Place) → Slice s → f .Reads s (done p) → (out : List ℕ) → length (f .counting s) ≤ length out
       → f .Writes (f .says s p) out (over 0 (f .counting s) out) (done (length (f .counting s)))
-  exact-only s p y r = w .write (f .says s p) (f .counting s) (w .only s p y (said-done (f .read s) p (w .reads s (done p) r)))
+  exact-only s p y r = w .write (f .says s p) (f .counting s) (w .only s p y (sym (w .reads s (done p) r)))
 
   exact-form : (v : f .Value) (out x : List ℕ) (m : ℕ) (out' y : List ℕ) (n : ℕ) → f .Writes v out x (done m) → f .Writes v out' y (done n) → take m x ≡ take n y
   exact-form v out x m out' y n k l =
@@ -70,15 +56,15 @@ module _ (f : Format) (Form : f .Value → List ℕ → Type 0) (w : Ruled f For
 
   exact-refused : (s : List ℕ) (a : Answer (f .Place)) → Slice s
       → ((v : f .Value) (out x : List ℕ) (n : ℕ) → f .Writes v out x (done n) → take n x ≡ f .counting s → ⊥) → f .Reads s a
-      → (n : ℕ) × (place : ℕ) × (a ≡ failedAt n place)
+      → (n : ℕ) × (place : ℕ) × (a ≡ refusedAt n place)
   exact-refused s a y none r = go (f .read s) refl
     where
-      go : (x : Placed (f .Place)) → f .read s ≡ x → (n : ℕ) × (place : ℕ) × (a ≡ failedAt n place)
-      go (fine p) e =
+      go : (x : Answer (f .Place)) → f .read s ≡ x → (n : ℕ) × (place : ℕ) × (a ≡ refusedAt n place)
+      go (done p) e =
           let c : List ℕ = f .counting s in
           let k = w .write (f .says s p) c (w .only s p y e) c (omega arith) in
           absurd (none (f .says s p) c (over 0 c c) (length c) k (stands-front (w .writes (f .says s p) c (over 0 c c) (length c) k .2) ∙ w .form (f .says s p) _ c (w .writes (f .says s p) c (over 0 c c) (length c) k .1) (w .only s p y e)))
-      go (faulty n place) e = (n, place, w .reads s a r ∙ ap said e)
+      go (refusedAt n place) e = (n, place, w .reads s a r ∙ e)
 
   pub exact : Exact f
   exact = record { happens = w .can-read; reason = w .reads; back = exact-back; only = exact-only; form = exact-form; refused = exact-refused }
@@ -88,14 +74,14 @@ module _ (f : Format) (Form : f .Value → List ℕ → Type 0) (w : Ruled f For
 abbrev FrameForm : Frame → List ℕ → Type 0
 FrameForm v s = Allowed (v .kind) (v .id) (v .index) (v .total) (v .contents) × (s ≡ layout (v .kind) (v .id) (v .index) (v .total) (v .contents))
 
-frame-back : (v : Frame) (s : List ℕ) → FrameForm v s → (p : F.Frame) × (frames .read s ≡ fine p) × (frames .says s p ≡ v)
+frame-back : (v : Frame) (s : List ℕ) → FrameForm v s → (p : F.Frame) × (frames .read s ≡ done p) × (frames .says s p ≡ v)
 frame-back v s (a, e) =
     let r = reads-back (v .kind) (v .id) (v .index) (v .total) (v .contents) a in
-    rw e (r .frame, got-unplaced (r .read), rw (r .kind-is, r .index-is, r .total-is, r .id-is, r .data-is))
+    rw e (r .frame, ap valueOf (r .read), rw (r .kind-is, r .index-is, r .total-is, r .id-is, r .data-is))
 
-frame-only : (s : List ℕ) (p : F.Frame) → Slice s → frames .read s ≡ fine p → FrameForm (frameSays s p) s
+frame-only : (s : List ℕ) (p : F.Frame) → Slice s → frames .read s ≡ done p → FrameForm (frameSays s p) s
 frame-only s p y e =
-    let g = unplaced-got (F.frameOf s) p e in
+    let g = value-passed (F.frameOf s) e in
     let k = only-layouts s p (g .0) (y .0) (g .1) in
     (k .allowed, k .whole)
 
@@ -106,7 +92,7 @@ module _ (v : Frame) (s out : List ℕ) (e : s ≡ layout (v .kind) (v .id) (v .
     args = (v .kind, (slice (v .id), (v .index, (v .total, (slice (v .contents), (slice out, tt))))));
     answer = Done (length s);
     left = (tt, (tt, (tt, (tt, (tt, (over 0 s out, tt))))));
-    kept = can-write (bytes (layout (v .kind) (v .id) (v .index) (v .total) (v .contents))) s out (ap bytes (sym e)) h;
+    kept = can-write (done (layout (v .kind) (v .id) (v .index) (v .total) (v .contents))) s out (ap done (sym e)) h;
   }
 
 abbrev reading : List ℕ → Call frame-read.Kinds.ps frame-read.Kinds.r frame-read.Reads.Learnt
@@ -117,11 +103,11 @@ frames-ruled = record {
   back = frame-back;
   only = frame-only;
   form = λ v s t a b. a .1 ∙ sym (b .1);
-  can-read = λ s. (said (unplaced (frame.told (frame-answer s .0))), (reading s, refl, refl));
-  reads = λ s a (k, i, e). sym e ∙ ap (λ (g : Got F.Frame). said (unplaced g)) (frame-read-link k ∙ ap F.frameOf i);
+  can-read = λ s. (valueOf (frame.told (frame-answer s .0)), (reading s, refl, refl));
+  reads = λ s a (k, i, e). sym e ∙ ap valueOf (frame-read-link k ∙ ap F.frameOf i);
   writes = λ v out x n (al, (k, a, b, c, d, g, i, j, e)).
-      let t = wrote-done (bytes (layout (v .kind) (v .id) (v .index) (v .total) (v .contents))) out x n (k .answer) (rw (a, b, c, d, g, i, j) at (frame-lay-link k)) e in
-      (t .0, (al, sym (bytes-injective (t .1))), t .2);
+      let t = wrote-done (done (layout (v .kind) (v .id) (v .index) (v .total) (v .contents))) out x n (rw (a, b, c, d, g, i, j, e) at (frame-lay-link k)) in
+      (t .0, (al, sym (done-value (t .1))), t .2);
   write = λ v s (al, e) out h. (al, (laying v s out e h, refl, refl, refl, refl, refl, refl, refl, refl));
 }
 

@@ -7,18 +7,19 @@ use native.Mathlib.Omega.{arith}
 use borrow.Author.Tests.{ne-eqb}
 use lib.Dec.{eqb}
 use lib.ListN.{length}
-use Rattle.wire.specs.Answer.{choose, Answer, reply, with, none}
+use Rattle.wire.specs.Answer.{choose, Answer, done, refusedAt, Change, bytesAfter, answerOf}
+use Rattle.wire.proofs.Placeless.{Placeless}
 use Rattle.state.specs.Take.{Page}
 use Rattle.state.specs.Meaning.{BookIs}
-use Rattle.state.specs.Finish.{Finish, whole, lacking}
 use Rattle.book.specs.Read.{readBook, okBook}
-use Rattle.collection.specs.Collection.{Decision, leaves, refuses, opening, offering, joining, answerOf, bytesAfter}
+use Rattle.collection.specs.Collection.{opening, offering, joining}
 use Rattle.collection.specs.Answer as answers
 use Rattle.collection.specs.declared.Answered.{Answered}
 use Rattle.collection.specs.declared.Answered.the-variants as A
 use Rattle.collection.specs.declared.Offered.{Offered}
 use Rattle.collection.specs.declared.Offered.the-variants as O
-use Rattle.closing.specs.Finish.{finished, outcome, told, after}
+use Rattle.collection.proofs.Placeless.{open-placeless, offer-placeless, join-placeless}
+use Rattle.closing.specs.Finish.{finished, told, delivering, finishing}
 use Rattle.closing.specs.declared.Finished.{Finished}
 use Rattle.closing.specs.declared.Finished.the-variants as F
 use Rattle.closing.proofs.Demand.{finish-bytes}
@@ -43,7 +44,7 @@ pub record Lawful (f : Interface) : Type 1 where
   pub joins : (c o x : List ℕ) → f .Joins c o x → x ≡ bytesAfter c (joining c o)
   -- finish's output is fixed for any bytes; its answer is told of a collection that is the meaning of a set
   pub finishes : (S : Page → Type 0) (c out x : List ℕ) (a : Answer ℕ) → okBook c ≡ true → BookIs S (readBook c) → f .Finishes c out x a
-      → (a ≡ outcome (finished c out)) × (x ≡ after out (finished c out))
+      → (a ≡ answerOf (finishing c out)) × (x ≡ bytesAfter out (finishing c out))
   pub can-open : (id c : List ℕ) → (x : List ℕ) × f .Opens id c x
   pub can-offer : (c raw : List ℕ) → (x : List ℕ) × f .Offers c raw x
   pub can-join : (c o : List ℕ) → (x : List ℕ) × f .Joins c o x
@@ -51,17 +52,17 @@ pub record Lawful (f : Interface) : Type 1 where
 
 -- ---- the libraries
 
-answered : (d : Decision Unit) → (r : Answered) × (answers.told r ≡ answerOf d)
-answered (leaves x a) = (A.Done, refl)
-answered (refuses e) = (A.Refused e, refl)
+answered : (d : Change Unit) → Placeless d → (r : Answered) × (answers.told r ≡ answerOf d)
+answered (done (x, a)) p = (A.Done, refl)
+answered (refusedAt e place) p = (A.Refused e, ap (refusedAt e) (sym (p .none)))
 
-kind : (d : Decision ℕ) → (r : Offered) × (answers.toldKind r ≡ answerOf d)
-kind (leaves x k) = (O.Done k, refl)
-kind (refuses e) = (O.Refused e, refl)
+kind : (d : Change ℕ) → Placeless d → (r : Offered) × (answers.toldKind r ≡ answerOf d)
+kind (done (x, k)) p = (O.Done k, refl)
+kind (refusedAt e place) p = (O.Refused e, ap (refusedAt e) (sym (p .none)))
 
-ended : (v : Finish) → (r : Finished) × (told r ≡ outcome v)
-ended (whole d) = (F.Done _, refl)
-ended (lacking e k) = (F.Refused e k, refl)
+ended : (out : List ℕ) (v : Answer (List ℕ)) → (r : Finished) × (told r ≡ answerOf (delivering out v))
+ended out (done d) = (F.Done _, refl)
+ended out (refusedAt e k) = (F.Refused e k, refl)
 
 pub library-lawful : Lawful library
 library-lawful = record {
@@ -70,34 +71,35 @@ library-lawful = record {
   joins = λ c o x (k, i, j, l). sym l ∙ collection-join-link k .bytes ∙ rw (i, j);
   finishes = λ S c out x a ok m (k, i, j, l, e).
       let w = closing-finish-link k in
-      (sym e ∙ w .answer ∙ rw (i, j), sym l ∙ w .output ∙ rw (i, j));
+      (sym e ∙ w .answer ∙ rw (i, j), sym l ∙ w .bytes ∙ rw (i, j));
   can-open = λ id c.
-      let r = answered (opening id c) in
+      let r = answered (opening id c) (open-placeless id c) in
       let x : List ℕ = bytesAfter c (opening id c) in
       (x, (secondLent collection-open.Kinds.r collection-open.Reads.Learnt id c x (r .0) (record { answer = r .1; bytes = refl }), refl, refl, refl));
   can-offer = λ c raw.
-      let r = kind (offering c raw) in
+      let r = kind (offering c raw) (offer-placeless c raw) in
       let x : List ℕ = bytesAfter c (offering c raw) in
       (x, (firstLent collection-offer.Kinds.r collection-offer.Reads.Learnt c raw x (r .0) (record { answer = r .1; bytes = refl }), refl, refl, refl));
   can-join = λ c o.
-      let r = answered (joining c o) in
+      let r = answered (joining c o) (join-placeless c o) in
       let x : List ℕ = bytesAfter c (joining c o) in
       (x, (firstLent collection-join.Kinds.r collection-join.Reads.Learnt c o x (r .0) (record { answer = r .1; bytes = refl }), refl, refl, refl));
   can-finish = λ c out.
-      let r = ended (finished c out) in
-      let x : List ℕ = after out (finished c out) in
-      (x, told (r .0), (secondLent closing-finish.Kinds.r closing-finish.Reads.Learnt c out x (r .0) (record { answer = r .1; output = refl }), refl, refl, refl, refl));
+      let r = ended out (finished c out) in
+      let x : List ℕ = bytesAfter out (finishing c out) in
+      (x, told (r .0), (secondLent closing-finish.Kinds.r closing-finish.Reads.Learnt c out x (r .0) (record { answer = r .1; bytes = refl }), refl, refl, refl, refl));
 }
 
 -- ---- the functions for C
 
 -- a number that is made of three is read apart as these
-apart : (m a b c : ℕ) → m % 256 ≡ a → m / 256 % 256 ≡ b → m / 65536 ≡ c → finishIn m ≡ reply a b (choose (eqb a 0) (with c) none)
+apart : (m a b c : ℕ) → m % 256 ≡ a → m / 256 % 256 ≡ b → m / 65536 ≡ c → finishIn m ≡ choose (eqb a 0) (done c) (refusedAt a b)
 apart m a b c p q r = rw (p, q, r)
 
-finish-apart : (v : Finish) → ((n k : ℕ) → v ≡ lacking n k → (1 ≤ n) × (n < 256) × (k < 256)) → finishIn (packedFinish (outcome v)) ≡ outcome v
-finish-apart (whole d) h = apart (packed 0 0 (length d)) 0 0 (length d) (omega arith) (omega arith) (omega arith)
-finish-apart (lacking n k) h =
+finish-apart : (out : List ℕ) (v : Answer (List ℕ)) → ((n k : ℕ) → v ≡ refusedAt n k → (1 ≤ n) × (n < 256) × (k < 256))
+    → finishIn (packedFinish (answerOf (delivering out v))) ≡ answerOf (delivering out v)
+finish-apart out (done d) h = apart (packed 0 0 (length d)) 0 0 (length d) (omega arith) (omega arith) (omega arith)
+finish-apart out (refusedAt n k) h =
     let b = h n k refl in
     apart (packed n k 0) n k 0 (omega arith) (omega arith) (omega arith) ∙ rw (ne-eqb n 0 (λ e. omega (arith, e)))
 
@@ -108,8 +110,8 @@ phone-lawful = record {
   joins = λ c o x (k, i, j, l). sym l ∙ phone-stilt-join-link k .1 ∙ rw (i, j);
   finishes = λ S c out x a ok m (k, i, j, l, e).
       let w = phone-stilt-finish-link k in
-      let n : k .answer ≡ packedFinish (outcome (finished c out)) = w .0 ∙ rw (i, j) in
-      (sym e ∙ ap finishIn n ∙ finish-apart (finished c out) (finish-bytes S c out ok m), sym l ∙ w .1 ∙ rw (i, j));
+      let n : k .answer ≡ packedFinish (answerOf (finishing c out)) = w .0 ∙ rw (i, j) in
+      (sym e ∙ ap finishIn n ∙ finish-apart out (finished c out) (finish-bytes S c out ok m), sym l ∙ w .1 ∙ rw (i, j));
   can-open = λ id c.
       let x : List ℕ = bytesAfter c (opening id c) in
       (x, (secondLent phone-stilt-open.Kinds.r phone-stilt-open.Reads.Learnt id c x (packedAnswer (answerOf (opening id c))) (refl, refl), refl, refl, refl));
@@ -120,7 +122,7 @@ phone-lawful = record {
       let x : List ℕ = bytesAfter c (joining c o) in
       (x, (firstLent phone-stilt-join.Kinds.r phone-stilt-join.Reads.Learnt c o x (packedAnswer (answerOf (joining c o))) (refl, refl), refl, refl, refl));
   can-finish = λ c out.
-      let x : List ℕ = after out (finished c out) in
-      let n : ℕ = packedFinish (outcome (finished c out)) in
+      let x : List ℕ = bytesAfter out (finishing c out) in
+      let n : ℕ = packedFinish (answerOf (finishing c out)) in
       (x, finishIn n, (secondLent phone-stilt-finish.Kinds.r phone-stilt-finish.Reads.Learnt c out x n (refl, refl), refl, refl, refl, refl));
 }

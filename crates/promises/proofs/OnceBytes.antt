@@ -45,7 +45,7 @@ pub lend-equal-once : Once lend-equal.Kinds.ps lend-equal.Kinds.r lend-equal.Rea
 lend-equal-once κs args x y u v p q = (p ∙ sym q, refl)
 
 pub lend-give-once : Once lend-give.Kinds.ps lend-give.Kinds.r lend-give.Reads.Learnt
-lend-give-once κs args x y u v p q = let e = written-once p q in (e .0, past (here (e .1)))
+lend-give-once κs args x y u v p q = let e = written-once x y p q in (e .0, past (here (e .1)))
 
 pub varint-read-once : Once varint-read.Kinds.ps varint-read.Kinds.r varint-read.Reads.Learnt
 varint-read-once κs args x y u v p q = (varint.told-injective x y (p ∙ sym q), refl)
@@ -54,7 +54,7 @@ pub varint-size-once : Once varint-size.Kinds.ps varint-size.Kinds.r varint-size
 varint-size-once κs args x y u v p q = (p ∙ sym q, refl)
 
 pub varint-write-once : Once varint-write.Kinds.ps varint-write.Kinds.r varint-write.Reads.Learnt
-varint-write-once κs args x y u v p q = let e = written-once p q in (e .0, past (here (e .1)))
+varint-write-once κs args x y u v p q = let e = written-once x y p q in (e .0, past (here (e .1)))
 
 pub varint-varint-no-once : Once varint-varint-no.Kinds.ps varint-varint-no.Kinds.r varint-varint-no.Reads.Learnt
 varint-varint-no-once κs args x y u v p q = (p ∙ sym q, refl)
@@ -75,16 +75,16 @@ pub path-ascends-once : Once path-ascends.Kinds.ps path-ascends.Kinds.r path-asc
 path-ascends-once κs args x y u v p q = (p ∙ sym q, refl)
 
 pub text-base64-read-once : Once text-base64-read.Kinds.ps text-base64-read.Kinds.r text-base64-read.Reads.Learnt
-text-base64-read-once κs args x y u v p q = let e = written-once p q in (e .0, past (here (e .1)))
+text-base64-read-once κs args x y u v p q = let e = written-once x y p q in (e .0, past (here (e .1)))
 
 pub text-base64-write-once : Once text-base64-write.Kinds.ps text-base64-write.Kinds.r text-base64-write.Reads.Learnt
-text-base64-write-once κs args x y u v p q = let e = written-once p q in (e .0, past (here (e .1)))
+text-base64-write-once κs args x y u v p q = let e = written-once x y p q in (e .0, past (here (e .1)))
 
 pub text-zbase32-read-once : Once text-zbase32-read.Kinds.ps text-zbase32-read.Kinds.r text-zbase32-read.Reads.Learnt
-text-zbase32-read-once κs args x y u v p q = let e = written-once p q in (e .0, past (here (e .1)))
+text-zbase32-read-once κs args x y u v p q = let e = written-once x y p q in (e .0, past (here (e .1)))
 
 pub text-zbase32-write-once : Once text-zbase32-write.Kinds.ps text-zbase32-write.Kinds.r text-zbase32-write.Reads.Learnt
-text-zbase32-write-once κs args x y u v p q = let e = written-once p q in (e .0, past (here (e .1)))
+text-zbase32-write-once κs args x y u v p q = let e = written-once x y p q in (e .0, past (here (e .1)))
 
 pub crc-crc32-once : Once crc-crc32.Kinds.ps crc-crc32.Kinds.r crc-crc32.Reads.Learnt
 crc-crc32-once κs args x y u v p q = (p ∙ sym q, refl)

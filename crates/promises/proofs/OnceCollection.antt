@@ -3,8 +3,8 @@ use mathlib.Core.Path.{refl, sym, _∙_}
 use Rattle.promises.specs.Once.{Once, OnceSeen}
 use Rattle.promises.proofs.Lasts.{here, past}
 use denote.Ref.{now}
-use Rattle.wire.proofs.Writes.{written-once}
-use Rattle.collection.proofs.Answers.{told-injective, kind-injective, kept-once}
+use Rattle.wire.proofs.Writes.{written-once, kept-once}
+use Rattle.collection.proofs.Answers.{told-injective, kind-injective}
 use Rattle.closing.proofs.Once.{closed-once, mended-injective}
 use Rattle.block.proofs.seal as block-seal
 use Rattle.block.proofs.hold as block-hold
@@ -89,13 +89,13 @@ pub tally-count-once : Once tally-count.Kinds.ps tally-count.Kinds.r tally-count
 tally-count-once κs args x y u v p q = (p ∙ sym q, refl)
 
 pub closing-finish-once : Once closing-finish.Kinds.ps closing-finish.Kinds.r closing-finish.Reads.Learnt
-closing-finish-once κs args x y u v p q = let e = closed-once p q in (e .0, past (here (e .1)))
+closing-finish-once κs args x y u v p q = let e = closed-once x y p q in (e .0, past (here (e .1)))
 
 pub closing-mend-once : Once closing-mend.Kinds.ps closing-mend.Kinds.r closing-mend.Reads.Learnt
 closing-mend-once κs args x y u v p q = (mended-injective x y (p .0 ∙ sym (q .0)), here (p .1 ∙ sym (q .1)))
 
 pub status-refused-line-once : Once status-refused-line.Kinds.ps status-refused-line.Kinds.r status-refused-line.Reads.Learnt
-status-refused-line-once κs args x y u v p q = let e = written-once p q in (e .0, past (here (e .1)))
+status-refused-line-once κs args x y u v p q = let e = written-once x y p q in (e .0, past (here (e .1)))
 
 pub status-status-once : Once status-status.Kinds.ps status-status.Kinds.r status-status.Reads.Learnt
-status-status-once κs args x y u v p q = let e = written-once p q in (e .0, past (here (e .1)))
+status-status-once κs args x y u v p q = let e = written-once x y p q in (e .0, past (here (e .1)))

@@ -46,10 +46,10 @@ pub auth-read-once : Once auth-read.Kinds.ps auth-read.Kinds.r auth-read.Reads.L
 auth-read-once κs args x y u v p q = (claim-injective x y (p ∙ sym q), refl)
 
 pub auth-write-once : Once auth-write.Kinds.ps auth-write.Kinds.r auth-write.Reads.Learnt
-auth-write-once κs args x y u v p q = let e = written-once p q in (e .0, past3 (here (e .1)))
+auth-write-once κs args x y u v p q = let e = written-once x y p q in (e .0, past3 (here (e .1)))
 
 pub auth-signed-once : Once auth-signed.Kinds.ps auth-signed.Kinds.r auth-signed.Reads.Learnt
-auth-signed-once κs args x y u v p q = let e = written-once p q in (e .0, past (past (here (e .1))))
+auth-signed-once κs args x y u v p q = let e = written-once x y p q in (e .0, past (past (here (e .1))))
 
 pub shard-shard-no-once : Once shard-shard-no.Kinds.ps shard-shard-no.Kinds.r shard-shard-no.Reads.Learnt
 shard-shard-no-once κs args x y u v p q = (p ∙ sym q, refl)
@@ -58,10 +58,10 @@ pub shard-read-once : Once shard-read.Kinds.ps shard-read.Kinds.r shard-read.Rea
 shard-read-once κs args x y u v p q = (shard-injective x y (p ∙ sym q), refl)
 
 pub shard-write-once : Once shard-write.Kinds.ps shard-write.Kinds.r shard-write.Reads.Learnt
-shard-write-once κs args x y u v p q = let e = written-once p q in (e .0, past3 (past3 (past3 (here (e .1)))))
+shard-write-once κs args x y u v p q = let e = written-once x y p q in (e .0, past3 (past3 (past (here (e .1)))))
 
 pub shard-signed-once : Once shard-signed.Kinds.ps shard-signed.Kinds.r shard-signed.Reads.Learnt
-shard-signed-once κs args x y u v p q = let e = written-once p q in (e .0, past3 (past3 (past (past (here (e .1))))))
+shard-signed-once κs args x y u v p q = let e = written-once x y p q in (e .0, past3 (past3 (here (e .1))))
 
 pub entry-file-no-once : Once entry-file-no.Kinds.ps entry-file-no.Kinds.r entry-file-no.Reads.Learnt
 entry-file-no-once κs args x y u v p q = (p ∙ sym q, refl)
@@ -92,7 +92,7 @@ pub manifest-read-once : Once manifest-read.Kinds.ps manifest-read.Kinds.r manif
 manifest-read-once κs args x y u v p q = (p ∙ sym q, refl)
 
 pub manifest-write-once : Once manifest-write.Kinds.ps manifest-write.Kinds.r manifest-write.Reads.Learnt
-manifest-write-once κs args x y u v p q = let e = written-once p q in (e .0, past (past (here (e .1))))
+manifest-write-once κs args x y u v p q = let e = written-once x y p q in (e .0, past (past (here (e .1))))
 
 pub cover-cover-no-once : Once cover-cover-no.Kinds.ps cover-cover-no.Kinds.r cover-cover-no.Reads.Learnt
 cover-cover-no-once κs args x y u v p q = (p ∙ sym q, refl)
@@ -101,10 +101,10 @@ pub cover-read-once : Once cover-read.Kinds.ps cover-read.Kinds.r cover-read.Rea
 cover-read-once κs args x y u v p q = (cover.told-injective x y (p ∙ sym q), refl)
 
 pub cover-lay-once : Once cover-lay.Kinds.ps cover-lay.Kinds.r cover-lay.Reads.Learnt
-cover-lay-once κs args x y u v p q = let e = written-once p q in (e .0, past (past (here (e .1))))
+cover-lay-once κs args x y u v p q = let e = written-once x y p q in (e .0, past (past (here (e .1))))
 
 pub envelope-read-once : Once envelope-read.Kinds.ps envelope-read.Kinds.r envelope-read.Reads.Learnt
 envelope-read-once κs args x y u v p q = (envelope.read-injective x y (p ∙ sym q), refl)
 
 pub envelope-write-once : Once envelope-write.Kinds.ps envelope-write.Kinds.r envelope-write.Reads.Learnt
-envelope-write-once κs args x y u v p q = let e = envelope.written-once p q in (e .0, past (past (here (e .1))))
+envelope-write-once κs args x y u v p q = let e = envelope.written-once x y p q in (e .0, past (past (here (e .1))))

@@ -4,8 +4,8 @@ use mathlib.Core.List.{List}
 use Prim.Native.Nat.{ℕ}
 use Rattle.promises.specs.Once.{Once}
 use Rattle.promises.proofs.Lasts.{both, here, past}
-use Rattle.wire.proofs.Writes.{written-once}
-use Rattle.collection.proofs.Answers.{told-injective, kept-once}
+use Rattle.wire.proofs.Writes.{written-once, kept-once}
+use Rattle.collection.proofs.Answers.{told-injective}
 use Rattle.scan.specs.Session.{At, at}
 use Rattle.scan.specs.declared.session.Session.{Session}
 use Rattle.scan.proofs.id as scan-id
@@ -38,7 +38,7 @@ at-injective r q e =
     (λ i. record { phase = a i; len = b i }, ap (λ (s : At). s .line) e, ap (λ (s : At). s .collection) e)
 
 pub scan-id-once : Once scan-id.Kinds.ps scan-id.Kinds.r scan-id.Reads.Learnt
-scan-id-once κs args x y u v p q = let e = written-once p q in (e .0, past (here (e .1)))
+scan-id-once κs args x y u v p q = let e = written-once x y p q in (e .0, past (here (e .1)))
 
 pub scan-session-scan-once : Once scan-session-scan.Kinds.ps scan-session-scan.Kinds.r scan-session-scan.Reads.Learnt
 scan-session-scan-once κs args x y u v p q = (refl, past (here (p ∙ sym q)))
@@ -50,16 +50,16 @@ pub scan-session-close-once : Once scan-session-close.Kinds.ps scan-session-clos
 scan-session-close-once κs args x y u v p q = let e = at-injective x y (p ∙ sym q) in (e .0, past (past (here (e .2))))
 
 pub scan-session-report-once : Once scan-session-report.Kinds.ps scan-session-report.Kinds.r scan-session-report.Reads.Learnt
-scan-session-report-once κs args x y u v p q = let e = written-once p q in (e .0, past (past (here (e .1))))
+scan-session-report-once κs args x y u v p q = let e = written-once x y p q in (e .0, past (past (here (e .1))))
 
 pub sheet-scans-once : Once sheet-scans.Kinds.ps sheet-scans.Kinds.r sheet-scans.Reads.Learnt
-sheet-scans-once κs args x y u v p q = let e = written-once p q in (e .0, past (here (e .1)))
+sheet-scans-once κs args x y u v p q = let e = written-once x y p q in (e .0, past (here (e .1)))
 
 pub sheet-typed-once : Once sheet-typed.Kinds.ps sheet-typed.Kinds.r sheet-typed.Reads.Learnt
-sheet-typed-once κs args x y u v p q = let e = written-once p q in (e .0, past (here (e .1)))
+sheet-typed-once κs args x y u v p q = let e = written-once x y p q in (e .0, past (here (e .1)))
 
 pub sheet-typed-page-once : Once sheet-typed-page.Kinds.ps sheet-typed-page.Kinds.r sheet-typed-page.Reads.Learnt
-sheet-typed-page-once κs args x y u v p q = let e = written-once p q in (e .0, past (past (here (e .1))))
+sheet-typed-page-once κs args x y u v p q = let e = written-once x y p q in (e .0, past (past (here (e .1))))
 
 pub sheet-page-asked-once : Once sheet-page-asked.Kinds.ps sheet-page-asked.Kinds.r sheet-page-asked.Reads.Learnt
 sheet-page-asked-once κs args x y u v p q = (p ∙ sym q, refl)
@@ -68,10 +68,10 @@ pub shelf-resume-once : Once shelf-resume.Kinds.ps shelf-resume.Kinds.r shelf-re
 shelf-resume-once κs args x y u v p q = let e = kept-once p q in (told-injective x y (e .0), past (past (here (e .1))))
 
 pub shelf-refused-line-once : Once shelf-refused-line.Kinds.ps shelf-refused-line.Kinds.r shelf-refused-line.Reads.Learnt
-shelf-refused-line-once κs args x y u v p q = let e = written-once p q in (e .0, past (past (here (e .1))))
+shelf-refused-line-once κs args x y u v p q = let e = written-once x y p q in (e .0, past (past (here (e .1))))
 
 pub shelf-answer-once : Once shelf-answer.Kinds.ps shelf-answer.Kinds.r shelf-answer.Reads.Learnt
-shelf-answer-once κs args x y u v p q = let e = written-once p q in (e .0, past (past (here (e .1))))
+shelf-answer-once κs args x y u v p q = let e = written-once x y p q in (e .0, past (past (here (e .1))))
 
 pub phone-stilt-open-once : Once phone-stilt-open.Kinds.ps phone-stilt-open.Kinds.r phone-stilt-open.Reads.Learnt
 phone-stilt-open-once κs args x y u v p q = (p .0 ∙ sym (q .0), past (here (p .1 ∙ sym (q .1))))

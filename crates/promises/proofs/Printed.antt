@@ -8,13 +8,14 @@ use native.Mathlib.Omega.{arith}
 use borrow.Author.Tests.{lt-ltb, eq-eqb}
 use lib.ListN.{length}
 use Rattle.wire.specs.Number.{Bytes}
-use Rattle.wire.specs.Writing.{bytes}
+use Rattle.wire.specs.Answer.{done}
 use Rattle.wire.proofs.Cases.{lt-or-le}
 use Rattle.wire.proofs.Digits.{small-take}
 use Rattle.blake2b.specs.Blake2b.{blake2b}
 use Rattle.blake2b.proofs.Output.{blake2b-bytes}
 use Rattle.page.specs.Page.{documentId}
 use Rattle.page.proofs.Typing.{id-length}
+use Rattle.wire.specs.Every.{every}
 use Rattle.scan.specs.Id.{hexValue, allHex, pairAt, eightOf, idVerdict}
 use Rattle.scan.proofs.Hex as scan
 use Rattle.sheet.specs.Sheet.{hexDigit, hexOf}
@@ -30,7 +31,7 @@ byte-back : (b : ℕ) → b < 256 → hexValue (hexDigit (b / 16)) * 16 + hexVal
 byte-back b h = rw (digit-back (b / 16) (omega arith), digit-back (b % 16) (omega arith)) (omega arith)
 
 hex-all : (bs : List ℕ) → Bytes bs → allHex (hexOf bs) ≡ true
-unfolding allHex hexOf
+unfolding every hexOf
 hex-all [] all = refl
 hex-all (b ∷ bs) all =
     let h : b < 256 = all 0 in
@@ -55,7 +56,7 @@ id-bytes : (c : List ℕ) → Bytes (documentId c)
 unfolding documentId
 id-bytes c = small-take 256 8 (blake2b c) (blake2b-bytes c)
 
-pub press-id : (c : List ℕ) → idVerdict (hexOf (documentId c)) ≡ bytes (documentId c)
+pub press-id : (c : List ℕ) → idVerdict (hexOf (documentId c)) ≡ done (documentId c)
 unfolding idVerdict
 press-id c =
     let n : length (hexOf (documentId c)) ≡ 16 = sheet.hex-length (documentId c) ∙ omega (arith, id-length c) in

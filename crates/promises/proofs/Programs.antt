@@ -7,13 +7,11 @@ use native.Mathlib.Omega.{arith}
 use borrow.Author.Tests.{ne-eqb}
 use lib.Dec.{eqb}
 use lib.ListN.{length}
-use Rattle.wire.specs.Answer.{choose, Answer, done}
-use Rattle.wire.specs.Writing.{Verdict, bytes, fault}
+use Rattle.wire.specs.Answer.{choose, Answer, done, refusedAt, refused, Change, leaves, bytesAfter, answerOf}
 use Rattle.state.specs.State.{Book}
 use Rattle.state.specs.Meaning.{BookIs}
 use Rattle.book.specs.Encode.{encode}
 use Rattle.book.specs.Read.{readBook, okBook}
-use Rattle.collection.specs.Collection.{Decision, leaves, refuses, answerOf, bytesAfter}
 use Rattle.collection.specs.Built.{opened, offeredAll, PageAmong, AllBytes}
 use Rattle.collection.proofs.Demand.{list-saved}
 use Rattle.status.specs.Line.{statusLine, refusedLine}
@@ -68,9 +66,9 @@ feeding part s = record {
 }
 
 -- the end of a line keeps the line buffer
-started-line : (s : At) (v : Verdict) → at (sessionOf (started s v)) (s .line) (started s v .collection) ≡ started s v
-started-line s (bytes id) = refl
-started-line s (fault e) = refl
+started-line : (s : At) (v : Answer (List ℕ)) → at (sessionOf (started s v)) (s .line) (started s v .collection) ≡ started s v
+started-line s (done id) = refl
+started-line s (refusedAt e place) = refl
 
 -- what a session is after its last line, by the three tests that the definition makes
 abbrev lastOf : At → Bool → Bool → Bool → At
@@ -109,14 +107,14 @@ runs-happen parts line c = let r = feeds-happen parts (new line c) in (closed (r
 -- ---- what each call says
 
 reports-laid : (phase : ℕ) (c out x : List ℕ) (a : Answer ℕ) → length (reported phase c) ≤ length out → Reports phase c out x a → Laid (reported phase c) out x a
-reports-laid phase c out x a h (k, i, j, l, m, e) = written-room (reported phase c) out x a h (k .answer) (rw (i, j, l, m) at (scan-session-report-link k)) e
+reports-laid phase c out x a h (k, i, j, l, m, e) = written-room (reported phase c) out x a h (rw (i, j, l, m, e) at (scan-session-report-link k))
 
 answers-laid : (phase : ℕ) (c out x : List ℕ) (a : Answer ℕ) → 46080 ≤ length out → Shows phase c out x a → Laid (answered phase c) out x a
 answers-laid phase c out x a h (k, i, j, l, m, e) =
     let n = answered-most phase c in
-    written-room (answered phase c) out x a (omega arith) (k .answer) (rw (i, j, l, m) at (shelf-answer-link k)) e
+    written-room (answered phase c) out x a (omega arith) (rw (i, j, l, m, e) at (shelf-answer-link k))
 
-resumes-says : (phase : ℕ) (c saved y : List ℕ) (r : Answer Unit) (d : Decision Unit) → resuming phase c saved ≡ d → Resumes phase c saved y r
+resumes-says : (phase : ℕ) (c saved y : List ℕ) (r : Answer Unit) (d : Change Unit) → resuming phase c saved ≡ d → Resumes phase c saved y r
     → (r ≡ answerOf d) × (y ≡ bytesAfter c d)
 resumes-says phase c saved y r d q (k, i, j, l, m, e) =
     let w = rw (i, j, l, m) at (shelf-resume-link k) in
@@ -124,7 +122,7 @@ resumes-says phase c saved y r d q (k, i, j, l, m, e) =
 
 -- ---- an input that names a document
 
-module _ (line c : List ℕ) (room : 1025 ≤ length line) (size : length c ≡ 49664) (input id : List ℕ) (named : documentOf input ≡ bytes id) where
+module _ (line c : List ℕ) (room : 1025 ≤ length line) (size : length c ≡ 49664) (input id : List ℕ) (named : documentOf input ≡ done id) where
   abbrev reached : At
   reached = session line c input
 
@@ -176,28 +174,28 @@ module _ (line c : List ℕ) (room : 1025 ≤ length line) (size : length c ≡ 
     pantry = λ out x a h k. (answered (reached .phase) (reached .collection), alone-prints line c room size input id named, answers-laid (reached .phase) (reached .collection) out x a h k);
     keeps = λ ys d saved y r all t left k. (taken ys d saved y r all t left k .0, file-saved ys d saved y r all t left k);
     prints = λ ys d saved y r out x a all t left k h j. (answered (reached .phase) y, file-printed ys d saved y r all t left k, answers-laid (reached .phase) y out x a h j);
-    damaged = λ saved y r bad k. resumes-says (reached .phase) (reached .collection) saved y r (refuses 13) (damaged-13 line c room size input id named saved bad) k;
-    another = λ saved y r ok n k. resumes-says (reached .phase) (reached .collection) saved y r (refuses 12) (another-12 line c room size input id named saved ok n) k;
+    damaged = λ saved y r bad k. resumes-says (reached .phase) (reached .collection) saved y r (refused 13) (damaged-13 line c room size input id named saved bad) k;
+    another = λ saved y r ok n k. resumes-says (reached .phase) (reached .collection) saved y r (refused 12) (another-12 line c room size input id named saved ok n) k;
   }
 
 -- ---- an input that names none
 
-module _ (line c : List ℕ) (room : 1025 ≤ length line) (input : List ℕ) (n : ℕ) (none : documentOf input ≡ fault n) where
+module _ (line c : List ℕ) (room : 1025 ≤ length line) (input : List ℕ) (n : ℕ) (none : documentOf input ≡ refused n) where
   abbrev idle : At
   idle = session line c input
 
   idle-line : reported (idle .phase) (idle .collection) ≡ refusedLine 19
   unfolding reported
-  idle-line = rw (ne-eqb (idle .phase) 1 (session-refused line c room input n none .0))
+  idle-line = rw (ne-eqb (idle .phase) 1 (session-refused line c room input n 0 none .0))
 
   session-waits : Waits c idle
   session-waits = record {
-    unchanged = session-refused line c room input n none .1;
+    unchanged = session-refused line c room input n 0 none .1;
     pier = λ out x a h k.
         let m = refused-most 19 in
         rw idle-line at (reports-laid (idle .phase) (idle .collection) out x a (omega (arith, ap length idle-line)) k);
     pantry = λ out x a h k. rw (none-prints line c room input n none) at (answers-laid (idle .phase) (idle .collection) out x a h k);
-    keeps = λ saved y r k. resumes-says (idle .phase) (idle .collection) saved y r (refuses 19) (none-19 line c room input n none saved) k;
+    keeps = λ saved y r k. resumes-says (idle .phase) (idle .collection) saved y r (refused 19) (none-19 line c room input n none saved) k;
   }
 
 pub programs : Programs

@@ -1,22 +1,18 @@
 -- What a call that writes says, and that it can be made. Assumes nothing.
-use mathlib.Core.Path.{_≡_, refl, sym, _∙_}
+use mathlib.Core.Path.{_≡_, refl}
 use mathlib.Core.List.{List, []}
 use Prim.Native.Nat.{ℕ, _≤_}
-use native.Mathlib.Nat.{zero-add}
 use native.Mathlib.Omega.{arith}
-use borrow.Author.Tests.{le-leb}
 use lib.ListN.{length, take}
 use contract.Lifetimes.{Lfts}
 use denote.Ref.{RefT}
 use denote.Triple.Clauses.{atExit}
 use borrow.Fn.Kinds.{RK, Out, resT, endedOf}
-use Rattle.wire.specs.Answer.{Answer, done}
+use Rattle.wire.specs.Answer.{Answer, done, Kept}
 use Rattle.wire.specs.Over.{over}
-use Rattle.wire.specs.Writing.{Verdict, bytes, told, Written}
-use Rattle.wire.specs.declared.Wrote.{Wrote}
-use Rattle.wire.specs.declared.Wrote.the-variants.{Done}
+use Rattle.wire.specs.Writing.{writing}
 use Rattle.wire.proofs.Overs.{read-over}
-use Rattle.wire.proofs.Writes.{told-injective, done-stood, written}
+use Rattle.wire.proofs.Writes.{kept-fits, done-stood, written}
 use Rattle.text.proofs.base64_write as text-base64-write
 use Rattle.collection.proofs.offer as collection-offer
 use Rattle.promises.specs.Calls.{Call}
@@ -36,21 +32,17 @@ pub stands-front : {s out x : List ℕ} {n : ℕ} → Stands s out x n → take 
 stands-front {s} {out} w = rw (w .count, w .left) (read-over 0 s out (omega (arith, w .fits)))
 
 -- a call that answered 0 wrote the bytes that were meant
-pub wrote-done : (v : Verdict) (out x : List ℕ) (n : ℕ) (r : Wrote) → Written 0 v out x r → told r ≡ done n → (s : List ℕ) × (v ≡ bytes s) × Stands s out x n
-wrote-done v out x n r w e =
-    let q : r ≡ Done n = told-injective r (Done n) e in
-    let t = done-stood 0 v out x n (rw q at w) in
+pub wrote-done : (v : Answer (List ℕ)) (out x : List ℕ) (n : ℕ) → Kept (writing 0 out v) out x (done n) → (s : List ℕ) × (v ≡ done s) × Stands s out x n
+wrote-done v out x n w =
+    let t = done-stood 0 v out x n w in
     (t .what, t .meant, record { count = t .count; fits = omega (arith, t .fits, t .count); left = t .stands })
 
 -- given bytes that fit are written, and their number is the answer
-pub written-room : (s out x : List ℕ) (a : Answer ℕ) → length s ≤ length out → (r : Wrote) → Written 0 (bytes s) out x r → told r ≡ a
-    → (a ≡ done (length s)) × (x ≡ over 0 s out)
-written-room s out x a h r w e =
-    let t = le-leb (length s) (length out) h in
-    (sym e ∙ (rw (zero-add (length s), t) at (w .answer)), rw (zero-add (length s), t) at (w .output))
+pub written-room : (s out x : List ℕ) (a : Answer ℕ) → length s ≤ length out → Kept (writing 0 out (done s)) out x a → (a ≡ done (length s)) × (x ≡ over 0 s out)
+written-room s out x a h w = kept-fits 0 s out x (omega arith) w
 
 -- the answer and the output of a writer that has room
-pub can-write : (v : Verdict) (s out : List ℕ) → v ≡ bytes s → length s ≤ length out → Written 0 v out (over 0 s out) (Done (length s))
+pub can-write : (v : Answer (List ℕ)) (s out : List ℕ) → v ≡ done s → length s ≤ length out → Kept (writing 0 out v) out (over 0 s out) (done (length s))
 can-write v s out e h = rw e (written 0 out s (over 0 s out) (length s) (omega arith) refl refl)
 
 -- ---- a call of a function of two slices, of which one is lent to be written: what was passed, left and answered, and that its contract holds of that

@@ -9,7 +9,7 @@ use mathlib.Core.Path.{_≡_}
 use mathlib.Core.List.{List, _++_}
 use Prim.Native.Nat.{ℕ, _≤_}
 use lib.ListN.{length}
-use Rattle.wire.specs.Answer.{refused, Answer, done}
+use Rattle.wire.specs.Answer.{Answer, done, refused}
 use Rattle.wire.specs.Over.{over}
 use Rattle.state.specs.State.{Book}
 use Rattle.state.specs.Take.{Page}

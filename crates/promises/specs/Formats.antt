@@ -6,16 +6,16 @@ use mathlib.Core.List.{List}
 use lib.ListN.{length, take, drop}
 use denote.Ref.{now}
 use borrow.Fn.Kinds.{Out}
-use Rattle.wire.specs.Answer.{Answer, reply, with, none, done, failed, failedAt}
+use Rattle.wire.specs.Answer.{Answer, done, refusedAt, refused, then, valueOf}
 use Rattle.wire.specs.Number.{Bytes}
 use Rattle.wire.specs.Over.{over}
-use Rattle.wire.specs.Writing.{Verdict, bytes, fault, told}
+use Rattle.wire.specs.Writing.{told}
+use Rattle.wire.specs.Span.{partAt}
 use Rattle.text.specs.Text.{Form, base64, zbase32, readText, kept}
 use Rattle.frame.specs.Frame as F
 use Rattle.frame.specs.Allowed.{Allowed}
 use Rattle.frame.specs.Answer as frame
 use Rattle.cover.specs.Cover.{Cover, manifestOf, payloadOf}
-use Rattle.envelope.specs.Placed.{Placed, fine, faulty, unplaced, said}
 use Rattle.envelope.specs.Envelope.{envelopeAt}
 use Rattle.envelope.specs.Answer as envelope
 use Rattle.cbor.specs.declared.StepRead.{StepRead}
@@ -28,7 +28,6 @@ use Rattle.auth.specs.Answer.{claimTold}
 use Rattle.shard.specs.Shard.{Shard, shardAt}
 use Rattle.shard.specs.Answer.{shardTold}
 use Rattle.shard.specs.declared.Quorum.{Quorum}
-use Rattle.shard.specs.declared.Span.{Span}
 use Rattle.frame.proofs.read as frame-read
 use Rattle.frame.proofs.lay as frame-lay
 use Rattle.text.proofs.base64_read as text-base64-read
@@ -60,7 +59,7 @@ pub record Format : Type 1 where
   -- what counts of the input: all of it, except for what a text's reader skips
   pub counting : List ℕ → List ℕ
   -- 01's answer for any bytes at all
-  pub read : List ℕ → Placed Place
+  pub read : List ℕ → Answer Place
   -- Reads s a: a call of the reader on s answered a
   pub Reads : List ℕ → Answer Place → Type 0
   -- Writes v out x a: a call of the writer with the value v, lent out, answered a and left x
@@ -70,7 +69,7 @@ pub record Exact (f : Format) : Type 0 where
   -- nothing below is said of calls that cannot be: the reader can be called on any bytes
   pub happens : (s : List ℕ) → (a : Answer (f .Place)) × f .Reads s a
   -- whatever is read, the reader's answer is the one that 01 defines: accepted with this value, or refused with this number and place
-  pub reason : (s : List ℕ) (a : Answer (f .Place)) → f .Reads s a → a ≡ said (f .read s)
+  pub reason : (s : List ℕ) (a : Answer (f .Place)) → f .Reads s a → a ≡ f .read s
   -- what is written reads back equal
   pub back : (v : f .Value) (out x : List ℕ) (n : ℕ) (a : Answer (f .Place)) → f .Writes v out x (done n) → f .Reads (take n x) a
       → (p : f .Place) × (a ≡ done p) × (f .says (take n x) p ≡ v)
@@ -82,7 +81,7 @@ pub record Exact (f : Format) : Type 0 where
   -- bytes that no value is written as are refused
   pub refused : (s : List ℕ) (a : Answer (f .Place)) → Slice s
       → ((v : f .Value) (out x : List ℕ) (n : ℕ) → f .Writes v out x (done n) → take n x ≡ f .counting s → ⊥)
-      → f .Reads s a → (n : ℕ) × (place : ℕ) × (a ≡ failedAt n place)
+      → f .Reads s a → (n : ℕ) × (place : ℕ) × (a ≡ refusedAt n place)
 
 -- ---- a page: any frame
 
@@ -103,9 +102,9 @@ frames = record {
   Value = Frame;
   says = frameSays;
   counting = λ s. s;
-  read = λ s. unplaced (F.frameOf s);
+  read = λ s. valueOf (F.frameOf s);
   Reads = λ s a.
-      (k : Call frame-read.Kinds.ps frame-read.Kinds.r frame-read.Reads.Learnt) × (now (k .args .0) ≡ s) × (said (unplaced (frame.told (k .answer))) ≡ a);
+      (k : Call frame-read.Kinds.ps frame-read.Kinds.r frame-read.Reads.Learnt) × (now (k .args .0) ≡ s) × (valueOf (frame.told (k .answer)) ≡ a);
   Writes = λ v out x a.
       Allowed (v .kind) (v .id) (v .index) (v .total) (v .contents)
       × ((k : Call frame-lay.Kinds.ps frame-lay.Kinds.r frame-lay.Reads.Learnt)
@@ -115,14 +114,9 @@ frames = record {
 
 -- ---- both text forms
 
-abbrev pub textRead : Verdict → Placed (List ℕ)
-textRead (bytes bs) = fine bs
-textRead (fault e) = faulty e 0
-
 -- what was read stands in front of the lent output
 abbrev pub textSaid : Answer ℕ → List ℕ → Answer (List ℕ)
-textSaid (reply number place (with n)) x = reply number place (with (take n x))
-textSaid (reply number place none) x = reply number place none
+textSaid a x = then a (λ n. done (take n x))
 
 -- over the calls of a reader and a writer: (what was given) (what was lent) (what was left) (the answer). A reader is lent as many bytes as the text has
 abbrev pub texts : Form → (Reader Writer : List ℕ → List ℕ → List ℕ → Answer ℕ → Type 0) → Format
@@ -131,7 +125,7 @@ texts f Reader Writer = record {
   Value = List ℕ;
   says = λ s bs. bs;
   counting = kept f;
-  read = λ s. textRead (readText f s);
+  read = readText f;
   Reads = λ s a. (out : List ℕ) × (x : List ℕ) × (r : Answer ℕ) × Reader s out x r × (length s ≤ length out) × (textSaid r x ≡ a);
   Writes = λ v out x a. Bytes v × Writer v out x a;
 }
@@ -174,7 +168,7 @@ envelopes = record {
 
 abbrev pub manifestTold : StepRead → Manifest → Answer Listing
 manifestTold (step.Past next) m = done (listed m)
-manifestTold (step.Refused e) m = failed e
+manifestTold (step.Refused e) m = refused e
 
 abbrev pub manifests : Format
 manifests = record {
@@ -182,7 +176,7 @@ manifests = record {
   Value = Said;
   says = saidIn;
   counting = λ s. s;
-  read = λ s. unplaced (manifestAt s);
+  read = λ s. valueOf (manifestAt s);
   Reads = λ s a.
       (k : Call manifest-read.Kinds.ps manifest-read.Kinds.r manifest-read.Reads.Learnt)
       × (now (k .args .0) ≡ s) × (manifestTold (k .answer .answer) (k .answer .value) ≡ a);
@@ -208,9 +202,9 @@ auths = record {
   Value = Auth;
   says = authSays;
   counting = λ s. s;
-  read = λ s. unplaced (authAt s);
+  read = λ s. valueOf (authAt s);
   Reads = λ s a.
-      (k : Call auth-read.Kinds.ps auth-read.Kinds.r auth-read.Reads.Learnt) × (now (k .args .0) ≡ s) × (said (unplaced (claimTold (k .answer))) ≡ a);
+      (k : Call auth-read.Kinds.ps auth-read.Kinds.r auth-read.Reads.Learnt) × (now (k .args .0) ≡ s) × (valueOf (claimTold (k .answer)) ≡ a);
   Writes = λ v out x a.
       (k : Call auth-write.Kinds.ps auth-write.Kinds.r auth-write.Reads.Learnt)
       × (now (k .args .0) ≡ v .public) × (now (k .args .1 .0) ≡ v .sig) × (now (k .args .1 .1 .0) ≡ v .hash)
@@ -226,29 +220,14 @@ pub record Share : Type 0 where
   pub len : ℕ
   pub quorum : Quorum
 
-abbrev pub at : List ℕ → Span → List ℕ
-at s p = take (p .len) (drop (p .start) s)
-
 abbrev pub shardSays : List ℕ → Shard → Share
 shardSays s v = record {
   signed = authSays s (v .claim);
-  kind = at s (v .content .kind);
-  share = at s (v .content .share);
+  kind = partAt s (v .content .kind);
+  share = partAt s (v .content .share);
   len = v .content .length;
   quorum = v .quorum;
 }
-
--- the writer's arguments are these values
-pub record ShardArgs (v : Share) (public sig hash kind share : List ℕ) (len threshold count index : ℕ) : Type 0 where
-  pub public-is : public ≡ v .signed .public
-  pub sig-is : sig ≡ v .signed .sig
-  pub hash-is : hash ≡ v .signed .hash
-  pub kind-is : kind ≡ v .kind
-  pub share-is : share ≡ v .share
-  pub len-is : len ≡ v .len
-  pub threshold-is : threshold ≡ v .quorum .threshold
-  pub count-is : count ≡ v .quorum .count
-  pub index-is : index ≡ v .quorum .index
 
 abbrev pub shards : Format
 shards = record {
@@ -256,12 +235,13 @@ shards = record {
   Value = Share;
   says = shardSays;
   counting = λ s. s;
-  read = λ s. unplaced (shardAt s);
+  read = λ s. valueOf (shardAt s);
   Reads = λ s a.
-      (k : Call shard-read.Kinds.ps shard-read.Kinds.r shard-read.Reads.Learnt) × (now (k .args .0) ≡ s) × (said (unplaced (shardTold (k .answer))) ≡ a);
+      (k : Call shard-read.Kinds.ps shard-read.Kinds.r shard-read.Reads.Learnt) × (now (k .args .0) ≡ s) × (valueOf (shardTold (k .answer)) ≡ a);
   Writes = λ v out x a.
       (k : Call shard-write.Kinds.ps shard-write.Kinds.r shard-write.Reads.Learnt)
-      × ShardArgs v (now (k .args .0)) (now (k .args .1 .0)) (now (k .args .1 .1 .0)) (now (k .args .1 .1 .1 .0)) (now (k .args .1 .1 .1 .1 .0))
-      (k .args .1 .1 .1 .1 .1 .0) (k .args .1 .1 .1 .1 .1 .1 .0) (k .args .1 .1 .1 .1 .1 .1 .1 .0) (k .args .1 .1 .1 .1 .1 .1 .1 .1 .0)
-      × (now (k .args .1 .1 .1 .1 .1 .1 .1 .1 .1 .0) ≡ out) × (k .left .1 .1 .1 .1 .1 .1 .1 .1 .1 .0 ≡ x) × (told (k .answer) ≡ a);
+      × (now (k .args .0) ≡ v .signed .public) × (now (k .args .1 .0) ≡ v .signed .sig) × (now (k .args .1 .1 .0) ≡ v .signed .hash)
+      × (now (k .args .1 .1 .1 .0) ≡ v .kind) × (now (k .args .1 .1 .1 .1 .0) ≡ v .share) × (k .args .1 .1 .1 .1 .1 .0 ≡ v .len)
+      × (k .args .1 .1 .1 .1 .1 .1 .0 ≡ v .quorum)
+      × (now (k .args .1 .1 .1 .1 .1 .1 .1 .0) ≡ out) × (k .left .1 .1 .1 .1 .1 .1 .1 .0 ≡ x) × (told (k .answer) ≡ a);
 }

@@ -7,9 +7,9 @@ use mathlib.Core.List.{List, [], _∷_, _++_, flatten}
 use Prim.Native.Nat.{ℕ, _≤_}
 use lib.ListN.{length}
 use denote.Ref.{now}
-use Rattle.wire.specs.Answer.{Answer, done, failed}
+use Rattle.wire.specs.Answer.{Answer, done, refused}
 use Rattle.wire.specs.Over.{over}
-use Rattle.wire.specs.Writing.{bytes, fault, told}
+use Rattle.wire.specs.Writing.{told}
 use Rattle.state.specs.State.{Book}
 use Rattle.state.specs.Meaning.{BookIs}
 use Rattle.book.specs.Encode.{encode}
@@ -20,7 +20,7 @@ use Rattle.status.specs.Line.{refusedLine}
 use Rattle.status.specs.Sets.{LineIs}
 use Rattle.scan.specs.Session.{At, at}
 use Rattle.scan.specs.Input.{documentOf, scansOf, new}
-use Rattle.shelf.specs.Shelf.{refusedAt}
+use Rattle.shelf.specs.Shelf.{refusalLine}
 use Rattle.shelf.specs.Pantry.{Prints}
 use Rattle.scan.proofs.session.feed as scan-session-feed
 use Rattle.scan.proofs.session.close as scan-session-close
@@ -99,19 +99,19 @@ pub record Collects (id : List ℕ) (xs : List (List ℕ)) (t : At) : Type 0 whe
       → Left library id (offeredAll ys (opened d)) saved → Resumes (t .phase) (t .collection) saved y r → 46080 ≤ length out → Shows (t .phase) y out x a
       → (text : List ℕ) × Prints id (PageAmong id (xs ++ ys)) text × Laid text out x a
   -- a file that is no collection is refused with 13, one of another document with 12, and the session's collection stays
-  pub damaged : (saved y : List ℕ) (r : Answer Unit) → okBook saved ≡ false → Resumes (t .phase) (t .collection) saved y r → (r ≡ failed 13) × (y ≡ t .collection)
+  pub damaged : (saved y : List ℕ) (r : Answer Unit) → okBook saved ≡ false → Resumes (t .phase) (t .collection) saved y r → (r ≡ refused 13) × (y ≡ t .collection)
   pub another : (saved y : List ℕ) (r : Answer Unit) → okBook saved ≡ true → (idOf saved ≡ id → ⊥) → Resumes (t .phase) (t .collection) saved y r
-      → (r ≡ failed 12) × (y ≡ t .collection)
+      → (r ≡ refused 12) × (y ≡ t .collection)
 
 -- a session whose input names no document: c is as it was lent, both programs refuse with 19, and no file is taken up
 pub record Waits (c : List ℕ) (t : At) : Type 0 where
   pub unchanged : t .collection ≡ c
   pub pier : (out x : List ℕ) (a : Answer ℕ) → 64 ≤ length out → Reports (t .phase) (t .collection) out x a → Laid (refusedLine 19) out x a
-  pub pantry : (out x : List ℕ) (a : Answer ℕ) → 46080 ≤ length out → Shows (t .phase) (t .collection) out x a → Laid (refusedAt 19 0) out x a
-  pub keeps : (saved y : List ℕ) (r : Answer Unit) → Resumes (t .phase) (t .collection) saved y r → (r ≡ failed 19) × (y ≡ t .collection)
+  pub pantry : (out x : List ℕ) (a : Answer ℕ) → 46080 ≤ length out → Shows (t .phase) (t .collection) out x a → Laid (refusalLine 19 0) out x a
+  pub keeps : (saved y : List ℕ) (r : Answer Unit) → Resumes (t .phase) (t .collection) saved y r → (r ≡ refused 19) × (y ≡ t .collection)
 
 pub record Programs : Type 0 where
   pub parts : Parts
-  pub named : (ps : List (List ℕ)) (line c id : List ℕ) (t : At) → 1025 ≤ length line → length c ≡ 49664 → Runs ps line c t → documentOf (flatten ps) ≡ bytes id
+  pub named : (ps : List (List ℕ)) (line c id : List ℕ) (t : At) → 1025 ≤ length line → length c ≡ 49664 → Runs ps line c t → documentOf (flatten ps) ≡ done id
       → Collects id (scansOf (flatten ps)) t
-  pub unnamed : (ps : List (List ℕ)) (line c : List ℕ) (n : ℕ) (t : At) → 1025 ≤ length line → Runs ps line c t → documentOf (flatten ps) ≡ fault n → Waits c t
+  pub unnamed : (ps : List (List ℕ)) (line c : List ℕ) (n : ℕ) (t : At) → 1025 ≤ length line → Runs ps line c t → documentOf (flatten ps) ≡ refused n → Waits c t

@@ -3,19 +3,20 @@ use Prim.Native.Nat.{ℕ, zero, suc, _+_, _-_, _*_, _≤_, _<_}
 use mathlib.Core.Path.{_≡_, refl, sym, _∙_}
 use mathlib.Core.Bool.{Bool, true, false, not}
 use mathlib.Core.List.{List, [], _∷_}
-use native.Mathlib.Numerals.{add-one}
 use native.Mathlib.Omega.{arith}
 use borrow.Author.Tests.{le-leb, lt-leb, lt-ltb, le-ltb, ltb-true, eq-eqb, ne-eqb, not-true, not-false}
 use mir.Syntax.{w8}
 use mir.Val.{Fits}
 use lib.Dec.{ltb}
-use lib.ListN.{length, drop, getD, drop-of-length-le}
-use lib.Seq.{drop-cons}
+use lib.ListN.{length, drop, getD}
 use Rattle.wire.specs.Over.{over}
-use Rattle.wire.specs.Writing.{bytes, Written}
+use Rattle.wire.specs.Answer.{done}
+use Rattle.wire.specs.Writing.{Written}
 use Rattle.wire.specs.declared.Wrote.the-variants.{Done, Refused}
 use Rattle.wire.proofs.Cases.{both-hold}
 use Rattle.wire.proofs.Writes.{written, no-room, denied}
+use Rattle.wire.specs.Every.{every}
+use Rattle.wire.proofs.Everys.{every-on, every-stop, every-end}
 use Rattle.scan.specs.Id.{hexValue, allHex, eightOf, idVerdict}
 
 module _ (b : ℕ) where
@@ -43,20 +44,17 @@ module _ (b : ℕ) where
 
 module _ (s : List ℕ) (i : ℕ) where
   pub hex-on : i < length s → hexValue (getD s i 0) < 16 → allHex (drop i s) ≡ allHex (drop (i + 1) s)
-  unfolding allHex
-  hex-on h k = rw (add-one, drop-cons s i 0 h, lt-ltb (hexValue (getD s i 0)) 16 k)
+  hex-on h k = every-on _ s i 0 h (lt-ltb (hexValue (getD s i 0)) 16 k)
 
   pub hex-stop : i < length s → 16 ≤ hexValue (getD s i 0) → allHex (drop i s) ≡ false
-  unfolding allHex
-  hex-stop h k = rw (drop-cons s i 0 h, le-ltb (hexValue (getD s i 0)) 16 k)
+  hex-stop h k = every-stop _ s i 0 h (le-ltb (hexValue (getD s i 0)) 16 k)
 
   pub hex-end : length s ≤ i → allHex (drop i s) ≡ true
-  unfolding allHex
-  hex-end h = rw (drop-of-length-le s {i = i} h)
+  hex-end h = every-end _ s i h
 
 -- each of a line of digits is a digit
 pub hex-at : (s : List ℕ) (i : ℕ) → allHex s ≡ true → i < length s → hexValue (getD s i 0) < 16
-unfolding allHex
+unfolding every
 hex-at [] i e h = absurd (omega arith)
 hex-at (b ∷ bs) zero e h = ltb-true (hexValue b) 16 (both-hold (ltb (hexValue b) 16) (allHex bs) e .0)
 hex-at (b ∷ bs) (suc i) e h = hex-at bs i (both-hold (ltb (hexValue b) 16) (allHex bs) e .1) (omega arith)
@@ -81,7 +79,7 @@ module _ (s x : List ℕ) where
       pub id-hex : allHex s ≡ true
       id-hex = sym p ∙ not-false r q
 
-      judged : idVerdict s ≡ bytes (eightOf s)
+      judged : idVerdict s ≡ done (eightOf s)
       unfolding idVerdict
       judged = rw (eq-eqb (length s) 16 l, id-hex)
 

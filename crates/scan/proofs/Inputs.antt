@@ -8,8 +8,7 @@ use native.Mathlib.Omega.{arith}
 use borrow.Author.Tests.{ne-eqb}
 use lib.Dec.{eqb, leb}
 use lib.ListN.{length}
-use Rattle.wire.specs.Answer.{choose}
-use Rattle.wire.specs.Writing.{Verdict, bytes, fault}
+use Rattle.wire.specs.Answer.{choose, Answer, done, refusedAt}
 use Rattle.text.specs.Text.{base64, readText}
 use Rattle.text.proofs.Forms.{base64-lawful}
 use Rattle.text.proofs.Round.{text-bytes}
@@ -51,10 +50,10 @@ module _ (id : List ℕ) where
   collects-lines [] h = refl
   collects-lines (l ∷ ls) h = rw (collects-line (bytesOf id h) l) (go (collects-lines ls) (leb (length l) 1024) (readText base64 l))
     where
-      go : ((g : Built) → linedAll (1, bytesOf id g) ls ≡ (1, bytesOf id (offeredAll (scansIn ls) g))) → (t : Bool) (v : Verdict)
+      go : ((g : Built) → linedAll (1, bytesOf id g) ls ≡ (1, bytesOf id (offeredAll (scansIn ls) g))) → (t : Bool) (v : Answer (List ℕ))
           → linedAll (1, choose t (S.offered (bytesOf id h) v) (bytesOf id h)) ls ≡ (1, bytesOf id (offeredAll (choose t (withScan v (scansIn ls)) (scansIn ls)) h))
-      go more true (bytes raw) = more (offered raw h)
-      go more true (fault e) = more h
+      go more true (done raw) = more (offered raw h)
+      go more true (refusedAt e place) = more h
       go more false v = more h
 
 -- once refused, no line does anything
@@ -65,13 +64,13 @@ refused-lines c (l ∷ ls) = refused-lines c ls
 
 -- the first line decides
 module _ (c l : List ℕ) where
-  opening-line : (id : List ℕ) → idVerdict l ≡ bytes id → lined (0, c) l ≡ (1, bytesOf id (opened c))
+  opening-line : (id : List ℕ) → idVerdict l ≡ done id → lined (0, c) l ≡ (1, bytesOf id (opened c))
   unfolding lined ended bytesOf
   opening-line id e = rw (holding-line (0, c) l, e)
 
-  refused-line : (n : ℕ) → idVerdict l ≡ fault n → lined (0, c) l ≡ (2, c)
+  refused-line : (n k : ℕ) → idVerdict l ≡ refusedAt n k → lined (0, c) l ≡ (2, c)
   unfolding lined ended
-  refused-line n e = rw (holding-line (0, c) l, e)
+  refused-line n k e = rw (holding-line (0, c) l, e)
 
 -- ---- a session over its whole input
 
@@ -80,12 +79,12 @@ module _ (line c : List ℕ) (room : 1025 ≤ length line) (input : List ℕ) wh
   reads = reads-lines input (new line c) [] (stands-new (new line c) refl room)
 
   -- the first line is an id: the session collects, and its collection is that of all scans
-  pub session-collects : (id : List ℕ) → documentOf input ≡ bytes id
+  pub session-collects : (id : List ℕ) → documentOf input ≡ done id
       → (session line c input .phase ≡ 1) × (session line c input .collection ≡ collectionOf c id (scansOf input))
   unfolding documentOf scansOf linedAll
   session-collects id = go (lines input) refl
     where
-      go : (ls : List (List ℕ)) → lines input ≡ ls → firstId ls ≡ bytes id
+      go : (ls : List (List ℕ)) → lines input ≡ ls → firstId ls ≡ done id
           → (session line c input .phase ≡ 1) × (session line c input .collection ≡ collectionOf c id (scansIn (further ls)))
       go [] e h = absurd (let z : _≡_ {A = ℕ} 0 1 = cc in omega arith)
       go (l ∷ ls) e h =
@@ -94,28 +93,28 @@ module _ (line c : List ℕ) (room : 1025 ≤ length line) (input : List ℕ) wh
           (ap (λ (g : ℕ × List ℕ). g .0) f, ap (λ (g : ℕ × List ℕ). g .1) f)
 
   -- it is none, or there is no line: the session does not collect, and no byte of c is changed
-  pub session-refused : (n : ℕ) → documentOf input ≡ fault n → (session line c input .phase ≡ 1 → ⊥) × (session line c input .collection ≡ c)
+  pub session-refused : (n k : ℕ) → documentOf input ≡ refusedAt n k → (session line c input .phase ≡ 1 → ⊥) × (session line c input .collection ≡ c)
   unfolding documentOf linedAll
-  session-refused n = go (lines input) refl
+  session-refused n k = go (lines input) refl
     where
-      told : (k : ℕ) → (k ≡ 1 → ⊥) → stage (session line c input) ≡ (k, c) → (session line c input .phase ≡ 1 → ⊥) × (session line c input .collection ≡ c)
-      told k h f = ((λ q. h (sym (ap (λ (g : ℕ × List ℕ). g .0) f) ∙ q)), ap (λ (g : ℕ × List ℕ). g .1) f)
+      told : (j : ℕ) → (j ≡ 1 → ⊥) → stage (session line c input) ≡ (j, c) → (session line c input .phase ≡ 1 → ⊥) × (session line c input .collection ≡ c)
+      told j h f = ((λ q. h (sym (ap (λ (g : ℕ × List ℕ). g .0) f) ∙ q)), ap (λ (g : ℕ × List ℕ). g .1) f)
 
-      go : (ls : List (List ℕ)) → lines input ≡ ls → firstId ls ≡ fault n → (session line c input .phase ≡ 1 → ⊥) × (session line c input .collection ≡ c)
+      go : (ls : List (List ℕ)) → lines input ≡ ls → firstId ls ≡ refusedAt n k → (session line c input .phase ≡ 1 → ⊥) × (session line c input .collection ≡ c)
       go [] e h = told 0 (λ q. omega arith) (reads ∙ ap (linedAll (0, c)) e)
       go (l ∷ ls) e h =
           told 2 (λ q. omega arith)
-          (reads ∙ ap (linedAll (0, c)) e ∙ ap (λ (g : ℕ × List ℕ). linedAll g ls) (refused-line c l n h) ∙ refused-lines c ls)
+          (reads ∙ ap (linedAll (0, c)) e ∙ ap (λ (g : ℕ × List ℕ). linedAll g ls) (refused-line c l n k h) ∙ refused-lines c ls)
 
   -- For the reader: what is reported is what is to be printed
   pub session-prints : reported (session line c input .phase) (session line c input .collection) ≡ printed c input
   unfolding printed reported
   session-prints = go (documentOf input) refl
     where
-      go : (v : Verdict) → documentOf input ≡ v
+      go : (v : Answer (List ℕ)) → documentOf input ≡ v
           → choose (eqb (session line c input .phase) 1) (statusLine (session line c input .collection)) (refusedLine 19) ≡ printedOf c v (scansOf input)
-      go (bytes id) e = let f = session-collects id e in rw (f .0, f .1)
-      go (fault n) e = let f = session-refused n e in rw (ne-eqb (session line c input .phase) 1 (f .0))
+      go (done id) e = let f = session-collects id e in rw (f .0, f .1)
+      go (refusedAt n place) e = let f = session-refused n place e in rw (ne-eqb (session line c input .phase) 1 (f .0))
 
 -- ---- the same, of the SET of good pages among the scans
 
@@ -123,10 +122,10 @@ with-bytes : (t : Bool) (l : List ℕ) (raws : List (List ℕ)) → AllBytes raw
 with-bytes false l raws y = y
 with-bytes true l raws y = go (readText base64 l) refl
   where
-    go : (v : Verdict) → readText base64 l ≡ v → AllBytes (withScan v raws)
-    go (bytes bs) e raw (inl q) = rw q (text-bytes base64 base64-lawful l bs e)
-    go (bytes bs) e raw (inr a) = y raw a
-    go (fault n) e raw a = y raw a
+    go : (v : Answer (List ℕ)) → readText base64 l ≡ v → AllBytes (withScan v raws)
+    go (done bs) e raw (inl q) = rw q (text-bytes base64 base64-lawful l bs e)
+    go (done bs) e raw (inr a) = y raw a
+    go (refusedAt n place) e raw a = y raw a
 
 scans-bytes : (ls : List (List ℕ)) → AllBytes (scansIn ls)
 unfolding scansIn
@@ -139,11 +138,11 @@ unfolding scansOf
 all-bytes input = scans-bytes (further (lines input))
 
 -- the id of a document has 8 bytes
-pub document-eight : (input id : List ℕ) → documentOf input ≡ bytes id → length id ≡ 8
+pub document-eight : (input id : List ℕ) → documentOf input ≡ done id → length id ≡ 8
 unfolding documentOf
 document-eight input id = go (lines input)
   where
-    go : (ls : List (List ℕ)) → firstId ls ≡ bytes id → length id ≡ 8
+    go : (ls : List (List ℕ)) → firstId ls ≡ done id → length id ≡ 8
     go [] h = absurd (let z : _≡_ {A = ℕ} 0 1 = cc in omega arith)
     go (l ∷ ls) h = id-eight l id h
 
@@ -162,7 +161,7 @@ unfolding statusLine
 status-says S x ok m b w = rw ok (ap bookLine (book-one S (readBook x) b m w))
 
 -- For the reader: what is printed depends on nothing else: whatever was in the lent buffer, and in whatever order and number the scans came
-pub prints-set : (c input id : List ℕ) → length c ≡ 49664 → documentOf input ≡ bytes id → (b : Book) → BookIs (PageAmong id (scansOf input)) b
+pub prints-set : (c input id : List ℕ) → length c ≡ 49664 → documentOf input ≡ done id → (b : Book) → BookIs (PageAmong id (scansOf input)) b
     → printed c input ≡ bookLine b
 unfolding printed
 prints-set c input id size e b m =

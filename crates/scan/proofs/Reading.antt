@@ -10,9 +10,8 @@ use borrow.Author.Tests.{eq-eqb, ne-eqb, le-leb, lt-ltb, le-ltb}
 use lib.Dec.{eqb}
 use lib.ListN.{length, take, length-append}
 use lib.Seq.{take-length, length-take-le, take-suc-set}
-use Rattle.wire.specs.Answer.{choose}
+use Rattle.wire.specs.Answer.{choose, Answer, done, refusedAt}
 use Rattle.wire.specs.Over.{over}
-use Rattle.wire.specs.Writing.{Verdict, bytes, fault}
 use Rattle.wire.proofs.Cases.{lt-or-le, eq-or-ne}
 use Rattle.wire.proofs.Overs.{length-over, set-over}
 use Rattle.scan.specs.Id.{idVerdict}
@@ -118,7 +117,7 @@ module _ (s : At) (p : List ℕ) (w : Standing s p) where
   unfolding ended lined
   ended-lined = rw (holding-line (stage s) p, same-id, same-scan) (go (eqb (s .phase) 0) (eqb (s .phase) 1) (idVerdict p))
     where
-      go : (t u : Bool) (v : Verdict)
+      go : (t u : Bool) (v : Answer (List ℕ))
           → stage
           (choose t (started s v)
           (choose u (record { phase = 1; len = 0; line = s .line; collection = scanned (s .collection) p })
@@ -127,8 +126,8 @@ module _ (s : At) (p : List ℕ) (w : Standing s p) where
           (choose t (started (holding (stage s) p) v)
           (choose u (record { phase = 1; len = 0; line = p; collection = scanned (s .collection) p })
           (record { phase = s .phase; len = 0; line = p; collection = s .collection })))
-      go true u (bytes id) = refl
-      go true u (fault e) = refl
+      go true u (done id) = refl
+      go true u (refusedAt e place) = refl
       go false true v = refl
       go false false v = refl
 
@@ -136,14 +135,14 @@ module _ (s : At) (p : List ℕ) (w : Standing s p) where
   unfolding ended
   ended-stands = go (eqb (s .phase) 0) (eqb (s .phase) 1) (idVerdict (lineOf s))
     where
-      go : (t u : Bool) (v : Verdict)
+      go : (t u : Bool) (v : Answer (List ℕ))
           → Standing
           (choose t (started s v)
           (choose u (record { phase = 1; len = 0; line = s .line; collection = scanned (s .collection) (lineOf s) })
           (record { phase = s .phase; len = 0; line = s .line; collection = s .collection })))
           []
-      go true u (bytes id) = stands-new _ refl (w .room)
-      go true u (fault e) = stands-new _ refl (w .room)
+      go true u (done id) = stands-new _ refl (w .room)
+      go true u (refusedAt e place) = stands-new _ refl (w .room)
       go false true v = stands-new _ refl (w .room)
       go false false v = stands-new _ refl (w .room)
 

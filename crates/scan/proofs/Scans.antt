@@ -9,27 +9,28 @@ use native.Mathlib.Omega.{arith}
 use borrow.Author.Tests.{le-leb, lt-leb}
 use lib.Dec.{eqb}
 use lib.ListN.{length, take}
-use Rattle.wire.specs.Answer.{Answer}
-use Rattle.wire.specs.Writing.{Verdict, bytes, fault, Written}
+use Rattle.wire.specs.Answer.{Answer, done, refused, bytesAfter, Kept}
+use Rattle.wire.specs.Writing.{Written}
 use Rattle.wire.specs.declared.Wrote.{Wrote}
 use Rattle.wire.specs.declared.Wrote.the-variants.{Done, Refused}
 use Rattle.wire.proofs.Overs.{over-all, read-over}
-use Rattle.wire.proofs.Writes.{passed, bytes-injective, done-stood, refused-why}
+use Rattle.wire.proofs.Cases.{passed, done-value}
+use Rattle.wire.proofs.Writes.{done-stood, refused-why}
 use Rattle.text.specs.Text.{base64, readText}
 use Rattle.text.proofs.Forms.{base64-lawful}
 use Rattle.text.proofs.Round.{text-short}
-use Rattle.collection.specs.Collection.{bytesAfter, offering, Kept}
+use Rattle.collection.specs.Collection.{offering}
 use Rattle.scan.specs.Id.{allHex, eightOf, idVerdict}
 use Rattle.scan.specs.Session.{offered, scanned}
 use Rattle.scan.proofs.Hex.{length-eight}
 
 -- a refusal, with room for all, is the verdict's own
-module _ (v : Verdict) (x y : List ℕ) (room : (bs : List ℕ) → v ≡ bytes bs → length bs ≤ length x) where
-  pub own-fault : (r : Wrote) (e : ℕ) → Written 0 v x y r → r ≡ Refused e → v ≡ fault e
+module _ (v : Answer (List ℕ)) (x y : List ℕ) (room : (bs : List ℕ) → v ≡ done bs → length bs ≤ length x) where
+  pub own-fault : (r : Wrote) (e : ℕ) → Written 0 v x y r → r ≡ Refused e → v ≡ refused e
   own-fault r e w h =
-      ⊎-elim (λ f. f) (λ s. absurd (omega (arith, s .2, room (s .0) (s .1)))) (refused-why 0 v x y e (rw h at w))
+      ⊎-elim (λ f. f) (λ s. absurd (omega (arith, s .2, room (s .0) (s .1)))) (refused-why 0 v x y e 0 (rw h at w))
 
-pub done-fits : (v : Verdict) (x y : List ℕ) (r : Wrote) (n : ℕ) → Written 0 v x y r → r ≡ Done n → n ≤ length x
+pub done-fits : (v : Answer (List ℕ)) (x y : List ℕ) (r : Wrote) (n : ℕ) → Written 0 v x y r → r ≡ Done n → n ≤ length x
 done-fits v x y r n w h = omega (arith, done-stood 0 v x y n (rw h at w) .fits)
 
 -- ---- a scan
@@ -59,16 +60,16 @@ module _ (line c : List ℕ) where
 
 -- ---- the id
 
-pub id-eight : (line bs : List ℕ) → idVerdict line ≡ bytes bs → length bs ≡ 8
+pub id-eight : (line bs : List ℕ) → idVerdict line ≡ done bs → length bs ≡ 8
 unfolding idVerdict
-id-eight line bs h = sym (ap length (bytes-injective (passed (eqb (length line) 16 && allHex line) (bytes (eightOf line)) 19 h .1))) ∙ length-eight line
+id-eight line bs h = sym (ap length (done-value (passed (eqb (length line) 16 && allHex line) (done (eightOf line)) 19 h .1))) ∙ length-eight line
 
 module _ (first x y : List ℕ) (k : length x ≡ 8) (r : Wrote) (w : Written 0 (idVerdict first) x y r) where
-  pub id-refused : (e : ℕ) → r ≡ Refused e → idVerdict first ≡ fault e
+  pub id-refused : (e : ℕ) → r ≡ Refused e → idVerdict first ≡ refused e
   id-refused e h = own-fault (idVerdict first) x y (λ bs q. omega (arith, id-eight first bs q)) r e w h
 
-  pub id-read : (n : ℕ) → r ≡ Done n → idVerdict first ≡ bytes y
+  pub id-read : (n : ℕ) → r ≡ Done n → idVerdict first ≡ done y
   id-read n h =
       let s = done-stood 0 (idVerdict first) x y n (rw h at w) in
       let e : y ≡ s .what = s .stands ∙ over-all (s .what) x (id-eight first (s .what) (s .meant) ∙ sym k) in
-      s .meant ∙ ap bytes (sym e)
+      s .meant ∙ ap done (sym e)

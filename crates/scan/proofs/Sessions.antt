@@ -9,11 +9,11 @@ use borrow.Author.Tests.{eq-eqb, ne-eqb, le-leb, lt-leb, lt-ltb, le-ltb}
 use lib.ListN.{length, take, drop, getD, drop-of-length-le}
 use lib.Seq.{drop-cons}
 use Rattle.wire.specs.Over.{over}
-use Rattle.wire.specs.Writing.{Verdict, bytes, fault, Written}
+use Rattle.wire.specs.Answer.{Answer, done, refusedAt, Kept}
+use Rattle.wire.specs.Writing.{Written, writing}
 use Rattle.wire.specs.declared.Wrote.{Wrote}
 use Rattle.wire.specs.declared.Wrote.the-variants.{Done, Refused}
-use Rattle.wire.specs.Answer.{Answer}
-use Rattle.collection.specs.Collection.{opening, Kept}
+use Rattle.collection.specs.Collection.{opening}
 use Rattle.status.specs.Line.{statusLine, refusedLine}
 use Rattle.scan.specs.Id.{idVerdict}
 use Rattle.scan.specs.Session.{scanned, At, lineOf, started, ended, longer, next, fed, closed, reported, at}
@@ -46,10 +46,10 @@ module _ (s : Session) (first c x y : List ℕ) (k : length x ≡ 8) (r : Wrote)
 
 module _ (s : Session) (line c : List ℕ) where
   -- what `start` says of a session without its line buffer, said with it
-  started-with : (v : Verdict) (r : Session) (z : List ℕ) → at r [] z ≡ started (at s [] c) v → at r line z ≡ started (at s line c) v
-  started-with (bytes id) r z e =
+  started-with : (v : Answer (List ℕ)) (r : Session) (z : List ℕ) → at r [] z ≡ started (at s [] c) v → at r line z ≡ started (at s line c) v
+  started-with (done id) r z e =
       ap (λ (t : At). record { phase = t .phase; len = t .len; line = line; collection = t .collection }) e
-  started-with (fault f) r z e =
+  started-with (refusedAt f place) r z e =
       ap (λ (t : At). record { phase = t .phase; len = t .len; line = line; collection = t .collection }) e
 
   -- the line so far does not depend on the collection
@@ -133,11 +133,11 @@ module _ (part line₀ c₀ : List ℕ) (s : Session) (line c : List ℕ) (r : S
 
 -- ---- the status line
 
-module _ (phase : ℕ) (c x z : List ℕ) (r : Wrote) where
-  pub report-status : phase ≡ 1 → Written 0 (bytes (statusLine c)) x z r → Written 0 (bytes (reported phase c)) x z r
+module _ (phase : ℕ) (c x z : List ℕ) (r : Answer ℕ) where
+  pub report-status : phase ≡ 1 → Kept (writing 0 x (done (statusLine c))) x z r → Kept (writing 0 x (done (reported phase c))) x z r
   unfolding reported
   report-status e w = rw (eq-eqb phase 1 e) w
 
-  pub report-refused : (phase ≡ 1 → ⊥) → Written 0 (bytes (refusedLine 19)) x z r → Written 0 (bytes (reported phase c)) x z r
+  pub report-refused : (phase ≡ 1 → ⊥) → Kept (writing 0 x (done (refusedLine 19))) x z r → Kept (writing 0 x (done (reported phase c))) x z r
   unfolding reported
   report-refused e w = rw (ne-eqb phase 1 e) w

@@ -7,8 +7,7 @@ use native.Mathlib.Omega.{arith}
 use borrow.Author.Tests.{eqb-true}
 use lib.Dec.{eqb, leb}
 use lib.ListN.{length}
-use Rattle.wire.specs.Answer.{choose}
-use Rattle.wire.specs.Writing.{Verdict, bytes, fault}
+use Rattle.wire.specs.Answer.{choose, Answer, done, refusedAt}
 use Rattle.text.specs.Text.{base64, readText}
 use Rattle.text.proofs.Forms.{base64-lawful}
 use Rattle.text.proofs.Round.{text-bytes}
@@ -24,9 +23,9 @@ scanned-ok : (c line : List ℕ) → okBook c ≡ true → okBook (scanned c lin
 unfolding scanned
 scanned-ok c line ok = go (leb (length line) 1024)
   where
-    taken : (v : Verdict) → readText base64 line ≡ v → okBook (offered c v) ≡ true
-    taken (bytes raw) e = offer-keeps (idOf c) c (ok, refl) raw (text-bytes base64 base64-lawful line raw e) .0
-    taken (fault f) e = ok
+    taken : (v : Answer (List ℕ)) → readText base64 line ≡ v → okBook (offered c v) ≡ true
+    taken (done raw) e = offer-keeps (idOf c) c (ok, refl) raw (text-bytes base64 base64-lawful line raw e) .0
+    taken (refusedAt f place) e = ok
 
     go : (t : Bool) → okBook (choose t (offered c (readText base64 line)) c) ≡ true
     go true = taken (readText base64 line) refl
@@ -41,11 +40,11 @@ pub record Sound (s : At) : Type 0 where
 pub sound-new : (s : At) → s .phase ≡ 0 → length (s .collection) ≡ 49664 → Sound s
 sound-new s p l = record { size = l; good = λ q. absurd (omega (arith, p, q)) }
 
-started-sound : (s : At) (v : Verdict) → ((id : List ℕ) → v ≡ bytes id → length id ≡ 8) → length (s .collection) ≡ 49664 → Sound (started s v)
-started-sound s (bytes id) eight l =
+started-sound : (s : At) (v : Answer (List ℕ)) → ((id : List ℕ) → v ≡ done id → length id ≡ 8) → length (s .collection) ≡ 49664 → Sound (started s v)
+started-sound s (done id) eight l =
     let o = open-makes id (s .collection) (eight id refl) l in
     record { size = ok-size _ (o .0); good = λ q. o .0 }
-started-sound s (fault e) eight l = record { size = l; good = λ q. absurd (omega (arith, q)) }
+started-sound s (refusedAt e place) eight l = record { size = l; good = λ q. absurd (omega (arith, q)) }
 
 ended-sound : (s : At) → Sound s → Sound (ended s)
 unfolding ended

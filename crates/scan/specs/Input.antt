@@ -4,8 +4,7 @@ use mathlib.Core.List.{List, [], _∷_}
 use Prim.Native.Nat.{ℕ}
 use lib.Dec.{eqb, leb}
 use lib.ListN.{length}
-use Rattle.wire.specs.Answer.{choose}
-use Rattle.wire.specs.Writing.{Verdict, bytes, fault}
+use Rattle.wire.specs.Answer.{choose, Answer, done, refusedAt, refused}
 use Rattle.text.specs.Text.{base64, readText}
 use Rattle.collection.specs.Built.{opened, bytesOf, offeredAll}
 use Rattle.status.specs.Line.{statusLine, refusedLine}
@@ -28,8 +27,8 @@ lines (b ∷ bs) = choose (eqb b 10) ([] ∷ lines bs) (inFront b (lines bs))
 -- ---- the document, and the scans
 
 -- the first line names the document. Where there is no line, that is as a line that is no id
-abbrev pub firstId : List (List ℕ) → Verdict
-firstId [] = fault 19
+abbrev pub firstId : List (List ℕ) → Answer (List ℕ)
+firstId [] = refused 19
 firstId (l ∷ ls) = idVerdict l
 
 abbrev pub further : List (List ℕ) → List (List ℕ)
@@ -37,9 +36,9 @@ further [] = []
 further (l ∷ ls) = ls
 
 -- a text that reads says a raw frame, which goes in front of those of the later lines
-abbrev pub withScan : Verdict → List (List ℕ) → List (List ℕ)
-withScan (bytes raw) raws = raw ∷ raws
-withScan (fault e) raws = raws
+abbrev pub withScan : Answer (List ℕ) → List (List ℕ) → List (List ℕ)
+withScan (done raw) raws = raw ∷ raws
+withScan (refusedAt e place) raws = raws
 
 -- the raw frames that lines say, in their order: a line of more than 1,024 bytes, and one that is no base64 text, say none
 unfoldable pub scansIn : List (List ℕ) → List (List ℕ)
@@ -47,7 +46,7 @@ scansIn [] = []
 scansIn (l ∷ ls) = choose (leb (length l) 1024) (withScan (readText base64 l) (scansIn ls)) (scansIn ls)
 
 -- of a whole input: the document, and the scans in all its further lines
-unfoldable pub documentOf : List ℕ → Verdict
+unfoldable pub documentOf : List ℕ → Answer (List ℕ)
 documentOf input = firstId (lines input)
 
 unfoldable pub scansOf : List ℕ → List (List ℕ)
@@ -61,9 +60,9 @@ abbrev pub collectionOf : List ℕ → List ℕ → List (List ℕ) → List ℕ
 collectionOf c id raws = bytesOf id (offeredAll raws (opened c))
 
 -- its status line, or `refused 19` where no document is named
-abbrev pub printedOf : List ℕ → Verdict → List (List ℕ) → List ℕ
-printedOf c (bytes id) raws = statusLine (collectionOf c id raws)
-printedOf c (fault e) raws = refusedLine 19
+abbrev pub printedOf : List ℕ → Answer (List ℕ) → List (List ℕ) → List ℕ
+printedOf c (done id) raws = statusLine (collectionOf c id raws)
+printedOf c (refusedAt e place) raws = refusedLine 19
 
 unfoldable pub printed : List ℕ → List ℕ → List ℕ
 printed c input = printedOf c (documentOf input) (scansOf input)

@@ -3,19 +3,18 @@ use Prim.Native.Nat.{ℕ, _+_}
 use mathlib.Core.List.{List, [], _∷_}
 use lib.Dec.{eqb, ltb, leb}
 use lib.ListN.{length, take}
-use Rattle.wire.specs.Answer.{choose}
+use Rattle.wire.specs.Answer.{choose, Answer, done, refusedAt, bytesAfter}
 use Rattle.wire.specs.Over.{over}
-use Rattle.wire.specs.Writing.{Verdict, bytes, fault}
 use Rattle.text.specs.Text.{base64, readText}
-use Rattle.collection.specs.Collection.{bytesAfter, opening, offering}
+use Rattle.collection.specs.Collection.{opening, offering}
 use Rattle.status.specs.Line.{statusLine, refusedLine}
 use Rattle.scan.specs.Id.{idVerdict}
 use Rattle.scan.specs.declared.session.Session.{Session}
 
 -- a scan that is no base64 text is passed over; what offer refuses changes nothing
-abbrev pub offered : List ℕ → Verdict → List ℕ
-offered c (bytes raw) = bytesAfter c (offering c raw)
-offered c (fault e) = c
+abbrev pub offered : List ℕ → Answer (List ℕ) → List ℕ
+offered c (done raw) = bytesAfter c (offering c raw)
+offered c (refusedAt e place) = c
 
 -- "each further line is one base64 scan. Bad scans, and lines above 1,024 bytes, are passed over"
 unfoldable pub scanned : List ℕ → List ℕ → List ℕ
@@ -36,9 +35,9 @@ unfoldable pub lineOf : At → List ℕ
 lineOf s = choose (leb (s .len) (length (s .line))) (take (s .len) (s .line)) []
 
 -- the first line opens the collection, or the session is refused
-abbrev pub started : At → Verdict → At
-started s (bytes id) = record { phase = 1; len = 0; line = s .line; collection = bytesAfter (s .collection) (opening id (s .collection)) }
-started s (fault e) = record { phase = 2; len = 0; line = s .line; collection = s .collection }
+abbrev pub started : At → Answer (List ℕ) → At
+started s (done id) = record { phase = 1; len = 0; line = s .line; collection = bytesAfter (s .collection) (opening id (s .collection)) }
+started s (refusedAt e place) = record { phase = 2; len = 0; line = s .line; collection = s .collection }
 
 -- a line has ended
 unfoldable pub ended : At → At

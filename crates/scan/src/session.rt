@@ -1,7 +1,8 @@
 // A session of the small program, fed with the bytes of its input in parts of any length.
 ghost use mathlib.Core.Path.{_≡_};
 ghost use mathlib.Core.List.{[]};
-ghost use Rattle.wire.specs.Writing.{Written, bytes};
+ghost use Rattle.wire.specs.Answer.{done};
+ghost use Rattle.wire.specs.Writing.{Written};
 ghost use Rattle.scan.specs.Id.{idVerdict};
 ghost use Rattle.scan.specs.Session.{scanned, lineOf, started, ended, longer, next, fed, closed, reported, at};
 use wire::Wrote;
@@ -133,7 +134,7 @@ pub fn close(s: Session, line: &[u8], c: &mut [u8]) -> Session
 
 // The one status line, at the front of out.
 pub fn report(s: Session, c: &[u8], out: &mut [u8]) -> Wrote
-    ensures { λ r. ⌜ Written 0 (bytes (reported (s .phase) (now (c .entry)))) (now (out .entry)) (now (out .exit)) r ⌝ }
+    ensures { λ r. ⌜ Written 0 (done (reported (s .phase) (now (c .entry)))) (now (out .entry)) (now (out .exit)) r ⌝ }
 {
     if s.phase == COLLECTING {
         return status::status(c, out);

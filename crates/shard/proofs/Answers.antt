@@ -1,7 +1,7 @@
 -- The answer of `read` says no more than 01, and how a chain of items goes on from a shard's parts. Assumes nothing.
 use Prim.Native.Nat.{ℕ}
 use mathlib.Core.Path.{_≡_, refl, ap}
-use Rattle.wire.specs.Answer.{Got, refused, then, numberOf}
+use Rattle.wire.specs.Answer.{refused, numberOf, then, Got, Answer}
 use Rattle.wire.proofs.Branch.{go, stop}
 use Rattle.wire.proofs.Cases.{got-value, got-next}
 use Rattle.auth.proofs.Answers.{claims}
@@ -32,15 +32,15 @@ shard-injective (shard.Refused m) (shard.Value u v w x y j) h = cc
 shard-injective (shard.Refused m) (shard.Refused n) h = cc
 
 -- for `search`: a part of a shard in a chain of items
-module _ {B : Type 0} (g : Got Content) (f : Content → ℕ → Got B) where
-  pub go-content : (r : ContentRead) (v : Content) (next : ℕ) (y : Got B) → contentTold r ≡ g → r ≡ content.Value v next → y ≡ f v next → y ≡ then g f
+module _ {B : Type 0} (g : Got Content) (f : Content × ℕ → Answer B) where
+  pub go-content : (r : ContentRead) (v : Content) (next : ℕ) (y : Answer B) → contentTold r ≡ g → r ≡ content.Value v next → y ≡ f (v, next) → y ≡ then g f
   go-content r v next y = go contentTold g f r (content.Value v next) y
 
   pub no-content : (r : ContentRead) (n e : ℕ) → contentTold r ≡ g → r ≡ content.Refused e → n ≡ numberOf (contentTold r) → refused n ≡ then g f
   no-content r n e h k q = stop contentTold g f r (content.Refused e) n e h k refl q
 
-module _ {B : Type 0} (g : Got Quorum) (f : Quorum → ℕ → Got B) where
-  pub go-quorum : (r : QuorumRead) (v : Quorum) (next : ℕ) (y : Got B) → quorumTold r ≡ g → r ≡ quorum.Value v next → y ≡ f v next → y ≡ then g f
+module _ {B : Type 0} (g : Got Quorum) (f : Quorum × ℕ → Answer B) where
+  pub go-quorum : (r : QuorumRead) (v : Quorum) (next : ℕ) (y : Answer B) → quorumTold r ≡ g → r ≡ quorum.Value v next → y ≡ f (v, next) → y ≡ then g f
   go-quorum r v next y = go quorumTold g f r (quorum.Value v next) y
 
   pub no-quorum : (r : QuorumRead) (n e : ℕ) → quorumTold r ≡ g → r ≡ quorum.Refused e → n ≡ numberOf (quorumTold r) → refused n ≡ then g f

@@ -1,7 +1,7 @@
 -- Worked examples of the order of refusals in `type` and of the rule over `share` and `length`. Each is computed. Assumes nothing.
 use mathlib.Core.Path.{_≡_, refl}
 use mathlib.Core.List.{[], _∷_, _++_}
-use Rattle.wire.specs.Answer.{got, refused}
+use Rattle.wire.specs.Answer.{refused, got}
 use Rattle.wire.specs.Number.{digits, numberFrom}
 use Rattle.lend.specs.Same.{same}
 use Rattle.cbor.specs.Form.{infoOf, widthOf, headOf, stringOf}

@@ -8,3 +8,4 @@ pub mod Verdicts
 pub mod Writers
 pub mod Rounds
 pub mod Examples
+pub mod Placeless

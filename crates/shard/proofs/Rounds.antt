@@ -8,21 +8,21 @@ use native.Mathlib.Omega.{arith}
 use borrow.Author.Tests.{eq-eqb, ne-eqb, le-leb, eqb-true, leb-true}
 use lib.Dec.{eqb, leb}
 use lib.ListN.{length, take, drop}
-use Rattle.wire.specs.Answer.{got}
+use Rattle.wire.specs.Answer.{done, got}
 use Rattle.wire.specs.Number.{Bytes}
-use Rattle.wire.specs.Writing.{bytes}
-use Rattle.wire.proofs.Cases.{passed, escaped, then-passed}
+use Rattle.wire.proofs.Cases.{passed, escaped, then-passed, got-next, got-value}
 use Rattle.wire.proofs.Standing.{Stands, stands-whole, stands-all, stands-first, stands-second, stands-join, stands-as}
+use Rattle.wire.specs.declared.Span.{Span}
+use Rattle.wire.specs.Span.{partAt}
 use Rattle.cbor.specs.Form.{stringFieldOf, numberFieldOf}
-use Rattle.cbor.specs.Item.{Place, partAt, oneAt, keyAt, numberAt, contentsAt, stringAt, stringFieldAt, numberFieldAt}
+use Rattle.cbor.specs.Item.{oneAt, keyAt, numberAt, contentsAt, stringAt, stringFieldAt, numberFieldAt}
 use Rattle.cbor.specs.Names.{pubKey, sigKey, hashKey, typeKey, shareKey, lengthKey, versionKey, thresholdKey, shareCountKey, shareIndexKey}
 use Rattle.cbor.proofs.Within.{contents-within, string-field-within, number-field-within}
 use Rattle.cbor.proofs.Written.{Found, kind-bytes, kind-text, one-back, string-field-back, number-field-back}
 use Rattle.cbor.proofs.Only.{one-only, string-field-only, number-field-only}
 use Rattle.auth.specs.Auth.{Claim, claimAt}
 use Rattle.auth.proofs.Rounds.{Claimed, claim-back, publicIn, sigIn, hashIn, Long, Three, claim-only}
-use Rattle.shard.specs.Shard.{known, padded, span, kindAt, contentAt, quorumAt, Shard, bodyAt, shardAt, contentOf, quorumOf, restOf, shardOf, shardVerdict}
-use Rattle.shard.specs.declared.Span.{Span}
+use Rattle.shard.specs.Shard.{known, padded, kindAt, contentAt, quorumAt, Shard, bodyAt, shardAt, contentOf, quorumOf, restOf, shardOf, shardVerdict}
 use Rattle.shard.specs.declared.Content.{Content}
 use Rattle.shard.specs.declared.Quorum.{Quorum}
 use Rattle.shard.proofs.Allowed.{Kind, AllowedContent, AllowedQuorum, Allowed, known-yes, known-passed, kind-long, length-most}
@@ -46,7 +46,7 @@ pub record Says (s public sig hash kind share : List ℕ) (len : ℕ) (q : Quoru
 
 -- ---- `type` is a text of 10 to 12 bytes, and more is asked of it
 
-module _ (s : List ℕ) (at : ℕ) (v : Place) (next : ℕ) where
+module _ (s : List ℕ) (at : ℕ) (v : Span) (next : ℕ) where
   kind-from : stringFieldAt s at typeKey 3 10 12 19 ≡ got v next → (v .len ≡ 11 → ⊥) → known (partAt s v) ≡ true → kindAt s at ≡ got v next
   unfolding kindAt stringFieldAt stringAt
   kind-from e n k =
@@ -63,13 +63,13 @@ module _ (s : List ℕ) (at : ℕ) (v : Place) (next : ℕ) where
       let w = escaped (eqb (u .0) 11) _ 19 (u .3) in
       let x = then-passed (contentsAt s (u .1) (u .0)) _ (w .1) in
       let z = passed (known (partAt s (x .0))) (got (x .0) (x .1)) 19 (x .3) in
-      let f : x .0 ≡ v = cc (z .1) in
-      (rw (t .2, u .2) (x .2 ∙ z .1), ap (λ (p : Place). known (partAt s p)) (sym f) ∙ z .0)
+      let f : x .0 ≡ v = got-value (z .1) in
+      (rw (t .2, u .2) (x .2 ∙ z .1), ap (λ (p : Span). known (partAt s p)) (sym f) ∙ z .0)
 
 -- ---- what is written reads back
 
 module _ {s : List ℕ} {at next : ℕ} where
-  pub kind-back : (kind : List ℕ) → Kind kind → Stands s at (stringFieldOf typeKey 3 kind) next → (v : Place) × (kindAt s at ≡ got v next) × Found s kind v
+  pub kind-back : (kind : List ℕ) → Kind kind → Stands s at (stringFieldOf typeKey 3 kind) next → (v : Span) × (kindAt s at ≡ got v next) × Found s kind v
   kind-back kind k h =
       let l = kind-long kind k in
       let a : 10 ≤ length kind = ⊎-elim (λ (e : length kind ≡ 10). omega arith) (λ (e : length kind ≡ 12). omega arith) l in
@@ -95,7 +95,7 @@ module _ {s : List ℕ} {at next : ℕ} where
       let n = number-field-back lengthKey 1 0xFFFFFFFFFFFFFFFF len (omega arith) (omega arith) (a .least) (omega arith) (stands-second S L h₂) in
       let f = k .2 in
       let g = r .2 in (
-        record { kind = span (k .0); share = span (r .0); length = len },
+        record { kind = k .0; share = r .0; length = len },
         rw (k .1, r .1, n, eq-eqb (r .0 .len) (padded len) (g .long ∙ a .whole)),
         record { kind-is = f .part; share-is = g .part; length-is = refl },
       )
@@ -160,7 +160,7 @@ shard-back public sig hash kind share len q a = go (shardOf public sig hash kind
         )
 
 -- whatever the writer accepts
-pub shard-written-back : (public sig hash kind share : List ℕ) (len : ℕ) (q : Quorum) {bs : List ℕ} → shardVerdict public sig hash kind share len q ≡ bytes bs
+pub shard-written-back : (public sig hash kind share : List ℕ) (len : ℕ) (q : Quorum) {bs : List ℕ} → shardVerdict public sig hash kind share len q ≡ done bs
     → (v : Shard) × (shardAt bs ≡ got v (length bs)) × Says bs public sig hash kind share len q v
 shard-written-back public sig hash kind share len q h =
     let a = shard-accepts hash kind share len q public sig h in
@@ -168,7 +168,7 @@ shard-written-back public sig hash kind share len q h =
 
 -- ---- what is read was written
 
-pub kind-only : {s : List ℕ} {at next : ℕ} → Bytes s → {v : Place} → kindAt s at ≡ got v next → Stands s at (stringFieldOf typeKey 3 (partAt s v)) next × Kind (partAt s v)
+pub kind-only : {s : List ℕ} {at next : ℕ} → Bytes s → {v : Span} → kindAt s at ≡ got v next → Stands s at (stringFieldOf typeKey 3 (partAt s v)) next × Kind (partAt s v)
 kind-only {s} {at} {next} y {v} e =
     let k = kind-string s at v next e in
     (string-field-only typeKey 3 10 12 19 y (k .0) .0, known-passed (partAt s v) (k .1))
@@ -181,9 +181,9 @@ module _ {s : List ℕ} {at next : ℕ} (y : Bytes s) where
       let t₁ = then-passed (kindAt s at) _ e in
       let t₂ = then-passed (stringFieldAt s (t₁ .1) shareKey 2 0 224 19) _ (t₁ .3) in
       let t₃ = then-passed (numberFieldAt s (t₂ .1) lengthKey 1 0xFFFFFFFFFFFFFFFF) _ (t₂ .3) in
-      let u = passed (eqb (t₂ .0 .len) (padded (t₃ .0))) (got (record { kind = span (t₁ .0); share = span (t₂ .0); length = t₃ .0 }) (t₃ .1)) 19 (t₃ .3) in
-      let f : _≡_ {A = Content} (record { kind = span (t₁ .0); share = span (t₂ .0); length = t₃ .0 }) v = cc (u .1) in
-      let n : t₃ .1 ≡ next = cc (u .1) in
+      let u = passed (eqb (t₂ .0 .len) (padded (t₃ .0))) (got (record { kind = t₁ .0; share = t₂ .0; length = t₃ .0 }) (t₃ .1)) 19 (t₃ .3) in
+      let f : _≡_ {A = Content} (record { kind = t₁ .0; share = t₂ .0; length = t₃ .0 }) v = got-value (u .1) in
+      let n : t₃ .1 ≡ next = got-next (u .1) in
       let r₁ = kind-only y (t₁ .2) in
       let r₂ = string-field-only shareKey 2 0 224 19 y (t₂ .2) in
       let r₃ = number-field-only lengthKey 1 0xFFFFFFFFFFFFFFFF y (t₃ .2) in
@@ -206,8 +206,8 @@ module _ {s : List ℕ} {at next : ℕ} (y : Bytes s) where
       let u₂ = passed (leb (t₁ .0) (t₂ .0)) _ 19 (t₂ .3) in
       let t₃ = then-passed (numberFieldAt s (t₂ .1) shareIndexKey 1 255) _ (u₂ .1) in
       let u₃ = passed (leb (t₃ .0) (t₂ .0)) (got (record { threshold = t₁ .0; count = t₂ .0; index = t₃ .0 }) (t₃ .1)) 19 (t₃ .3) in
-      let f : _≡_ {A = Quorum} (record { threshold = t₁ .0; count = t₂ .0; index = t₃ .0 }) q = cc (u₃ .1) in
-      let n : t₃ .1 ≡ next = cc (u₃ .1) in
+      let f : _≡_ {A = Quorum} (record { threshold = t₁ .0; count = t₂ .0; index = t₃ .0 }) q = got-value (u₃ .1) in
+      let n : t₃ .1 ≡ next = got-next (u₃ .1) in
       let r₁ = number-field-only thresholdKey 1 255 y (t₁ .2) in
       let r₂ = number-field-only shareCountKey 1 255 y (t₂ .2) in
       let r₃ = number-field-only shareIndexKey 1 255 y (t₃ .2) in
@@ -248,8 +248,8 @@ body-only {s} {at} {next} {claim} {v} y e =
     let t₂ = then-passed (numberFieldAt s (t₁ .1) versionKey 1 1) _ (t₁ .3) in
     let t₃ = then-passed (quorumAt s (t₂ .1)) _ (t₂ .3) in
     let u = passed (eqb (t₃ .1) (length s)) (got (record { claim = claim; content = t₁ .0; quorum = t₃ .0 }) (t₃ .1)) 3 (t₃ .3) in
-    let f : _≡_ {A = Shard} (record { claim = claim; content = t₁ .0; quorum = t₃ .0 }) v = cc (u .1) in
-    let n : t₃ .1 ≡ next = cc (u .1) in
+    let f : _≡_ {A = Shard} (record { claim = claim; content = t₁ .0; quorum = t₃ .0 }) v = got-value (u .1) in
+    let n : t₃ .1 ≡ next = got-next (u .1) in
     let l : t₃ .1 ≡ length s = eqb-true (t₃ .1) (length s) (u .0) in
     let r₁ = content-only y (t₁ .2) in
     let w = number-field-within s (t₁ .1) versionKey 1 1 (t₂ .2) in
@@ -283,10 +283,10 @@ shard-only {s} {v} {next} y e =
 
 -- the writer gives the same bytes again
 pub shard-again : {s : List ℕ} {v : Shard} {next : ℕ} → Bytes s → shardAt s ≡ got v next
-    → shardVerdict (publicIn s (v .claim)) (sigIn s (v .claim)) (hashIn s (v .claim)) (kindIn s v) (shareIn s v) (v .content .length) (v .quorum) ≡ bytes s
+    → shardVerdict (publicIn s (v .claim)) (sigIn s (v .claim)) (hashIn s (v .claim)) (kindIn s v) (shareIn s v) (v .content .length) (v .quorum) ≡ done s
 shard-again {s} {v} y e =
     let r = shard-only y e in
-    shard-accepted (hashIn s (v .claim)) (kindIn s v) (shareIn s v) (v .content .length) (v .quorum) (publicIn s (v .claim)) (sigIn s (v .claim)) (r .2) ∙ ap bytes (sym (r .0))
+    shard-accepted (hashIn s (v .claim)) (kindIn s v) (shareIn s v) (v .content .length) (v .quorum) (publicIn s (v .claim)) (sigIn s (v .claim)) (r .2) ∙ ap done (sym (r .0))
 
 -- For the reader: so what is read is no longer than what is written, and from 457 bytes on the reader refuses
 pub shard-read-most : (s : List ℕ) {v : Shard} {next : ℕ} → Bytes s → shardAt s ≡ got v next → length s ≤ 456

@@ -7,9 +7,8 @@ use native.Mathlib.Omega.{arith}
 use borrow.Author.Tests.{eq-eqb, eqb-true}
 use lib.Dec.{eqb}
 use lib.ListN.{length}
-use Rattle.wire.specs.Writing.{bytes}
-use Rattle.wire.proofs.Cases.{both-hold}
-use Rattle.wire.proofs.Writes.{passed, bytes-injective}
+use Rattle.wire.specs.Answer.{done}
+use Rattle.wire.proofs.Cases.{both-hold, passed, done-value}
 use Rattle.shard.specs.Shard.{restFits, shardOf, shardVerdict, signedOf, signedVerdict}
 use Rattle.shard.specs.declared.Quorum.{Quorum}
 use Rattle.shard.proofs.Allowed.{AllowedRest, Allowed, rest-yes, rest-passed}
@@ -17,11 +16,11 @@ use Rattle.shard.proofs.Lengths.{shard-most}
 
 module _ (hash kind share : List ℕ) (len : ℕ) (q : Quorum) (public : List ℕ) where
   module _ (sig : List ℕ) where
-    pub shard-accepted : Allowed public sig hash kind share len q → shardVerdict public sig hash kind share len q ≡ bytes (shardOf public sig hash kind share len q)
+    pub shard-accepted : Allowed public sig hash kind share len q → shardVerdict public sig hash kind share len q ≡ done (shardOf public sig hash kind share len q)
     unfolding shardVerdict
     shard-accepted a = rw (eq-eqb (length public) 32 (a .public-long), eq-eqb (length sig) 64 (a .sig-long), rest-yes hash kind share len q (a .rest))
 
-    pub shard-accepts : {bs : List ℕ} → shardVerdict public sig hash kind share len q ≡ bytes bs → Allowed public sig hash kind share len q × (shardOf public sig hash kind share len q ≡ bs)
+    pub shard-accepts : {bs : List ℕ} → shardVerdict public sig hash kind share len q ≡ done bs → Allowed public sig hash kind share len q × (shardOf public sig hash kind share len q ≡ bs)
     unfolding shardVerdict
     shard-accepts h =
         let t = passed (eqb (length public) 32 && (eqb (length sig) 64 && restFits hash kind share len q)) _ 19 h in
@@ -32,15 +31,15 @@ module _ (hash kind share : List ℕ) (len : ℕ) (q : Quorum) (public : List �
             sig-long = eqb-true (length sig) 64 (b .0);
             rest = rest-passed hash kind share len q (b .1);
           },
-          bytes-injective (t .1),
+          done-value (t .1),
         )
 
     -- whatever the writer writes fits a page
-    pub shard-written-most : {bs : List ℕ} → shardVerdict public sig hash kind share len q ≡ bytes bs → length bs ≤ 456
+    pub shard-written-most : {bs : List ℕ} → shardVerdict public sig hash kind share len q ≡ done bs → length bs ≤ 456
     shard-written-most h =
         let a = shard-accepts h in
         omega (arith, shard-most public sig hash kind share len q (a .0), ap length (a .1))
 
-  pub signed-accepted : length public ≡ 32 → AllowedRest hash kind share len q → signedVerdict public hash kind share len q ≡ bytes (signedOf public hash kind share len q)
+  pub signed-accepted : length public ≡ 32 → AllowedRest hash kind share len q → signedVerdict public hash kind share len q ≡ done (signedOf public hash kind share len q)
   unfolding signedVerdict
   signed-accepted p a = rw (eq-eqb (length public) 32 p, rest-yes hash kind share len q a)

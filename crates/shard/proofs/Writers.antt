@@ -7,7 +7,8 @@ use native.Mathlib.Omega.{arith}
 use borrow.Author.Tests.{eq-eqb, ne-eqb, not-true, not-false}
 use lib.ListN.{length}
 use Rattle.wire.specs.Over.{over}
-use Rattle.wire.specs.Writing.{bytes, Written}
+use Rattle.wire.specs.Answer.{done}
+use Rattle.wire.specs.Writing.{Written}
 use Rattle.wire.specs.declared.Wrote.the-variants.{Done, Refused}
 use Rattle.wire.proofs.Writes.{written, no-room, denied}
 use Rattle.shard.specs.Shard.{restFits, restOf, shardOf, shardVerdict, signedOf, signedVerdict}
@@ -52,7 +53,7 @@ module _ (hash kind share : List ℕ) (len : ℕ) (q : Quorum) where
           whole : length (shardOf public sig hash kind share len q) ≡ 109 + n
           whole = omega (arith, shard-length hash kind share len q public p sig g)
 
-          judged : shardVerdict public sig hash kind share len q ≡ bytes (shardOf public sig hash kind share len q)
+          judged : shardVerdict public sig hash kind share len q ≡ done (shardOf public sig hash kind share len q)
           judged = shard-accepted hash kind share len q public sig (record { public-long = p; sig-long = g; rest = rest-allowed r f h })
 
           pub shard-short : length x < 109 + n → Written 0 (shardVerdict public sig hash kind share len q) x x (Refused 11)
@@ -75,7 +76,7 @@ module _ (hash kind share : List ℕ) (len : ℕ) (q : Quorum) where
         signed-whole : length (signedOf public hash kind share len q) ≡ 57 + n
         signed-whole = omega (arith, signed-length hash kind share len q public p)
 
-        signed-judged : signedVerdict public hash kind share len q ≡ bytes (signedOf public hash kind share len q)
+        signed-judged : signedVerdict public hash kind share len q ≡ done (signedOf public hash kind share len q)
         signed-judged = signed-accepted hash kind share len q public p (rest-allowed r f h)
 
         pub signed-short : length x < 57 + n → Written 0 (signedVerdict public hash kind share len q) x x (Refused 11)

@@ -1,6 +1,6 @@
 -- What `read` answers, as document 01's number and values; and what the readers of a shard's parts answer, for the contracts of
 -- private functions.
-use Rattle.wire.specs.Answer.{Got, got, refused}
+use Rattle.wire.specs.Answer.{refused, Got, got}
 use Rattle.shard.specs.Shard.{Shard}
 use Rattle.shard.specs.declared.Content.{Content}
 use Rattle.shard.specs.declared.Quorum.{Quorum}

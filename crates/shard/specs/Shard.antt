@@ -4,14 +4,14 @@ use mathlib.Core.Bool.{Bool, _&&_, _||_}
 use mathlib.Core.List.{List, [], _∷_, _++_}
 use lib.Dec.{eqb, leb}
 use lib.ListN.{length}
-use Rattle.wire.specs.Answer.{choose, Got, got, refused, then}
-use Rattle.wire.specs.Writing.{Verdict, bytes, fault}
+use Rattle.wire.specs.Answer.{choose, Answer, done, refused, then, demand, Got, got}
+use Rattle.wire.specs.declared.Span.{Span}
+use Rattle.wire.specs.Span.{partAt}
 use Rattle.lend.specs.Same.{same}
 use Rattle.cbor.specs.Form.{stringFieldOf, numberFieldOf}
-use Rattle.cbor.specs.Item.{Place, partAt, demand, oneAt, keyAt, numberAt, contentsAt, stringFieldAt, numberFieldAt}
+use Rattle.cbor.specs.Item.{oneAt, keyAt, numberAt, contentsAt, stringFieldAt, numberFieldAt}
 use Rattle.cbor.specs.Names.{pubKey, sigKey, hashKey, typeKey, shareKey, lengthKey, versionKey, thresholdKey, shareCountKey, shareIndexKey}
 use Rattle.auth.specs.Auth.{Claim, claimAt}
-use Rattle.shard.specs.declared.Span.{Span}
 use Rattle.shard.specs.declared.Content.{Content}
 use Rattle.shard.specs.declared.Quorum.{Quorum}
 
@@ -36,33 +36,30 @@ padded len = (len + 15) / 16 * 16
 -- ---- the payload, read
 
 -- `type`: a text of 10 or 12 bytes, judged before its contents are looked at; then the contents
-unfoldable pub kindAt : List ℕ → ℕ → Got Place
+unfoldable pub kindAt : List ℕ → ℕ → Got Span
 kindAt s at =
-    then (keyAt s at typeKey) (λ _ a.
-    then (numberAt s a 3 10 12 19) (λ len b.
+    then (keyAt s at typeKey) (λ (_, a).
+    then (numberAt s a 3 10 12 19) (λ (len, b).
     choose (eqb len 11) (refused 19)
-    (then (contentsAt s b len) (λ kind next.
+    (then (contentsAt s b len) (λ (kind, next).
     demand (known (partAt s kind)) 19 (got kind next)))))
-
-abbrev pub span : Place → Span
-span v = record { start = v .start; len = v .len }
 
 -- `type`; `share` of at most 224 bytes; `length`, 1 or more of what a head can hold, at which the rule over it and the share is judged
 unfoldable pub contentAt : List ℕ → ℕ → Got Content
 contentAt s at =
-    then (kindAt s at) (λ kind a.
-    then (stringFieldAt s a shareKey 2 0 224 19) (λ share b.
-    then (numberFieldAt s b lengthKey 1 0xFFFFFFFFFFFFFFFF) (λ len next.
+    then (kindAt s at) (λ (kind, a).
+    then (stringFieldAt s a shareKey 2 0 224 19) (λ (share, b).
+    then (numberFieldAt s b lengthKey 1 0xFFFFFFFFFFFFFFFF) (λ (len, next).
     demand (eqb (share .len) (padded len)) 19
-    (got (record { kind = span kind; share = span share; length = len }) next))))
+    (got (record { kind = kind; share = share; length = len }) next))))
 
 -- `threshold`, `share_count` and `share_index`, each 1 to 255, the first and last of them at most share_count
 unfoldable pub quorumAt : List ℕ → ℕ → Got Quorum
 quorumAt s at =
-    then (numberFieldAt s at thresholdKey 1 255) (λ threshold a.
-    then (numberFieldAt s a shareCountKey 1 255) (λ count b.
+    then (numberFieldAt s at thresholdKey 1 255) (λ (threshold, a).
+    then (numberFieldAt s a shareCountKey 1 255) (λ (count, b).
     demand (leb threshold count) 19
-    (then (numberFieldAt s b shareIndexKey 1 255) (λ index next.
+    (then (numberFieldAt s b shareIndexKey 1 255) (λ (index, next).
     demand (leb index count) 19
     (got (record { threshold = threshold; count = count; index = index }) next)))))
 
@@ -75,14 +72,14 @@ pub record Shard : Type 0 where
 -- behind the claim; `version` is 1, and nothing comes after
 unfoldable pub bodyAt : List ℕ → ℕ → Claim → Got Shard
 bodyAt s at claim =
-    then (contentAt s at) (λ content a.
-    then (numberFieldAt s a versionKey 1 1) (λ _ b.
-    then (quorumAt s b) (λ quorum next.
+    then (contentAt s at) (λ (content, a).
+    then (numberFieldAt s a versionKey 1 1) (λ (_, b).
+    then (quorumAt s b) (λ (quorum, next).
     demand (eqb next (length s)) 3 (got (record { claim = claim; content = content; quorum = quorum }) next))))
 
 -- head AA; `pub`, `sig` and `hash`; the rest
 unfoldable pub shardAt : List ℕ → Got Shard
-shardAt s = then (oneAt s 0 0xAA) (λ _ a. then (claimAt s a) (λ claim b. bodyAt s b claim))
+shardAt s = then (oneAt s 0 0xAA) (λ (_, a). then (claimAt s a) (λ (claim, b). bodyAt s b claim))
 
 -- ---- the payload, written
 
@@ -118,9 +115,9 @@ unfoldable pub restFits : List ℕ → List ℕ → List ℕ → ℕ → Quorum 
 restFits hash kind share len q = eqb (length hash) 32 && (contentFits kind share len && quorumFits q)
 
 -- a value outside its range is 19. There is no 9: the payload of values in their ranges has at most 456 bytes (`shard-most`: proofs/Lengths; 02, Ticket 11)
-unfoldable pub shardVerdict : List ℕ → List ℕ → List ℕ → List ℕ → List ℕ → ℕ → Quorum → Verdict
+unfoldable pub shardVerdict : List ℕ → List ℕ → List ℕ → List ℕ → List ℕ → ℕ → Quorum → Answer (List ℕ)
 shardVerdict public sig hash kind share len q =
-    choose (eqb (length public) 32 && (eqb (length sig) 64 && restFits hash kind share len q)) (bytes (shardOf public sig hash kind share len q)) (fault 19)
+    choose (eqb (length public) 32 && (eqb (length sig) 64 && restFits hash kind share len q)) (done (shardOf public sig hash kind share len q)) (refused 19)
 
 -- ---- the bytes that get signed
 
@@ -134,6 +131,6 @@ signedOf public hash kind share len q =
     shardDomain ++ ((0xA9 ∷ []) ++ (stringFieldOf pubKey 2 public ++ restOf hash kind share len q))
 
 -- the values are judged as by the writer, sig apart
-unfoldable pub signedVerdict : List ℕ → List ℕ → List ℕ → List ℕ → ℕ → Quorum → Verdict
+unfoldable pub signedVerdict : List ℕ → List ℕ → List ℕ → List ℕ → ℕ → Quorum → Answer (List ℕ)
 signedVerdict public hash kind share len q =
-    choose (eqb (length public) 32 && restFits hash kind share len q) (bytes (signedOf public hash kind share len q)) (fault 19)
+    choose (eqb (length public) 32 && restFits hash kind share len q) (done (signedOf public hash kind share len q)) (refused 19)

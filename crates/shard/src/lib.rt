@@ -17,13 +17,8 @@ use cbor::step_no;
 use part::ContentRead;
 use part::QuorumRead;
 use wire::OUT_OF_RANGE;
+use wire::Span;
 use wire::Wrote;
-
-// Where bytes of the input stand.
-pub struct Span {
-    pub start: usize,
-    pub len: usize,
-}
 
 // What is shared: its type, this share of it, and how many bytes the whole has.
 pub struct Content {
@@ -136,32 +131,25 @@ pub fn write(
     kind: &[u8],
     share: &[u8],
     length: u64,
-    threshold: u64,
-    count: u64,
-    index: u64,
+    quorum: Quorum,
     out: &mut [u8],
 ) -> Wrote
-    ensures { λ r. ⌜ Written 0 (shardVerdict (now (public .entry)) (now (sig .entry)) (now (hash .entry)) (now (kind .entry)) (now (share .entry)) length (record { threshold = threshold; count = count; index = index })) (now (out .entry)) (now (out .exit)) r ⌝ }
+    ensures { λ r. ⌜ Written 0 (shardVerdict (now (public .entry)) (now (sig .entry)) (now (hash .entry)) (now (kind .entry)) (now (share .entry)) length quorum) (now (out .entry)) (now (out .exit)) r ⌝ }
 {
-    let q = Quorum {
-        threshold,
-        count,
-        index,
-    };
     if public.len() != 32 {
         return Wrote::Refused { no: OUT_OF_RANGE };
     }
     if sig.len() != 64 {
         return Wrote::Refused { no: OUT_OF_RANGE };
     }
-    if !rule::rest_fits(hash, kind, share, length, q) {
+    if !rule::rest_fits(hash, kind, share, length, quorum) {
         return Wrote::Refused { no: OUT_OF_RANGE };
     }
-    let len = form::PAYLOAD_FRONT + form::rest_size(hash, kind, share, length, q);
+    let len = form::PAYLOAD_FRONT + form::rest_size(hash, kind, share, length, quorum);
     if out.len() < len {
         return Wrote::Refused { no: wire::NO_ROOM };
     }
-    form::payload(out, public, sig, hash, kind, share, length, q);
+    form::payload(out, public, sig, hash, kind, share, length, quorum);
     Wrote::Done { len }
 }
 
@@ -172,28 +160,21 @@ pub fn signed(
     kind: &[u8],
     share: &[u8],
     length: u64,
-    threshold: u64,
-    count: u64,
-    index: u64,
+    quorum: Quorum,
     out: &mut [u8],
 ) -> Wrote
-    ensures { λ r. ⌜ Written 0 (signedVerdict (now (public .entry)) (now (hash .entry)) (now (kind .entry)) (now (share .entry)) length (record { threshold = threshold; count = count; index = index })) (now (out .entry)) (now (out .exit)) r ⌝ }
+    ensures { λ r. ⌜ Written 0 (signedVerdict (now (public .entry)) (now (hash .entry)) (now (kind .entry)) (now (share .entry)) length quorum) (now (out .entry)) (now (out .exit)) r ⌝ }
 {
-    let q = Quorum {
-        threshold,
-        count,
-        index,
-    };
     if public.len() != 32 {
         return Wrote::Refused { no: OUT_OF_RANGE };
     }
-    if !rule::rest_fits(hash, kind, share, length, q) {
+    if !rule::rest_fits(hash, kind, share, length, quorum) {
         return Wrote::Refused { no: OUT_OF_RANGE };
     }
-    let len = form::MESSAGE_FRONT + form::rest_size(hash, kind, share, length, q);
+    let len = form::MESSAGE_FRONT + form::rest_size(hash, kind, share, length, quorum);
     if out.len() < len {
         return Wrote::Refused { no: wire::NO_ROOM };
     }
-    form::message(out, public, hash, kind, share, length, q);
+    form::message(out, public, hash, kind, share, length, quorum);
     Wrote::Done { len }
 }

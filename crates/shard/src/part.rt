@@ -6,7 +6,6 @@ ghost use Rattle.shard.specs.Shard.{kindAt, contentAt, quorumAt};
 ghost use Rattle.shard.specs.Answer.{contentTold, quorumTold};
 use super::Content;
 use super::Quorum;
-use super::Span;
 use super::rule;
 use cbor::BYTES;
 use cbor::NumberRead;
@@ -17,6 +16,7 @@ use cbor::number_no;
 use cbor::step_no;
 use cbor::string_no;
 use wire::OUT_OF_RANGE;
+use wire::Span;
 
 pub enum ContentRead {
     Value { content: Content, next: usize },

@@ -1,25 +1,23 @@
 -- How long a sheet is at most, so that the room that the program lends always suffices: 11 is never its answer. Assumes nothing.
-use mathlib.Core.Path.{_≡_, refl, sym}
+use mathlib.Core.Path.{_≡_, sym, ap}
 use mathlib.Core.Logic.{⊎-elim}
-use mathlib.Core.Bool.{Bool, true, false}
 use mathlib.Core.List.{List}
-use Prim.Native.Nat.{ℕ, zero, suc, _+_, _*_, _≤_, _<_}
+use Prim.Native.Nat.{ℕ, zero, suc, _*_, _≤_, _<_}
 use native.Mathlib.Nat.{suc-mul}
 use native.Mathlib.Omega.{arith}
-use borrow.Author.Tests.{le-leb, ltb-true}
+use borrow.Author.Tests.{ltb-true}
 use lib.Dec.{ltb}
 use lib.ListN.{length, length-append}
-use Rattle.wire.specs.Answer.{choose}
-use Rattle.wire.specs.Writing.{bytes, fault, roomed}
-use Rattle.wire.proofs.Cases.{lt-or-le}
+use Rattle.wire.specs.Answer.{done}
+use Rattle.wire.proofs.Cases.{lt-or-le, passed, then-done, done-value}
 use Rattle.text.specs.Text.{base64, zbase32, textOf}
 use Rattle.text.proofs.Forms.{base64-lawful, zbase32-lawful}
 use Rattle.text.proofs.Counts.{filled, filling-lt}
-use Rattle.page.specs.Page.{pageCount, pageFrame, Counted, pages, unprintable, countOf, joined}
+use Rattle.page.specs.Page.{pageCount, pageFrame, countOf, joined}
 use Rattle.page.proofs.Typing.{frame-short}
 use Rattle.status.specs.Line.{decimal, lineFeed}
 use Rattle.status.proofs.Numbers.{decimal-one, decimal-two}
-use Rattle.sheet.specs.Sheet.{idLine, textLine, scanLine, placeLine, typedLines, scanSheet, typedSheet, printed, scanVerdict, typedVerdict, oneVerdict, placeVerdict}
+use Rattle.sheet.specs.Sheet.{idLine, textLine, scanLine, placeLine, typedLines, scanSheet, typedSheet, scanVerdict, typedVerdict, placeVerdict}
 use Rattle.sheet.specs.Parts.{There}
 use Rattle.sheet.proofs.Ids.{id-line-length}
 use Rattle.sheet.proofs.Texts.{text-length, frame-there, page-short}
@@ -62,7 +60,7 @@ joined-short zero b g h = omega arith
 joined-short (suc n) b g h =
     omega (arith, length-append (joined n g) (g n), joined-short n b g (λ k l. h k (omega arith)), h n (omega arith), suc-mul n b)
 
-module _ (c : List ℕ) (n : ℕ) (h : pages n ≡ countOf (length c) 480) where
+module _ (c : List ℕ) (n : ℕ) (h : done n ≡ countOf (length c) 480) where
   here : (k : ℕ) → k < pageCount (length c) 480 → There c k
   here k l = page-there c n h k (omega (arith, total-is c n h))
 
@@ -79,42 +77,28 @@ module _ (c : List ℕ) (n : ℕ) (h : pages n ≡ countOf (length c) 480) where
   typed-sheet-short =
       omega (arith, length-append (idLine c) (joined (pageCount (length c) 480) (typedLines c)), id-line-length c, joined-short (pageCount (length c) 480) 815 (typedLines c) (λ k l. typed-lines-short c k (here k l) few), few)
 
--- ---- so the room of the program suffices
+-- ---- so 78,257 bytes, which the program has, are room for all that is printed
 
-module _ (c out : List ℕ) (room : 78257 ≤ length out) where
-  fits : (bs : List ℕ) → length bs ≤ 78257 → roomed 0 out (bytes bs) ≡ bytes bs
-  fits bs h = rw (le-leb (0 + length bs) (length out) (omega arith))
-
+module _ (c bs : List ℕ) where
   -- For the reader: `sheet::scans` does not answer 11 then,
-  pub scan-room : roomed 0 out (scanVerdict c) ≡ scanVerdict c
+  pub scan-room : scanVerdict c ≡ done bs → length bs ≤ 78257
   unfolding scanVerdict
-  scan-room = go (countOf (length c) 480) refl
-    where
-      go : (k : Counted) → countOf (length c) 480 ≡ k → roomed 0 out (printed (scanSheet c) k) ≡ printed (scanSheet c) k
-      go (pages n) e = fits (scanSheet c) (omega (arith, scan-sheet-short c n (sym e)))
-      go (unprintable f) e = refl
+  scan-room e =
+      let (n, h, q) = then-done (countOf (length c) 480) _ e in
+      omega (arith, scan-sheet-short c n (sym h), ap length (done-value q))
 
   -- For the reader: nor does `sheet::typed`,
-  pub typed-room : roomed 0 out (typedVerdict c) ≡ typedVerdict c
+  pub typed-room : typedVerdict c ≡ done bs → length bs ≤ 78257
   unfolding typedVerdict
-  typed-room = go (countOf (length c) 480) refl
-    where
-      go : (k : Counted) → countOf (length c) 480 ≡ k → roomed 0 out (printed (typedSheet c) k) ≡ printed (typedSheet c) k
-      go (pages n) e = fits (typedSheet c) (typed-sheet-short c n (sym e))
-      go (unprintable f) e = refl
+  typed-room e =
+      let (n, h, q) = then-done (countOf (length c) 480) _ e in
+      omega (arith, typed-sheet-short c n (sym h), ap length (done-value q))
 
   -- For the reader: nor `sheet::typed_page`
-  pub place-room : (k : ℕ) → roomed 0 out (placeVerdict c k) ≡ placeVerdict c k
+  pub place-room : (k : ℕ) → placeVerdict c k ≡ done bs → length bs ≤ 78257
   unfolding placeVerdict
-  place-room k = go (countOf (length c) 480) refl
-    where
-      one : (n : ℕ) → pages n ≡ countOf (length c) 480 → (t : Bool) → ltb k n ≡ t
-          → roomed 0 out (choose t (bytes (typedLines c k)) (fault 8)) ≡ choose t (bytes (typedLines c k)) (fault 8)
-      one n h true q =
-          let l : k < n = ltb-true k n q in
-          fits (typedLines c k) (omega (arith, typed-lines-short c k (page-there c n h k l) (few c n h)))
-      one n h false q = refl
-
-      go : (j : Counted) → countOf (length c) 480 ≡ j → roomed 0 out (oneVerdict c k j) ≡ oneVerdict c k j
-      go (pages n) e = one n (sym e) (ltb k n) refl
-      go (unprintable f) e = refl
+  place-room k e =
+      let (n, h, t) = then-done (countOf (length c) 480) _ e in
+      let (l, q) = passed (ltb k n) _ 8 t in
+      let there = page-there c n (sym h) k (ltb-true k n l) in
+      omega (arith, typed-lines-short c k there (few c n (sym h)), ap length (done-value q))

@@ -8,9 +8,8 @@ use native.Mathlib.Omega.{arith}
 use borrow.Author.Tests.{ltb-false}
 use lib.Dec.{ltb}
 use lib.ListN.{length, getD}
-use Rattle.wire.specs.Answer.{choose}
+use Rattle.wire.specs.Answer.{choose, done}
 use Rattle.wire.specs.Number.{Bytes, Digits, digits, number}
-use Rattle.wire.specs.Writing.{bytes}
 use Rattle.wire.proofs.Digits.{digits-small}
 use Rattle.text.specs.Text.{Form, base64, zbase32, skipped, letter, characters, filling, textOf, readText}
 use Rattle.text.proofs.Forms.{Lawful, base64-lawful, zbase32-lawful}
@@ -118,9 +117,9 @@ module _ (c : List ℕ) (k : ℕ) (t : There c k) (all : Bytes c) where
       record { some = f .0; least = f .1; most = f .2; fits = f .4 }
 
   -- For the reader: what a code square says reads back as the frame,
-  pub scan-reads : readText base64 (textOf base64 (pageFrame c 480 k)) ≡ bytes (pageFrame c 480 k)
+  pub scan-reads : readText base64 (textOf base64 (pageFrame c 480 k)) ≡ done (pageFrame c 480 k)
   scan-reads = page-typed c 480 can-print k (t .below) all base64 base64-lawful
 
   -- For the reader: and so does what is typed below it
-  pub typed-reads : readText zbase32 (textOf zbase32 (pageFrame c 480 k)) ≡ bytes (pageFrame c 480 k)
+  pub typed-reads : readText zbase32 (textOf zbase32 (pageFrame c 480 k)) ≡ done (pageFrame c 480 k)
   typed-reads = page-typed c 480 can-print k (t .below) all zbase32 zbase32-lawful

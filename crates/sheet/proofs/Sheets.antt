@@ -5,21 +5,22 @@ use Prim.Native.Nat.{ℕ, _+_, _-_, _*_, _≤_, _<_}
 use native.Mathlib.Numerals.{add-one}
 use native.Mathlib.Omega.{arith}
 use borrow.Author.Tests.{lt-ltb, le-ltb}
+use lib.Dec.{ltb}
 use lib.ListN.{length, take, drop}
 use Rattle.wire.specs.Over.{over}
-use Rattle.wire.specs.Writing.{Written, bytes}
-use Rattle.wire.specs.declared.Wrote.{Wrote}
+use Rattle.wire.specs.Answer.{Answer, done, refused, Kept, demand}
+use Rattle.wire.specs.Writing.{Written, writing}
 use Rattle.wire.specs.declared.Wrote.the-variants.{Refused}
 use Rattle.wire.proofs.Overs.{over-none}
 use Rattle.wire.proofs.Writes.{denied}
 use Rattle.text.specs.Text.{base64, zbase32}
-use Rattle.page.specs.Page.{pageCount, Counted, pages, unprintable, countOf, joined}
+use Rattle.page.specs.Page.{pageCount, countOf, joined}
 use Rattle.page.specs.Answer.{told}
 use Rattle.page.specs.declared.PageCount.{PageCount}
 use Rattle.page.specs.declared.PageCount.the-variants.{Pages}
 use Rattle.page.specs.declared.PageCount.the-variants as page
 use Rattle.page.proofs.Cutting.{counted-facts}
-use Rattle.sheet.specs.Sheet.{idLine, placeLine, textLine, scanLine, typedLines, placeVerdict, oneVerdict}
+use Rattle.sheet.specs.Sheet.{idLine, placeLine, textLine, scanLine, typedLines, placeVerdict}
 use Rattle.sheet.specs.Parts.{There, textForm, linesOf, sheetOf, sheetVerdict, Laid}
 use Rattle.sheet.specs.declared.Form.{Form}
 use Rattle.sheet.specs.declared.Form.the-variants.{Square, Below}
@@ -28,7 +29,7 @@ use Rattle.sheet.proofs.Laying.{laid-one, laid-then, laid-as, laid-part
 
 -- ---- the lines of one page
 
-module _ (c : List ℕ) (n : ℕ) (h : pages n ≡ countOf (length c) 480) where
+module _ (c : List ℕ) (n : ℕ) (h : done n ≡ countOf (length c) 480) where
   pub total-is : n ≡ pageCount (length c) 480
   total-is = counted-facts (length c) 480 n h .3
 
@@ -36,7 +37,7 @@ module _ (c : List ℕ) (n : ℕ) (h : pages n ≡ countOf (length c) 480) where
   total-most = counted-facts (length c) 480 n h .4
 
   pub page-there : (k : ℕ) → k < n → There c k
-  page-there k l = record { counted = ap pages (sym total-is) ∙ h; below = omega (arith, total-is) }
+  page-there k l = record { counted = ap done (sym total-is) ∙ h; below = omega (arith, total-is) }
 
   module _ (k at : ℕ) (l : List ℕ) where
     pub scan-laid : (f : Form) (x : List ℕ) (r : ℕ) → f ≡ Square → Laid at 801 (textLine (textForm f) c k) l x r → Laid at 815 (linesOf f c k) l x r
@@ -77,7 +78,7 @@ module _ (f : Form) (c : List ℕ) (n : ℕ) (l : List ℕ) where
             (laid-then 17 (k * 815) at 815 r (joined k (linesOf f c)) (linesOf f c k) l x y (g .laid) p (omega arith)) (rw (add-one k)) (omega arith);
       }
 
-  pub stacked-end : (l₀ : List ℕ) (k at : ℕ) (x : List ℕ) → pages n ≡ countOf (length c) 480 → 78257 ≤ length l₀ → l ≡ over 0 (idLine c) l₀ → n ≤ k
+  pub stacked-end : (l₀ : List ℕ) (k at : ℕ) (x : List ℕ) → done n ≡ countOf (length c) 480 → 78257 ≤ length l₀ → l ≡ over 0 (idLine c) l₀ → n ≤ k
       → Stacked f c n l at k x → Laid 0 78257 (sheetOf f c) l₀ x at
   unfolding sheetOf
   stacked-end l₀ k at x h room i o g =
@@ -90,35 +91,35 @@ module _ (f : Form) (c : List ℕ) (n : ℕ) (l : List ℕ) where
       (ap (λ (i : ℕ). idLine c ++ joined i (linesOf f c)) e) (omega arith)
 
 -- what was laid in front is what is given
-pub given : (m n : ℕ) (bs l x out out' : List ℕ) (r : Wrote) → m ≤ length l → Laid 0 m bs l x n → Written 0 (bytes (take (n - 0) (drop 0 x))) out out' r
-    → Written 0 (bytes bs) out out' r
+pub given : (m n : ℕ) (bs l x out out' : List ℕ) (r : Answer ℕ) → m ≤ length l → Laid 0 m bs l x n → Kept (writing 0 out (done (take (n - 0) (drop 0 x)))) out out' r
+    → Kept (writing 0 out (done bs)) out out' r
 given m n bs l x out out' r room p w = rw (laid-part m n bs l x room p) at w
 
 -- ---- the answers
 
-pub told-pages : {r : PageCount} {n : ℕ} {k : Counted} → r ≡ Pages n → told r ≡ k → pages n ≡ k
+pub told-pages : {r : PageCount} {n : ℕ} {k : Answer ℕ} → r ≡ Pages n → told r ≡ k → done n ≡ k
 told-pages p q = rw (← q, p)
 
-pub told-none : {r : PageCount} {e : ℕ} {k : Counted} → r ≡ page.Refused e → told r ≡ k → unprintable e ≡ k
+pub told-none : {r : PageCount} {e : ℕ} {k : Answer ℕ} → r ≡ page.Refused e → told r ≡ k → refused e ≡ k
 told-none p q = rw (← q, p)
 
 module _ (c : List ℕ) (n : ℕ) where
-  module _ (out out' : List ℕ) (r : Wrote) where
-    pub all-printed : (f : Form) → pages n ≡ countOf (length c) 480 → Written 0 (bytes (sheetOf f c)) out out' r → Written 0 (sheetVerdict f c) out out' r
+  module _ (out out' : List ℕ) (r : Answer ℕ) where
+    pub all-printed : (f : Form) → done n ≡ countOf (length c) 480 → Kept (writing 0 out (done (sheetOf f c))) out out' r → Kept (writing 0 out (sheetVerdict f c)) out out' r
     unfolding sheetVerdict
     all-printed f h w = rw (← h) w
 
-    pub one-printed : (k : ℕ) → pages n ≡ countOf (length c) 480 → Written 0 (oneVerdict c k (pages n)) out out' r → Written 0 (placeVerdict c k) out out' r
+    pub one-printed : (k : ℕ) → done n ≡ countOf (length c) 480 → Kept (writing 0 out (demand (ltb k n) 8 (done (typedLines c k)))) out out' r → Kept (writing 0 out (placeVerdict c k)) out out' r
     unfolding placeVerdict
     one-printed k h w = rw (← h) w
 
-    pub one-there : (k : ℕ) → k < n → Written 0 (bytes (typedLines c k)) out out' r → Written 0 (oneVerdict c k (pages n)) out out' r
+    pub one-there : (k : ℕ) → k < n → Kept (writing 0 out (done (typedLines c k))) out out' r → Kept (writing 0 out (demand (ltb k n) 8 (done (typedLines c k)))) out out' r
     one-there k l w = rw (lt-ltb k n l) w
 
-  pub one-past : (k : ℕ) (out : List ℕ) → n ≤ k → Written 0 (oneVerdict c k (pages n)) out out (Refused 8)
+  pub one-past : (k : ℕ) (out : List ℕ) → n ≤ k → Written 0 (demand (ltb k n) 8 (done (typedLines c k))) out out (Refused 8)
   one-past k out l = rw (le-ltb k n l) (denied 0 out 8)
 
-module _ (c : List ℕ) (e : ℕ) (h : unprintable e ≡ countOf (length c) 480) (out : List ℕ) where
+module _ (c : List ℕ) (e : ℕ) (h : refused e ≡ countOf (length c) 480) (out : List ℕ) where
   pub none-printed : (f : Form) → Written 0 (sheetVerdict f c) out out (Refused e)
   unfolding sheetVerdict
   none-printed f = rw (← h) (denied 0 out e)

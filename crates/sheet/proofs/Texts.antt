@@ -7,11 +7,13 @@ use native.Mathlib.Omega.{arith}
 use lib.ListN.{length, take, drop, length-map}
 use Rattle.wire.specs.Number.{digits, number}
 use Rattle.wire.specs.Over.{over}
-use Rattle.wire.specs.Writing.{Verdict, bytes, Written}
+use Rattle.wire.specs.Answer.{Answer, done, Kept}
+use Rattle.wire.specs.Writing.{Written, writing}
 use Rattle.wire.specs.declared.Wrote.{Wrote}
 use Rattle.wire.specs.declared.Wrote.the-variants.{Done, Refused}
 use Rattle.wire.proofs.Digits.{length-digits}
-use Rattle.wire.proofs.Writes.{bytes-injective, done-stood, refused-why}
+use Rattle.wire.proofs.Cases.{done-value}
+use Rattle.wire.proofs.Writes.{done-stood, refused-why}
 use Rattle.text.specs.Text.{Form, base64, zbase32, letter, characters, filling, textOf}
 use Rattle.text.proofs.Forms.{Lawful, base64-lawful, zbase32-lawful}
 use Rattle.text.proofs.Counts.{filled, filling-lt}
@@ -29,11 +31,11 @@ pub form-lawful : (f : own.Form) → Lawful (textForm f)
 form-lawful Square = base64-lawful
 form-lawful Below = zbase32-lawful
 
-module _ (f : own.Form) (v : Verdict) (x y : List ℕ) (r : Wrote) where
-  pub scan-text : f ≡ Square → Written 0 (typed base64 v) x y r → Written 0 (typed (textForm f) v) x y r
+module _ (f : own.Form) (v : Answer (List ℕ)) (x y : List ℕ) (r : Answer ℕ) where
+  pub scan-text : f ≡ Square → Kept (writing 0 x (typed base64 v)) x y r → Kept (writing 0 x (typed (textForm f) v)) x y r
   scan-text e w = rw e w
 
-  pub typed-text : f ≡ Below → Written 0 (typed zbase32 v) x y r → Written 0 (typed (textForm f) v) x y r
+  pub typed-text : f ≡ Below → Kept (writing 0 x (typed zbase32 v)) x y r → Kept (writing 0 x (typed (textForm f) v)) x y r
   typed-text e w = rw e w
 
 -- ---- how long a text is
@@ -55,7 +57,7 @@ text-short f law bs h =
 -- ---- a page that there is
 
 module _ (c : List ℕ) (k : ℕ) (t : There c k) where
-  pub frame-there : pageVerdict c 480 k ≡ bytes (pageFrame c 480 k)
+  pub frame-there : pageVerdict c 480 k ≡ done (pageFrame c 480 k)
   unfolding pageFrame
   frame-there = page-is c 480 k (pageCount (length c) 480) (t .counted) (t .below)
 
@@ -70,21 +72,21 @@ module _ (c : List ℕ) (k : ℕ) (t : There c k) where
     here-short = page-short (textForm f) (form-lawful f)
 
     module _ (x y : List ℕ) (room : 800 ≤ length x) (r : Wrote) (w : Written 0 (typed (textForm f) (pageVerdict c 480 k)) x y r) where
-      written-here : Written 0 (bytes here) x y r
+      written-here : Written 0 (done here) x y r
       written-here = rw frame-there at w
 
       -- it is not refused
       pub text-never : {P : Type 0} (e : ℕ) → r ≡ Refused e → P
       text-never e q =
           ⊎-elim (λ o. let z : _≡_ {A = ℕ} 0 1 = cc in absurd (omega arith))
-          (λ o. absurd (omega (arith, o .2, ap length (bytes-injective (o .1)), here-short)))
-          (refused-why 0 (bytes here) x y e (rw q at written-here))
+          (λ o. absurd (omega (arith, o .2, ap length (done-value (o .1)), here-short)))
+          (refused-why 0 (done here) x y e 0 (rw q at written-here))
 
       -- it stands in front
       pub text-laid : (n : ℕ) → r ≡ Done n → Laid 0 800 here x y n
       text-laid n q =
-          let s = done-stood 0 (bytes here) x y n (rw q at written-here) in
-          let e : s .what ≡ here = bytes-injective (sym (s .meant)) in
+          let s = done-stood 0 (done here) x y n (rw q at written-here) in
+          let e : s .what ≡ here = done-value (sym (s .meant)) in
           record { next = omega (arith, s .count, ap length e); short = here-short; stands = s .stands ∙ ap (λ (b : List ℕ). over 0 b x) e }
 
     -- and with its line feed it is the line

@@ -4,16 +4,16 @@ use mathlib.Core.Path.{_≡_}
 use mathlib.Core.List.{List, _++_}
 use lib.ListN.{length}
 use Rattle.wire.specs.Over.{over}
-use Rattle.wire.specs.Writing.{Verdict}
+use Rattle.wire.specs.Answer.{Answer, done}
 use Rattle.text.specs.Text as text
-use Rattle.page.specs.Page.{pageCount, pages, countOf, joined}
+use Rattle.page.specs.Page.{pageCount, countOf, joined}
 use Rattle.sheet.specs.Sheet.{idLine, scanLine, typedLines, printed}
 use Rattle.sheet.specs.declared.Form.{Form}
 use Rattle.sheet.specs.declared.Form.the-variants.{Square, Below}
 
 -- the document can be printed, and has a page k
 pub record There (c : List ℕ) (k : ℕ) : Type 0 where
-  pub counted : pages (pageCount (length c) 480) ≡ countOf (length c) 480
+  pub counted : done (pageCount (length c) 480) ≡ countOf (length c) 480
   pub below : k < pageCount (length c) 480
 
 abbrev pub textForm : Form → text.Form
@@ -28,7 +28,7 @@ linesOf Below = typedLines
 unfoldable pub sheetOf : Form → List ℕ → List ℕ
 sheetOf f c = idLine c ++ joined (pageCount (length c) 480) (linesOf f c)
 
-unfoldable pub sheetVerdict : Form → List ℕ → Verdict
+unfoldable pub sheetVerdict : Form → List ℕ → Answer (List ℕ)
 sheetVerdict f c = printed (sheetOf f c) (countOf (length c) 480)
 
 -- bytes, at most so many, were written from index at on up to index r: l became x

@@ -3,10 +3,9 @@ use Prim.Native.Nat.{ℕ, _+_, _/_, _%_}
 use mathlib.Core.List.{List, [], _∷_, _++_}
 use lib.Dec.{ltb}
 use lib.ListN.{length}
-use Rattle.wire.specs.Answer.{choose}
-use Rattle.wire.specs.Writing.{Verdict, bytes, fault}
+use Rattle.wire.specs.Answer.{choose, Answer, done, then, demand}
 use Rattle.text.specs.Text.{Form, base64, zbase32, textOf}
-use Rattle.page.specs.Page.{documentId, pageCount, pageFrame, Counted, pages, unprintable, countOf, joined}
+use Rattle.page.specs.Page.{documentId, pageCount, pageFrame, countOf, joined}
 use Rattle.status.specs.Line.{decimal, lineFeed}
 
 -- a lower-case hex digit: 0 to 9 are 30 to 39 hex, 10 to 15 are 61 to 66 hex
@@ -53,20 +52,18 @@ unfoldable pub typedSheet : List ℕ → List ℕ
 typedSheet c = idLine c ++ joined (pageCount (length c) 480) (typedLines c)
 
 -- "Order: page size or empty ciphertext 19, more than 96 pages 9"
-abbrev pub printed : List ℕ → Counted → Verdict
-printed sheet (pages n) = bytes sheet
-printed sheet (unprintable e) = fault e
+abbrev pub printed : List ℕ → Answer ℕ → Answer (List ℕ)
+printed sheet counted = then counted (λ _. done sheet)
 
-unfoldable pub scanVerdict : List ℕ → Verdict
+unfoldable pub scanVerdict : List ℕ → Answer (List ℕ)
 scanVerdict c = printed (scanSheet c) (countOf (length c) 480)
 
-unfoldable pub typedVerdict : List ℕ → Verdict
+unfoldable pub typedVerdict : List ℕ → Answer (List ℕ)
 typedVerdict c = printed (typedSheet c) (countOf (length c) 480)
 
 -- of one page, "page number not below the total 8"
-abbrev pub oneVerdict : List ℕ → ℕ → Counted → Verdict
-oneVerdict c k (pages n) = choose (ltb k n) (bytes (typedLines c k)) (fault 8)
-oneVerdict c k (unprintable e) = fault e
-
-unfoldable pub placeVerdict : List ℕ → ℕ → Verdict
-placeVerdict c k = oneVerdict c k (countOf (length c) 480)
+unfoldable pub placeVerdict : List ℕ → ℕ → Answer (List ℕ)
+placeVerdict c k =
+    then (countOf (length c) 480) (λ n.
+    demand (ltb k n) 8
+    (done (typedLines c k)))

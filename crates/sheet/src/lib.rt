@@ -2,14 +2,16 @@
 // other the text that is typed where no square can be read.
 ghost use mathlib.Core.Path.{_≡_};
 ghost use Prim.Native.Nat.{_+_, _*_, _≤_, _<_, min};
+ghost use lib.Dec.{ltb};
 ghost use lib.ListN.{length};
 ghost use Rattle.wire.specs.Over.{over};
-ghost use Rattle.wire.specs.Writing.{Written, bytes};
+ghost use Rattle.wire.specs.Answer.{done, demand};
+ghost use Rattle.wire.specs.Writing.{Written};
 ghost use Rattle.status.specs.Line.{decimal};
 ghost use Rattle.text.specs.Text.{textOf};
-ghost use Rattle.page.specs.Page.{pages, countOf, pageFrame, pageVerdict};
+ghost use Rattle.page.specs.Page.{countOf, pageFrame, pageVerdict};
 ghost use Rattle.page.specs.Page.{typed as textVerdict};
-ghost use Rattle.sheet.specs.Sheet.{hexDigit, hexOf, idLine, placeLine, textLine, scanVerdict, typedVerdict, placeVerdict, oneVerdict};
+ghost use Rattle.sheet.specs.Sheet.{hexDigit, hexOf, idLine, placeLine, textLine, scanVerdict, typedVerdict, typedLines, placeVerdict};
 ghost use Rattle.sheet.specs.Parts.{There, textForm, linesOf, sheetOf, sheetVerdict, Laid};
 ghost use Rattle.sheet.specs.Word.{askedOf};
 use page::PageCount;
@@ -140,7 +142,7 @@ fn text_line(form: Form, c: &[u8], k: usize, out: &mut [u8], at: usize) -> usize
 }
 
 fn lines(form: Form, c: &[u8], k: usize, n: usize, out: &mut [u8], at: usize) -> usize
-    requires { ⌜ (pages n ≡ countOf (length (now c)) 480) × (k < n) × (at + 815 ≤ length (now out)) ⌝ }
+    requires { ⌜ (done n ≡ countOf (length (now c)) 480) × (k < n) × (at + 815 ≤ length (now out)) ⌝ }
     ensures { λ r. ⌜ Laid at 815 (linesOf form (now (c .entry)) k) (now (out .entry)) (now (out .exit)) r ⌝ }
 {
     match form {
@@ -156,7 +158,7 @@ fn lines(form: Form, c: &[u8], k: usize, n: usize, out: &mut [u8], at: usize) ->
 
 // The id and all pages, from the front of out on. Answers how many bytes they are.
 fn lay(form: Form, c: &[u8], n: usize, out: &mut [u8]) -> usize
-    requires { ⌜ (pages n ≡ countOf (length (now c)) 480) × (78257 ≤ length (now out)) ⌝ }
+    requires { ⌜ (done n ≡ countOf (length (now c)) 480) × (78257 ≤ length (now out)) ⌝ }
     ensures { λ r. ⌜ Laid 0 78257 (sheetOf form (now (c .entry))) (now (out .entry)) (now (out .exit)) r ⌝ }
 {
     id_line(c, out);
@@ -170,8 +172,8 @@ fn lay(form: Form, c: &[u8], n: usize, out: &mut [u8]) -> usize
 }
 
 fn all(form: Form, c: &[u8], n: usize, out: &mut [u8]) -> Wrote
-    requires { ⌜ pages n ≡ countOf (length (now c)) 480 ⌝ }
-    ensures { λ r. ⌜ Written 0 (bytes (sheetOf form (now (c .entry)))) (now (out .entry)) (now (out .exit)) r ⌝ }
+    requires { ⌜ done n ≡ countOf (length (now c)) 480 ⌝ }
+    ensures { λ r. ⌜ Written 0 (done (sheetOf form (now (c .entry)))) (now (out .entry)) (now (out .exit)) r ⌝ }
 {
     let mut aside = [0u8; ROOM];
     let len = lay(form, c, n, &mut aside);
@@ -188,8 +190,8 @@ fn sheet(form: Form, c: &[u8], out: &mut [u8]) -> Wrote
 }
 
 fn one(c: &[u8], k: usize, n: usize, out: &mut [u8]) -> Wrote
-    requires { ⌜ pages n ≡ countOf (length (now c)) 480 ⌝ }
-    ensures { λ r. ⌜ Written 0 (oneVerdict (now (c .entry)) k (pages n)) (now (out .entry)) (now (out .exit)) r ⌝ }
+    requires { ⌜ done n ≡ countOf (length (now c)) 480 ⌝ }
+    ensures { λ r. ⌜ Written 0 (demand (ltb k n) 8 (done (typedLines (now (c .entry)) k))) (now (out .entry)) (now (out .exit)) r ⌝ }
 {
     if n <= k {
         return Wrote::Refused {

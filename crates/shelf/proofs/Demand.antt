@@ -7,25 +7,25 @@ use Prim.Native.Nat.{ℕ, _≤_}
 use native.Mathlib.Omega.{arith}
 use borrow.Author.Tests.{le-leb}
 use lib.ListN.{length, replicate, length-replicate}
-use Rattle.wire.specs.Answer.{done, failed}
+use Rattle.wire.specs.Answer.{Answer, done, refusedAt, refused, Change, bytesAfter, answerOf}
 use Rattle.lend.proofs.Sames.{same-refl}
 use Rattle.page.specs.Page.{documentId}
 use Rattle.state.specs.State.{Book}
 use Rattle.state.specs.Take.{Page}
 use Rattle.state.specs.Meaning.{BookIs}
-use Rattle.state.specs.Finish.{Finish, whole, lacking, finishBook}
+use Rattle.state.specs.Finish.{finishBook}
 use Rattle.state.specs.Complete.{Complete, FinishIs}
 use Rattle.state.proofs.Finished.{finish-exact, finish-whole, finish-short}
 use Rattle.book.specs.Encode.{encode}
 use Rattle.book.specs.Read.{idOf, readBook, okBook}
 use Rattle.book.proofs.Decode.{decoded-valid}
-use Rattle.collection.specs.Collection.{Decision, leaves, refuses, joining, answerOf, bytesAfter}
+use Rattle.collection.specs.Collection.{joining}
 use Rattle.collection.specs.Built.{Built, opened, joined, bytesOf, In, Lent, offeredAll, AllBytes}
 use Rattle.collection.proofs.Demand.{saved, saved-says, list-joined}
 use Rattle.closing.specs.Finish.{collected, vouched, finished}
 use Rattle.closing.proofs.Demand.{decided-data, decided-11, decided-17}
 use Rattle.status.specs.Line.{statusLine}
-use Rattle.shelf.specs.Shelf.{resuming, refusedAt, ending, shown, answered}
+use Rattle.shelf.specs.Shelf.{resuming, refusalLine, ending, shown, answered}
 
 -- ---- what is printed, for a collection that is what the set S says
 
@@ -41,19 +41,19 @@ module _ (S : Page → Type 0) (c : List ℕ) (ok : okBook c ≡ true) (m : Book
       omega (arith, room, finish-short (readBook c) d v (finish-whole S (readBook c) v m d .1 w))
 
   -- For the reader: so finish is never short of room
-  pub never-11 : ending c ≡ lacking 11 0 → ⊥
+  pub never-11 : ending c ≡ refusedAt 11 0 → ⊥
   unfolding ending
   never-11 e = let w = decided-11 S c (replicate 46080 0) ok m .0 e in omega (arith, w .2, fits (w .0) (w .1))
 
   -- the ciphertext, exactly when the set is complete and the id is its own
-  pub ending-data : (d : List ℕ) → (ending c ≡ whole d) ↔ (Complete S d × (documentId d ≡ idOf c))
+  pub ending-data : (d : List ℕ) → (ending c ≡ done d) ↔ (Complete S d × (documentId d ≡ idOf c))
   unfolding ending
   ending-data d =
       let f = decided-data S c (replicate 46080 0) ok m d in
       ((λ e. let w = f .0 e in (w .0, w .2)), λ w. f .1 (w .0, fits d (w .0), w .1))
 
   -- 17, exactly when it is complete and the id is another's
-  pub ending-17 : (ending c ≡ lacking 17 0) ↔ ((d : List ℕ) × Complete S d × (documentId d ≡ idOf c → ⊥))
+  pub ending-17 : (ending c ≡ refusedAt 17 0) ↔ ((d : List ℕ) × Complete S d × (documentId d ≡ idOf c → ⊥))
   unfolding ending
   ending-17 =
       let f = decided-17 S c (replicate 46080 0) ok m in
@@ -65,7 +65,7 @@ module _ (S : Page → Type 0) (c : List ℕ) (ok : okBook c ≡ true) (m : Book
   prints-data d w i = ap (shown c) (ending-data d .1 (w, i))
 
   -- refuses one that is another document's,
-  pub prints-17 : (d : List ℕ) → Complete S d → (documentId d ≡ idOf c → ⊥) → answered 1 c ≡ refusedAt 17 0
+  pub prints-17 : (d : List ℕ) → Complete S d → (documentId d ≡ idOf c → ⊥) → answered 1 c ≡ refusalLine 17 0
   unfolding answered
   prints-17 d w i = ap (shown c) (ending-17 .1 (d, w, i))
 
@@ -74,27 +74,27 @@ module _ (S : Page → Type 0) (c : List ℕ) (ok : okBook c ≡ true) (m : Book
   unfolding answered ending finished collected
   prints-status n = rw ok (go (finishBook (readBook c)) refl)
     where
-      line : (e k : ℕ) → 14 ≤ e → e ≤ 16 → shown c (lacking e k) ≡ statusLine c
+      line : (e k : ℕ) → 14 ≤ e → e ≤ 16 → shown c (refusedAt e k) ≡ statusLine c
       line e k g h = rw (le-leb 14 e g, le-leb e 16 h)
 
-      told : (e k : ℕ) → FinishIs S (lacking e k) → shown c (lacking e k) ≡ statusLine c
+      told : (e k : ℕ) → FinishIs S (refusedAt e k) → shown c (refusedAt e k) ≡ statusLine c
       told e k (inl (p, z, w)) = line e k (omega (arith, p)) (omega (arith, p))
       told e k (inr (inl (p, w))) = line e k (omega (arith, p)) (omega (arith, p))
       told e k (inr (inr (p, w))) = line e k (omega (arith, p)) (omega (arith, p))
 
-      go : (x : Finish) → finishBook (readBook c) ≡ x → shown c (vouched (idOf c) (replicate 46080 0) x) ≡ statusLine c
-      go (whole d) e = absurd (n d (finish-whole S (readBook c) (decoded-valid c ok) m d .0 e))
-      go (lacking e k) q = told e k (finish-exact S (readBook c) (decoded-valid c ok) m (lacking e k) .0 q)
+      go : (x : Answer (List ℕ)) → finishBook (readBook c) ≡ x → shown c (vouched (idOf c) (replicate 46080 0) x) ≡ statusLine c
+      go (done d) e = absurd (n d (finish-whole S (readBook c) (decoded-valid c ok) m d .0 e))
+      go (refusedAt e k) q = told e k (finish-exact S (readBook c) (decoded-valid c ok) m (refusedAt e k) .0 q)
 
 -- ---- taking up
 
 -- For the reader: a refusal changes nothing
-pub refused-keeps : (phase : ℕ) (c s : List ℕ) (e : ℕ) → answerOf (resuming phase c s) ≡ failed e → bytesAfter c (resuming phase c s) ≡ c
+pub refused-keeps : (phase : ℕ) (c s : List ℕ) (e : ℕ) → answerOf (resuming phase c s) ≡ refused e → bytesAfter c (resuming phase c s) ≡ c
 refused-keeps phase c s e = go (resuming phase c s)
   where
-    go : (d : Decision Unit) → answerOf d ≡ failed e → bytesAfter c d ≡ c
-    go (leaves x a) h = let z : _≡_ {A = ℕ} 0 1 = cc in absurd (omega arith)
-    go (refuses f) h = refl
+    go : (d : Change Unit) → answerOf d ≡ refused e → bytesAfter c d ≡ c
+    go (done (x, a)) h = let z : _≡_ {A = ℕ} 0 1 = cc in absurd (omega arith)
+    go (refusedAt f place) h = refl
 
 module _ (id : List ℕ) (eight : length id ≡ 8) where
   -- what was scanned now is g, and what was saved is h: the bytes are those of a join

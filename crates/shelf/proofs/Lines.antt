@@ -8,15 +8,16 @@ use borrow.Author.Tests.{le-leb, lt-leb}
 use lib.ListN.{length, take, drop, replicate, length-append, length-replicate}
 use lib.Seq.{take-at}
 use Rattle.wire.specs.Over.{over}
-use Rattle.wire.specs.Writing.{bytes, Written}
+use Rattle.wire.specs.Answer.{done, refusedAt, Answer, Kept}
+use Rattle.wire.specs.Writing.{Written, writing}
 use Rattle.wire.specs.declared.Wrote.{Wrote}
 use Rattle.wire.specs.declared.Wrote.the-variants.{Done, Refused}
 use Rattle.wire.proofs.Overs.{over-fits, length-over}
-use Rattle.wire.proofs.Writes.{bytes-injective, done-stood, refused-why, written-over}
-use Rattle.state.specs.Finish.{lacking}
+use Rattle.wire.proofs.Cases.{done-value}
+use Rattle.wire.proofs.Writes.{done-stood, refused-why, written-over}
 use Rattle.status.specs.Line.{decimal, field, refusedName, lineFeed, refusedLine, statusLine}
 use Rattle.status.proofs.Numbers.{length-decimal}
-use Rattle.shelf.specs.Shelf.{space, refusedAt, shown}
+use Rattle.shelf.specs.Shelf.{space, refusalLine, shown}
 
 -- ---- 01's own line
 
@@ -28,19 +29,19 @@ refused-length e = length-append (field refusedName e) lineFeed ∙ omega (arith
 abbrev pub Placeless : ℕ → ℕ → List ℕ → List ℕ → Type 0
 Placeless e n l x = (n ≡ length (refusedLine e)) × (9 ≤ n) × (n ≤ 12) × (x ≡ over 0 (refusedLine e) l)
 
-module _ (e : ℕ) (l x : List ℕ) (room : length l ≡ 64) (r : Wrote) (w : Written 0 (bytes (refusedLine e)) l x r) where
+module _ (e : ℕ) (l x : List ℕ) (room : length l ≡ 64) (r : Wrote) (w : Written 0 (done (refusedLine e)) l x r) where
   pub placeless-never : (f : ℕ) → r ≡ Refused f → Placeless e 0 l x
   placeless-never f h =
       ⊎-elim (λ g. let z : _≡_ {A = ℕ} 0 1 = cc in absurd (omega arith))
       (λ s.
-      absurd (omega (arith, s .2, ap length (bytes-injective (s .1)), refused-length e, length-decimal e)))
-      (refused-why 0 (bytes (refusedLine e)) l x f (rw h at w))
+      absurd (omega (arith, s .2, ap length (done-value (s .1)), refused-length e, length-decimal e)))
+      (refused-why 0 (done (refusedLine e)) l x f 0 (rw h at w))
 
   pub placeless-laid : (n : ℕ) → r ≡ Done n → Placeless e n l x
   placeless-laid n h =
-      let s = done-stood 0 (bytes (refusedLine e)) l x n (rw h at w) in
-      let c : n ≡ length (refusedLine e) = s .count ∙ ap length (sym (bytes-injective (s .meant))) in
-      (c, omega (arith, refused-length e), omega (arith, refused-length e, length-decimal e), written-over 0 (refusedLine e) l x r w)
+      let s = done-stood 0 (done (refusedLine e)) l x n (rw h at w) in
+      let c : n ≡ length (refusedLine e) = s .count ∙ ap length (sym (done-value (s .meant))) in
+      (c, omega (arith, refused-length e), omega (arith, refused-length e, length-decimal e), written-over 0 (refusedLine e) l x w)
 
 -- ---- the line with its place
 
@@ -76,8 +77,8 @@ module _ (e k n m : ℕ) (x y z : List ℕ) (p : Placeless e n (replicate 64 0) 
       ap (λ (l : List ℕ). take (m - 7) (drop 7 l)) (q .3 ∙ over-fits 0 (refusedLine k) (replicate 64 0) (omega (arith, q .0, q .2, room)))
       ∙ take-at behind (drop (0 + length (refusedLine k)) (replicate 64 0)) (m - 7) behind-length
 
-  refused-at-laid : z ≡ over (n - 1) (take (m - 7) (drop 7 y)) x → take (n - 1 + m - 7 - 0) z ≡ refusedAt e k
-  unfolding word behind refusedAt
+  refused-at-laid : z ≡ over (n - 1) (take (m - 7) (drop 7 y)) x → take (n - 1 + m - 7 - 0) z ≡ refusalLine e k
+  unfolding word behind refusalLine
   refused-at-laid h =
       let l : length x ≡ 64 = ap length (p .3) ∙ length-over 0 (refusedLine e) (replicate 64 0) ∙ room in
       let fits : length word + length behind ≤ length x = omega (arith, l, word-length, behind-length, p .2, q .2) in
@@ -92,18 +93,18 @@ module _ (e k n m : ℕ) (x y z : List ℕ) (p : Placeless e n (replicate 64 0) 
       ∙ take-at (word ++ behind) (drop (length word + length behind) x) (n - 1 + m - 7 - 0) size
       ∙ sym (append-assoc word (field space k) lineFeed)
 
-  pub refused-at-written : (out out' : List ℕ) (r : Wrote) → z ≡ over (n - 1) (take (m - 7) (drop 7 y)) x
-      → Written 0 (bytes (take (n - 1 + m - 7 - 0) z)) out out' r → Written 0 (bytes (refusedAt e k)) out out' r
+  pub refused-at-written : (out out' : List ℕ) (r : Answer ℕ) → z ≡ over (n - 1) (take (m - 7) (drop 7 y)) x
+      → Kept (writing 0 out (done (take (n - 1 + m - 7 - 0) z))) out out' r → Kept (writing 0 out (done (refusalLine e k))) out out' r
   refused-at-written out out' r h w = rw (refused-at-laid h) at w
 
 -- ---- which line tells a refusal
 
-module _ (c : List ℕ) (e k : ℕ) (out x : List ℕ) (r : Wrote) where
-  pub below-14 : e < 14 → Written 0 (bytes (refusedAt e k)) out x r → Written 0 (bytes (shown c (lacking e k))) out x r
+module _ (c : List ℕ) (e k : ℕ) (out x : List ℕ) (r : Answer ℕ) where
+  pub below-14 : e < 14 → Kept (writing 0 out (done (refusalLine e k))) out x r → Kept (writing 0 out (done (shown c (refusedAt e k)))) out x r
   below-14 h w = rw (lt-leb 14 e h) w
 
-  pub above-16 : 14 ≤ e → 16 < e → Written 0 (bytes (refusedAt e k)) out x r → Written 0 (bytes (shown c (lacking e k))) out x r
+  pub above-16 : 14 ≤ e → 16 < e → Kept (writing 0 out (done (refusalLine e k))) out x r → Kept (writing 0 out (done (shown c (refusedAt e k)))) out x r
   above-16 g h w = rw (le-leb 14 e g, lt-leb e 16 h) w
 
-  pub from-14-to-16 : 14 ≤ e → e ≤ 16 → Written 0 (bytes (statusLine c)) out x r → Written 0 (bytes (shown c (lacking e k))) out x r
+  pub from-14-to-16 : 14 ≤ e → e ≤ 16 → Kept (writing 0 out (done (statusLine c))) out x r → Kept (writing 0 out (done (shown c (refusedAt e k)))) out x r
   from-14-to-16 g h w = rw (le-leb 14 e g, le-leb e 16 h) w

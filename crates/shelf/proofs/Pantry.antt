@@ -7,25 +7,24 @@ use Prim.Native.Nat.{ℕ, _≤_}
 use native.Mathlib.Omega.{arith}
 use borrow.Author.Tests.{ne-eqb}
 use lib.ListN.{length}
-use Rattle.wire.specs.Writing.{bytes, fault}
+use Rattle.wire.specs.Answer.{Answer, done, refusedAt, refused, leaves, bytesAfter}
 use Rattle.lend.specs.Same.{same}
 use Rattle.lend.proofs.Sames.{same-eq, same-false}
 use Rattle.page.specs.Page.{documentId}
 use Rattle.state.specs.Take.{Page}
 use Rattle.state.specs.State.{Book}
 use Rattle.state.specs.Meaning.{BookIs}
-use Rattle.state.specs.Finish.{Finish, whole, lacking, finishBook}
+use Rattle.state.specs.Finish.{finishBook}
 use Rattle.state.specs.Complete.{Complete}
 use Rattle.state.proofs.Valid.{Valid}
 use Rattle.state.proofs.Finished.{finish-whole}
 use Rattle.book.specs.Read.{idOf, okBook}
-use Rattle.collection.specs.Collection.{leaves, refuses, bytesAfter}
 use Rattle.collection.specs.Built.{PageAmong, AllBytes}
 use Rattle.scan.specs.Session.{fed}
 use Rattle.scan.specs.Input.{documentOf, scansOf, collectionOf, new, session}
 use Rattle.scan.proofs.Inputs.{session-collects, session-refused, all-bytes, document-eight, list-says, status-says}
 use Rattle.scan.proofs.Sound.{Sound, sound-new, fed-sound, closed-sound}
-use Rattle.shelf.specs.Shelf.{resuming, refusedAt, answered}
+use Rattle.shelf.specs.Shelf.{resuming, refusalLine, answered}
 use Rattle.shelf.specs.Pantry.{printedAlone, takenUp, printedWith, fileAfter, Prints}
 use Rattle.shelf.proofs.Sessions.{resume-13, resume-12, resume-0}
 use Rattle.shelf.proofs.Demand.{prints-data, prints-17, prints-status, resume-lists}
@@ -36,8 +35,8 @@ use Rattle.shelf.proofs.Demand.{prints-data, prints-17, prints-status, 
 pub prints-once : (id : List ℕ) (S : Page → Type 0) (b : Book) → Valid b → BookIs S b → (x y : List ℕ) → Prints id S x → Prints id S y → x ≡ y
 prints-once id S b v m x y p q = go (finishBook b) refl
   where
-    go : (f : Finish) → finishBook b ≡ f → x ≡ y
-    go (whole d) e = judged (same (documentId d) id) refl
+    go : (f : Answer (List ℕ)) → finishBook b ≡ f → x ≡ y
+    go (done d) e = judged (same (documentId d) id) refl
       where
         w : Complete S d
         w = finish-whole S b v m d .0 e
@@ -45,11 +44,11 @@ prints-once id S b v m x y p q = go (finishBook b) refl
         judged : (t : Bool) → same (documentId d) id ≡ t → x ≡ y
         judged true i = let j = same-eq (documentId d) id i in p .ciphertext d w j ∙ sym (q .ciphertext d w j)
         judged false i = let j = same-false (documentId d) id i in p .stranger d w j ∙ sym (q .stranger d w j)
-    go (lacking n k) e = p .status none b m ∙ sym (q .status none b m)
+    go (refusedAt n k) e = p .status none b m ∙ sym (q .status none b m)
       where
         none : (d : List ℕ) → Complete S d → ⊥
         none d w =
-            let f : finishBook b ≡ whole d = finish-whole S b v m d .1 w in
+            let f : finishBook b ≡ done d = finish-whole S b v m d .1 w in
             let z : _≡_ {A = ℕ} 0 1 = cc in
             omega arith
 
@@ -70,7 +69,7 @@ all-append [] ys x y raw a = y raw a
 all-append (l ∷ xs) ys x y raw (inl e) = x raw (inl e)
 all-append (l ∷ xs) ys x y raw (inr a) = all-append xs ys (λ r b. x r (inr b)) y raw a
 
-module _ (line c : List ℕ) (room : 1025 ≤ length line) (size : length c ≡ 49664) (input id : List ℕ) (named : documentOf input ≡ bytes id) where
+module _ (line c : List ℕ) (room : 1025 ≤ length line) (size : length c ≡ 49664) (input id : List ℕ) (named : documentOf input ≡ done id) where
   collects : (session line c input .phase ≡ 1) × (session line c input .collection ≡ collectionOf c id (scansOf input))
   collects = session-collects line c room input id named
 
@@ -107,32 +106,32 @@ module _ (line c : List ℕ) (room : 1025 ≤ length line) (size : length c ≡ 
         (scans-print id eight d t (scansOf input ++ ys) (all-append (scansOf input) ys (all-bytes input) y))
 
   -- other bytes are not: 13 where they are no collection, 12 where they are another document's
-  pub damaged-13 : (saved : List ℕ) → okBook saved ≡ false → takenUp line c input saved ≡ refuses 13
+  pub damaged-13 : (saved : List ℕ) → okBook saved ≡ false → takenUp line c input saved ≡ refused 13
   damaged-13 saved h = resume-13 (session line c input) sound (collects .0) saved h
 
-  pub another-12 : (saved : List ℕ) → okBook saved ≡ true → (idOf saved ≡ id → ⊥) → takenUp line c input saved ≡ refuses 12
+  pub another-12 : (saved : List ℕ) → okBook saved ≡ true → (idOf saved ≡ id → ⊥) → takenUp line c input saved ≡ refused 12
   another-12 saved h n = resume-12 (session line c input) sound (collects .0) saved h (λ e. n (sym e ∙ of-document))
 
 -- ---- an input that names none
 
-module _ (line c : List ℕ) (room : 1025 ≤ length line) (input : List ℕ) (n : ℕ) (none : documentOf input ≡ fault n) where
+module _ (line c : List ℕ) (room : 1025 ≤ length line) (input : List ℕ) (n : ℕ) (none : documentOf input ≡ refused n) where
   waits : session line c input .phase ≡ 1 → ⊥
-  waits = session-refused line c room input n none .0
+  waits = session-refused line c room input n 0 none .0
 
-  pub none-prints : printedAlone line c input ≡ refusedAt 19 0
+  pub none-prints : printedAlone line c input ≡ refusalLine 19 0
   unfolding answered
   none-prints = rw (ne-eqb (session line c input .phase) 1 waits)
 
   -- whatever was saved, it is not taken up
-  pub none-19 : (saved : List ℕ) → takenUp line c input saved ≡ refuses 19
+  pub none-19 : (saved : List ℕ) → takenUp line c input saved ≡ refused 19
   unfolding resuming
   none-19 saved = rw (ne-eqb (session line c input .phase) 1 waits)
 
 -- ---- a refusal, in either case
 
 -- For the reader: the refusal is printed; neither the file nor the session's collection is changed
-pub refused-run : (line c input saved : List ℕ) (n : ℕ) → takenUp line c input saved ≡ refuses n
-    → (printedWith line c input saved ≡ refusedAt n 0)
+pub refused-run : (line c input saved : List ℕ) (n : ℕ) → takenUp line c input saved ≡ refused n
+    → (printedWith line c input saved ≡ refusalLine n 0)
     × (fileAfter line c input saved ≡ saved)
     × (bytesAfter (session line c input .collection) (takenUp line c input saved) ≡ session line c input .collection)
 refused-run line c input saved n e = (rw e, rw e, rw e)

@@ -8,19 +8,20 @@ use Rattle.lend.proofs.Sames.{same-refl, same-ne}
 use Rattle.state.specs.Take.{joinBook}
 use Rattle.book.specs.Encode.{encode}
 use Rattle.book.specs.Read.{idOf, readBook, okBook}
-use Rattle.collection.specs.Collection.{leaves, refuses, joining}
+use Rattle.wire.specs.Answer.{refused, leaves}
+use Rattle.collection.specs.Collection.{joining}
 use Rattle.scan.specs.Session.{At}
 use Rattle.scan.proofs.Sound.{Sound}
 use Rattle.shelf.specs.Shelf.{resuming}
 
 module _ (s : At) (f : Sound s) (collects : s .phase ≡ 1) (saved : List ℕ) where
   -- 13 is for saved bytes that are no collection
-  pub resume-13 : okBook saved ≡ false → resuming (s .phase) (s .collection) saved ≡ refuses 13
+  pub resume-13 : okBook saved ≡ false → resuming (s .phase) (s .collection) saved ≡ refused 13
   unfolding resuming joining
   resume-13 e = rw (collects, f .good collects, e)
 
   -- and 12 for those of another document
-  pub resume-12 : okBook saved ≡ true → (idOf (s .collection) ≡ idOf saved → ⊥) → resuming (s .phase) (s .collection) saved ≡ refuses 12
+  pub resume-12 : okBook saved ≡ true → (idOf (s .collection) ≡ idOf saved → ⊥) → resuming (s .phase) (s .collection) saved ≡ refused 12
   unfolding resuming joining
   resume-12 e n = rw (collects, f .good collects, e, same-ne (idOf (s .collection)) (idOf saved) n)
 

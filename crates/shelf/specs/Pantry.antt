@@ -3,15 +3,15 @@
 use mathlib.Core.Path.{_≡_}
 use mathlib.Core.List.{List}
 use Prim.Native.Nat.{ℕ}
+use Rattle.wire.specs.Answer.{done, refusedAt, Change, bytesAfter}
 use Rattle.page.specs.Page.{documentId}
 use Rattle.state.specs.State.{Book}
 use Rattle.state.specs.Take.{Page}
 use Rattle.state.specs.Meaning.{BookIs}
 use Rattle.state.specs.Complete.{Complete}
-use Rattle.collection.specs.Collection.{Decision, leaves, refuses, bytesAfter}
 use Rattle.status.specs.Line.{bookLine}
 use Rattle.scan.specs.Input.{session}
-use Rattle.shelf.specs.Shelf.{resuming, refusedAt, answered}
+use Rattle.shelf.specs.Shelf.{resuming, refusalLine, answered}
 
 -- ---- a run: line and c are the buffers that its session is lent, and saved is what its file holds
 
@@ -20,13 +20,13 @@ abbrev pub printedAlone : List ℕ → List ℕ → List ℕ → List ℕ
 printedAlone line c input = answered (session line c input .phase) (session line c input .collection)
 
 -- where there is one, what was saved is taken up at the end of the input
-abbrev pub takenUp : List ℕ → List ℕ → List ℕ → List ℕ → Decision Unit
+abbrev pub takenUp : List ℕ → List ℕ → List ℕ → List ℕ → Change Unit
 takenUp line c input saved = resuming (session line c input .phase) (session line c input .collection) saved
 
 -- then the answer of what is kept is printed, or the refusal
-abbrev pub answeredOr : ℕ → Decision Unit → List ℕ
-answeredOr phase (leaves kept u) = answered phase kept
-answeredOr phase (refuses n) = refusedAt n 0
+abbrev pub answeredOr : ℕ → Change Unit → List ℕ
+answeredOr phase (done (kept, u)) = answered phase kept
+answeredOr phase (refusedAt n place) = refusalLine n place
 
 abbrev pub printedWith : List ℕ → List ℕ → List ℕ → List ℕ → List ℕ
 printedWith line c input saved = answeredOr (session line c input .phase) (takenUp line c input saved)
@@ -42,6 +42,6 @@ pub record Prints (id : List ℕ) (S : Page → Type 0) (out : List ℕ) : Type 
   -- the ciphertext and no other byte, where the set is complete and the id is its own
   pub ciphertext : (d : List ℕ) → Complete S d → documentId d ≡ id → out ≡ d
   -- `refused 17 0`, where the set is complete and the id is another's
-  pub stranger : (d : List ℕ) → Complete S d → (documentId d ≡ id → ⊥) → out ≡ refusedAt 17 0
+  pub stranger : (d : List ℕ) → Complete S d → (documentId d ≡ id → ⊥) → out ≡ refusalLine 17 0
   -- else the status line of the collection that the set says
   pub status : ((d : List ℕ) → Complete S d → ⊥) → (b : Book) → BookIs S b → out ≡ bookLine b

@@ -4,9 +4,8 @@ use mathlib.Core.Bool.{_&&_}
 use mathlib.Core.List.{List, [], _∷_, _++_}
 use lib.Dec.{eqb, leb}
 use lib.ListN.{replicate}
-use Rattle.wire.specs.Answer.{choose}
-use Rattle.state.specs.Finish.{Finish, whole, lacking}
-use Rattle.collection.specs.Collection.{Decision, refuses, joining}
+use Rattle.wire.specs.Answer.{choose, Answer, done, refusedAt, demand, Change}
+use Rattle.collection.specs.Collection.{joining}
 use Rattle.closing.specs.Finish.{finished}
 use Rattle.status.specs.Line.{field, refusedName, lineFeed, statusLine}
 
@@ -14,8 +13,8 @@ use Rattle.status.specs.Line.{field, refusedName, lineFeed, statusLine}
 
 -- "the saved file of 01, joined with what was scanned now": 19 where the first line was no document id, then join's own 13 and 12. The
 -- phases are those of a session (scan, Session): 1 is collecting
-unfoldable pub resuming : ℕ → List ℕ → List ℕ → Decision Unit
-resuming phase c saved = choose (eqb phase 1) (joining c saved) (refuses 19)
+unfoldable pub resuming : ℕ → List ℕ → List ℕ → Change Unit
+resuming phase c saved = demand (eqb phase 1) 19 (joining c saved)
 
 -- ---- printing
 
@@ -24,19 +23,19 @@ abbrev pub space : List ℕ
 space = 32 ∷ []
 
 -- "`refused` and the number and place", and a line feed
-unfoldable pub refusedAt : ℕ → ℕ → List ℕ
-refusedAt e k = field refusedName e ++ field space k ++ lineFeed
+unfoldable pub refusalLine : ℕ → ℕ → List ℕ
+refusalLine e k = field refusedName e ++ field space k ++ lineFeed
 
 -- finish into 46,080 bytes, 96 pages of 480: no collection has more data, so 11 is never its answer (`never-11` of proofs/Demand.antt)
-unfoldable pub ending : List ℕ → Finish
+unfoldable pub ending : List ℕ → Answer (List ℕ)
 ending c = finished c (replicate 46080 0)
 
 -- "where finish succeeds it writes the ciphertext and nothing else, otherwise the status line (or `refused` and the number and place)":
 -- what 14, 15 and 16 say is what the status line tells
-abbrev pub shown : List ℕ → Finish → List ℕ
-shown c (whole d) = d
-shown c (lacking e k) = choose (leb 14 e && leb e 16) (statusLine c) (refusedAt e k)
+abbrev pub shown : List ℕ → Answer (List ℕ) → List ℕ
+shown c (done d) = d
+shown c (refusedAt e k) = choose (leb 14 e && leb e 16) (statusLine c) (refusalLine e k)
 
 -- all that is printed at the end of a session: `refused 19 0` where the first line was no document id
 unfoldable pub answered : ℕ → List ℕ → List ℕ
-answered phase c = choose (eqb phase 1) (shown c (ending c)) (refusedAt 19 0)
+answered phase c = choose (eqb phase 1) (shown c (ending c)) (refusalLine 19 0)

@@ -4,12 +4,11 @@ ghost use mathlib.Core.Path.{_≡_};
 ghost use Prim.Native.Nat.{_≤_};
 ghost use lib.ListN.{length};
 ghost use Rattle.wire.specs.Over.{over};
-ghost use Rattle.wire.specs.Writing.{Written, bytes};
-ghost use Rattle.state.specs.Finish.{lacking};
-ghost use Rattle.collection.specs.Collection.{Kept};
+ghost use Rattle.wire.specs.Answer.{done, refusedAt, Kept};
+ghost use Rattle.wire.specs.Writing.{Written};
 ghost use Rattle.collection.specs.Answer.{told};
 ghost use Rattle.status.specs.Line.{refusedLine};
-ghost use Rattle.shelf.specs.Shelf.{resuming, refusedAt, shown, answered};
+ghost use Rattle.shelf.specs.Shelf.{resuming, refusalLine, shown, answered};
 use closing::Finished;
 use collection::Answered;
 use scan::session;
@@ -52,7 +51,7 @@ fn placeless(no: u8, room: &mut [u8]) -> usize
 // The line of a refusal with its place, at the front of out. `status` writes the digits of both numbers, each in a line of its own: the
 // second line, without the word in front, takes the place of the first one's line feed.
 pub fn refused_line(no: u8, place: u8, out: &mut [u8]) -> Wrote
-    ensures { λ r. ⌜ Written 0 (bytes (refusedAt no place)) (now (out .entry)) (now (out .exit)) r ⌝ }
+    ensures { λ r. ⌜ Written 0 (done (refusalLine no place)) (now (out .entry)) (now (out .exit)) r ⌝ }
 {
     let mut room = [0u8; ROOM];
     let mut behind = [0u8; ROOM];
@@ -66,7 +65,7 @@ pub fn refused_line(no: u8, place: u8, out: &mut [u8]) -> Wrote
 
 // What is printed where finish refuses.
 fn lacking_line(no: u8, place: u8, c: &[u8], out: &mut [u8]) -> Wrote
-    ensures { λ r. ⌜ Written 0 (bytes (shown (now (c .entry)) (lacking no place))) (now (out .entry)) (now (out .exit)) r ⌝ }
+    ensures { λ r. ⌜ Written 0 (done (shown (now (c .entry)) (refusedAt no place))) (now (out .entry)) (now (out .exit)) r ⌝ }
 {
     if no < wire::TOTALS_DISAGREE {
         return refused_line(no, place, out);
@@ -79,7 +78,7 @@ fn lacking_line(no: u8, place: u8, c: &[u8], out: &mut [u8]) -> Wrote
 
 // What is printed at the end of a session, at the front of out: the ciphertext, or why there is none.
 pub fn answer(s: Session, c: &[u8], out: &mut [u8]) -> Wrote
-    ensures { λ r. ⌜ Written 0 (bytes (answered (s .phase) (now (c .entry)))) (now (out .entry)) (now (out .exit)) r ⌝ }
+    ensures { λ r. ⌜ Written 0 (done (answered (s .phase) (now (c .entry)))) (now (out .entry)) (now (out .exit)) r ⌝ }
 {
     if s.phase != session::COLLECTING {
         return refused_line(wire::OUT_OF_RANGE, 0, out);

@@ -4,8 +4,8 @@ use mathlib.Core.Path.{_≡_, sym, ap, _∙_}
 use mathlib.Core.List.{List}
 use borrow.Author.Tests.{eq-eqb, ne-eqb, le-leb, lt-leb}
 use lib.ListN.{length}
-use Rattle.wire.specs.Answer.{Got, got, refused, numberOf}
-use Rattle.wire.specs.Writing.{bytes, Written}
+use Rattle.wire.specs.Answer.{done, refused, numberOf, then, Got, got}
+use Rattle.wire.specs.Writing.{Written}
 use Rattle.wire.specs.declared.Wrote.{Wrote}
 use Rattle.wire.specs.declared.Wrote.the-variants.{Refused}
 use Rattle.wire.proofs.Writes.{denied}
@@ -22,7 +22,7 @@ use Rattle.shard.specs.declared.Content.{Content}
 use Rattle.shard.specs.declared.Quorum.{Quorum}
 use Rattle.shard.specs.declared.ShardRead.{ShardRead}
 use Rattle.shard.specs.declared.ShardRead.the-variants as S
-use Rattle.slip.specs.Slip.{carried, slip, keyFrame, authFrame}
+use Rattle.slip.specs.Slip.{slip, keyFrame, authFrame}
 
 module _ {A : Type 0} (kind : ℕ) (id contents x : List ℕ) (g : Got A) where
   pub no-id : (length id ≡ 8 → ⊥) → Written 0 (slip kind id contents g) x x (Refused 19)
@@ -35,7 +35,7 @@ module _ {A : Type 0} (kind : ℕ) (id contents x : List ℕ) (g : Got A) where
     too-long l = rw (eq-eqb (length id) 8 i, lt-leb (length contents) 480 l) (denied 0 x 9)
 
     module _ (l : length contents ≤ 480) where
-      judged : slip kind id contents g ≡ carried kind id contents g
+      judged : slip kind id contents g ≡ then g (λ _. done (layout kind id 0 1 contents))
       unfolding slip
       judged = rw (eq-eqb (length id) 8 i, le-leb (length contents) 480 l)
 
@@ -45,7 +45,7 @@ module _ {A : Type 0} (kind : ℕ) (id contents x : List ℕ) (g : Got A) where
           let s : g ≡ refused e = sym p ∙ q in
           rw (judged, s, r, q) (denied 0 x e)
 
-      pub is-carried : (h : Got A) (v : A) (next : ℕ) → h ≡ g → h ≡ got v next → (z : List ℕ) (r : Wrote) → Written 0 (bytes (layout kind id 0 1 contents)) x z r
+      pub is-carried : (h : Got A) (v : A) (next : ℕ) → h ≡ g → h ≡ got v next → (z : List ℕ) (r : Wrote) → Written 0 (done (layout kind id 0 1 contents)) x z r
           → Written 0 (slip kind id contents g) x z r
       is-carried h v next p q z r w =
           let s : g ≡ got v next = sym p ∙ q in
@@ -53,7 +53,7 @@ module _ {A : Type 0} (kind : ℕ) (id contents x : List ℕ) (g : Got A) where
 
 -- the eight bytes of an array, with an id of eight bytes copied over them
 pub laid : (kind : ℕ) (id zeros eight contents x z : List ℕ) (r : Wrote) → length id ≡ 8 → length zeros ≡ 8 → eight ≡ over 0 id zeros
-    → Written 0 (bytes (layout kind eight 0 1 contents)) x z r → Written 0 (bytes (layout kind id 0 1 contents)) x z r
+    → Written 0 (done (layout kind eight 0 1 contents)) x z r → Written 0 (done (layout kind id 0 1 contents)) x z r
 laid kind id zeros eight contents x z r i k e w =
     let f : eight ≡ id = e ∙ over-all id zeros (i ∙ sym k) in
     rw (← f) w
@@ -63,7 +63,7 @@ module _ (id contents x : List ℕ) (i : length id ≡ 8) (l : length contents �
   pub no-auth : (e n : ℕ) → r ≡ C.Refused e → n ≡ numberOf (claimTold r) → Written 0 (authFrame id contents) x x (Refused n)
   no-auth e n q m = not-carried 0x41 id contents x (authAt contents) i l (claimTold r) e n h (ap claimTold q) m
 
-  pub an-auth : (a b c next : ℕ) → r ≡ C.Value a b c next → (z : List ℕ) (w : Wrote) → Written 0 (bytes (layout 0x41 id 0 1 contents)) x z w
+  pub an-auth : (a b c next : ℕ) → r ≡ C.Value a b c next → (z : List ℕ) (w : Wrote) → Written 0 (done (layout 0x41 id 0 1 contents)) x z w
       → Written 0 (authFrame id contents) x z w
   an-auth a b c next q z w = is-carried 0x41 id contents x (authAt contents) i l (claimTold r) (record { public = a; sig = b; hash = c }) next h (ap claimTold q) z w
 
@@ -73,6 +73,6 @@ module _ (id contents x : List ℕ) (i : length id ≡ 8) (l : length contents �
   no-key e n q m = not-carried 0x4B id contents x (shardAt contents) i l (shardTold r) e n h (ap shardTold q) m
 
   pub a-key : (a b c : ℕ) (v : Content) (q : Quorum) (next : ℕ) → r ≡ S.Value a b c v q next → (z : List ℕ) (w : Wrote)
-      → Written 0 (bytes (layout 0x4B id 0 1 contents)) x z w → Written 0 (keyFrame id contents) x z w
+      → Written 0 (done (layout 0x4B id 0 1 contents)) x z w → Written 0 (keyFrame id contents) x z w
   a-key a b c v q next p z w =
       is-carried 0x4B id contents x (shardAt contents) i l (shardTold r) (record { claim = record { public = a; sig = b; hash = c }; content = v; quorum = q }) next h (ap shardTold p) z w

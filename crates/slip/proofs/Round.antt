@@ -7,9 +7,8 @@ use native.Mathlib.Omega.{arith}
 use borrow.Author.Tests.{eqb-true, leb-true, eq-eqb, le-leb}
 use lib.Dec.{eqb, leb}
 use lib.ListN.{length}
-use Rattle.wire.specs.Answer.{Got, got, refused}
-use Rattle.wire.specs.Writing.{bytes}
-use Rattle.wire.proofs.Writes.{passed, bytes-injective}
+use Rattle.wire.specs.Answer.{done, refusedAt, then, Got, got}
+use Rattle.wire.proofs.Cases.{passed, not-done, done-value}
 use Rattle.varint.proofs.Lengths.{varint-length-two}
 use Rattle.frame.specs.Layout.{layout}
 use Rattle.frame.specs.Allowed.{Kind, Allowed}
@@ -22,7 +21,7 @@ use Rattle.shard.specs.Shard.{shardVerdict}
 use Rattle.shard.specs.declared.Quorum.{Quorum}
 use Rattle.shard.proofs.Verdicts.{shard-written-most}
 use Rattle.shard.proofs.Rounds.{shard-written-back}
-use Rattle.slip.specs.Slip.{carried, slip, keyFrame, authFrame}
+use Rattle.slip.specs.Slip.{slip, keyFrame, authFrame}
 
 -- why a frame was written, and which
 pub record Carried {A : Type 0} (kind : ℕ) (id contents : List ℕ) (g : Got A) (frame : List ℕ) : Type 0 where
@@ -33,19 +32,19 @@ pub record Carried {A : Type 0} (kind : ℕ) (id contents : List ℕ) (g : Got A
   pub accepted : g ≡ got value next
   pub is : frame ≡ layout kind id 0 1 contents
 
-pub slip-carried : {A : Type 0} (kind : ℕ) (id contents : List ℕ) (g : Got A) (frame : List ℕ) → slip kind id contents g ≡ bytes frame → Carried kind id contents g frame
+pub slip-carried : {A : Type 0} (kind : ℕ) (id contents : List ℕ) (g : Got A) (frame : List ℕ) → slip kind id contents g ≡ done frame → Carried kind id contents g frame
 unfolding slip
 slip-carried {A} kind id contents g frame h =
     let p = passed (eqb (length id) 8) _ 19 h in
     let q = passed (leb (length contents) 480) _ 9 (p .1) in
     go g (eqb-true (length id) 8 (p .0)) (leb-true (length contents) 480 (q .0)) (q .1)
   where
-    go : (k : Got A) → length id ≡ 8 → length contents ≤ 480 → carried kind id contents k ≡ bytes frame → Carried kind id contents k frame
-    go (got v n) i l e = record { eight = i; short = l; value = v; next = n; accepted = refl; is = sym (bytes-injective e) }
-    go (refused n) i l e = let z : _≡_ {A = ℕ} 0 1 = cc in absurd (omega arith)
+    go : (k : Got A) → length id ≡ 8 → length contents ≤ 480 → then k (λ _. done (layout kind id 0 1 contents)) ≡ done frame → Carried kind id contents k frame
+    go (done (v, n)) i l e = record { eight = i; short = l; value = v; next = n; accepted = refl; is = sym (done-value e) }
+    go (refusedAt n place) i l e = not-done e
 
 -- a frame that was written reads back as its type, id and payload, the first of one
-pub slip-reads : {A : Type 0} (kind : ℕ) (id contents : List ℕ) (g : Got A) (frame : List ℕ) → Kind kind → slip kind id contents g ≡ bytes frame → ReadsAs frame kind id 0 1 contents
+pub slip-reads : {A : Type 0} (kind : ℕ) (id contents : List ℕ) (g : Got A) (frame : List ℕ) → Kind kind → slip kind id contents g ≡ done frame → ReadsAs frame kind id 0 1 contents
 slip-reads kind id contents g frame k h =
     let c = slip-carried kind id contents g frame h in
     let e = c .is in
@@ -54,7 +53,7 @@ slip-reads kind id contents g frame k h =
     rw e (reads-back kind id 0 1 contents a)
 
 -- such a frame has at most 500 bytes
-pub slip-short : {A : Type 0} (kind : ℕ) (id contents : List ℕ) (g : Got A) (frame : List ℕ) → slip kind id contents g ≡ bytes frame → length frame ≤ 500
+pub slip-short : {A : Type 0} (kind : ℕ) (id contents : List ℕ) (g : Got A) (frame : List ℕ) → slip kind id contents g ≡ done frame → length frame ≤ 500
 slip-short kind id contents g frame h =
     let c = slip-carried kind id contents g frame h in
     let l = c .short in
@@ -65,15 +64,15 @@ slip-short kind id contents g frame h =
 
 -- what fits and is accepted is carried
 accepted-carried : {A : Type 0} (kind : ℕ) (id contents : List ℕ) {g : Got A} {v : A} {next : ℕ} → length id ≡ 8 → length contents ≤ 480 → g ≡ got v next
-    → slip kind id contents g ≡ bytes (layout kind id 0 1 contents)
+    → slip kind id contents g ≡ done (layout kind id 0 1 contents)
 unfolding slip
 accepted-carried kind id contents i l e = rw (eq-eqb (length id) 8 i, le-leb (length contents) 480 l, e)
 
 module _ (id : List ℕ) (i : length id ≡ 8) (public sig hash : List ℕ) where
-  pub shard-carried : (kind share : List ℕ) (len : ℕ) (q : Quorum) {bs : List ℕ} → shardVerdict public sig hash kind share len q ≡ bytes bs
-      → keyFrame id bs ≡ bytes (layout 0x4B id 0 1 bs)
+  pub shard-carried : (kind share : List ℕ) (len : ℕ) (q : Quorum) {bs : List ℕ} → shardVerdict public sig hash kind share len q ≡ done bs
+      → keyFrame id bs ≡ done (layout 0x4B id 0 1 bs)
   shard-carried kind share len q {bs} h =
       accepted-carried 0x4B id bs i (omega (arith, shard-written-most hash kind share len q public sig h)) (shard-written-back public sig hash kind share len q h .1)
 
-  pub auth-carried : {bs : List ℕ} → authVerdict public sig hash ≡ bytes bs → authFrame id bs ≡ bytes (layout 0x41 id 0 1 bs)
+  pub auth-carried : {bs : List ℕ} → authVerdict public sig hash ≡ done bs → authFrame id bs ≡ done (layout 0x41 id 0 1 bs)
   auth-carried {bs} h = accepted-carried 0x41 id bs i (omega (arith, auth-written-long public sig hash h)) (auth-written-back public sig hash h .1)

@@ -1,8 +1,8 @@
 // Key and auth frames: document 01, "Frames", the paragraph "Printing". Each carries one payload that its reader accepts.
 ghost use mathlib.Core.Path.{_≡_};
-ghost use Prim.Native.Nat.{_≤_};
 ghost use lib.ListN.{length};
-ghost use Rattle.wire.specs.Writing.{Written, bytes};
+ghost use Rattle.wire.specs.Answer.{done};
+ghost use Rattle.wire.specs.Writing.{Written};
 ghost use Rattle.frame.specs.Layout.{layout};
 ghost use Rattle.slip.specs.Slip.{keyFrame, authFrame};
 use auth::ClaimRead;
@@ -12,7 +12,7 @@ use wire::Wrote;
 // The frame, once its payload is accepted: such a frame is the first of one.
 fn lay(kind: u8, id: &[u8], contents: &[u8], out: &mut [u8]) -> Wrote
     requires { ⌜ length (now id) ≡ 8 ⌝ }
-    ensures { λ r. ⌜ Written 0 (bytes (layout kind (now (id .entry)) 0 1 (now (contents .entry)))) (now (out .entry)) (now (out .exit)) r ⌝ }
+    ensures { λ r. ⌜ Written 0 (done (layout kind (now (id .entry)) 0 1 (now (contents .entry)))) (now (out .entry)) (now (out .exit)) r ⌝ }
 {
     let mut eight = [0u8; 8];
     lend::copy(&mut eight, 0, id);

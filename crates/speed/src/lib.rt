@@ -1,7 +1,8 @@
 // The checksum, the digests and base64 for a C program to call: what bench/run measures. Nothing of the product stands on this crate.
 ghost use mathlib.Core.Path.{_≡_};
 ghost use Rattle.wire.specs.Over.{over};
-ghost use Rattle.wire.specs.Writing.{bytes, roomed, outcome, after, told};
+ghost use Rattle.wire.specs.Answer.{done, bytesAfter, answerOf};
+ghost use Rattle.wire.specs.Writing.{told, writing};
 ghost use Rattle.text.specs.Text.{base64, textOf, readText};
 ghost use Rattle.crc.specs.Crc as C;
 ghost use Rattle.sha256.specs.Sha as S;
@@ -44,16 +45,16 @@ fn count(r: Wrote) -> usize
 
 #[no_mangle]
 pub extern "C" fn speed_base64_read(text: &[u8], out: &mut [u8]) -> usize
-    ensures { λ r. ⌜ r ≡ N.count (outcome (roomed 0 (now (out .entry)) (readText base64 (now (text .entry))))) ⌝ }
-    ensures { λ _. ⌜ now (out .exit) ≡ after 0 (now (out .entry)) (roomed 0 (now (out .entry)) (readText base64 (now (text .entry)))) ⌝ }
+    ensures { λ r. ⌜ r ≡ N.count (answerOf (writing 0 (now (out .entry)) (readText base64 (now (text .entry))))) ⌝ }
+    ensures { λ _. ⌜ now (out .exit) ≡ bytesAfter (now (out .entry)) (writing 0 (now (out .entry)) (readText base64 (now (text .entry)))) ⌝ }
 {
     count(text::base64_read(text, out))
 }
 
 #[no_mangle]
 pub extern "C" fn speed_base64_write(s: &[u8], out: &mut [u8]) -> usize
-    ensures { λ r. ⌜ r ≡ N.count (outcome (roomed 0 (now (out .entry)) (bytes (textOf base64 (now (s .entry)))))) ⌝ }
-    ensures { λ _. ⌜ now (out .exit) ≡ after 0 (now (out .entry)) (roomed 0 (now (out .entry)) (bytes (textOf base64 (now (s .entry))))) ⌝ }
+    ensures { λ r. ⌜ r ≡ N.count (answerOf (writing 0 (now (out .entry)) (done (textOf base64 (now (s .entry)))))) ⌝ }
+    ensures { λ _. ⌜ now (out .exit) ≡ bytesAfter (now (out .entry)) (writing 0 (now (out .entry)) (done (textOf base64 (now (s .entry))))) ⌝ }
 {
     count(text::base64_write(s, out))
 }

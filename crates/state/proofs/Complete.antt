@@ -9,13 +9,13 @@ use lib.ListN.{length, take, getD, length-map, List·getD-map}
 use lib.Seq.{getD-take, length-take-le}
 use lib.Dec.{ltb}
 use borrow.Author.Tests.{ltb-true, ltb-false}
-use Rattle.wire.specs.Answer.{choose}
+use Rattle.wire.specs.Answer.{choose, done, refusedAt}
 use Rattle.wire.proofs.Cases.{lt-or-le}
 use Rattle.state.specs.State.{Slot, absent, held, disputed, dataOf, Book, empty, collecting, disagree}
 use Rattle.state.specs.Take.{Page}
 use Rattle.state.specs.Meaning.{SlotIs, BookIs}
 use Rattle.state.specs.Complete.{OneVersion, TwoVersions, Present, Missing, Complete, FirstDisputed, FirstMissing, FinishIs}
-use Rattle.state.specs.Finish.{isAbsent, isDisputed, lowest, joined, whole, lacking, finishPages, finishBook}
+use Rattle.state.specs.Finish.{isAbsent, isDisputed, lowest, joined, finishPages, finishBook}
 use Rattle.state.proofs.Valid.{ValidPages, Valid}
 use Rattle.state.proofs.Counts.{lowest-has, lowest-lacks}
 
@@ -127,7 +127,7 @@ module _ (S : Page → Type 0) (t : ℕ) (ss : List Slot) (v : ValidPages t ss) 
   pages-is = go (ltb (lowest isDisputed below) (length below)) (ltb (lowest isAbsent below) (length below)) refl refl
     where
       go : (u w : Bool) → ltb (lowest isDisputed below) (length below) ≡ u → ltb (lowest isAbsent below) (length below) ≡ w
-          → FinishIs S (choose u (lacking 15 (lowest isDisputed below)) (choose w (lacking 16 (lowest isAbsent below)) (whole (joined below))))
+          → FinishIs S (choose u (refusedAt 15 (lowest isDisputed below)) (choose w (refusedAt 16 (lowest isAbsent below)) (done (joined below))))
       go true w e f = inr (inl (refl, found-disputed (ltb-true (lowest isDisputed below) (length below) e)))
       go false true e f =
           inr (inr (refl, found-absent (ltb-false (lowest isDisputed below) (length below) e) (ltb-true (lowest isAbsent below) (length below) f)))

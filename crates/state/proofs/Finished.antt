@@ -12,7 +12,8 @@ use Rattle.state.specs.State.{Slot, dataOf, Book, empty, collecting, dis
 use Rattle.state.specs.Take.{Page, takePage}
 use Rattle.state.specs.Meaning.{BookIs}
 use Rattle.state.specs.Complete.{OneTotal, TwoTotals, OneVersion, TwoVersions, Complete, FirstDisputed, FirstMissing, FinishIs}
-use Rattle.state.specs.Finish.{isAbsent, isDisputed, lowest, joined, Finish, whole, lacking, finishPages, finishBook}
+use Rattle.wire.specs.Answer.{Answer, done, refusedAt}
+use Rattle.state.specs.Finish.{isAbsent, isDisputed, lowest, joined, finishPages, finishBook}
 use Rattle.state.proofs.Valid.{Valid, Short, short-none, data-take}
 use Rattle.state.proofs.Counts.{joined-most}
 use Rattle.state.proofs.Complete.{finish-is}
@@ -75,12 +76,12 @@ module _ (S : Page → Type 0) where
       go (inr i) (inl l) = let w = a .5 k l in absurd (b .4 (w .0) (w .1) (w .2))
       go (inr i) (inr l) = omega arith
 
-  whole-lacking : (d : List ℕ) (n k : ℕ) → FinishIs S (whole d) → FinishIs S (lacking n k) → ⊥
+  whole-lacking : (d : List ℕ) (n k : ℕ) → FinishIs S (done d) → FinishIs S (refusedAt n k) → ⊥
   whole-lacking d n k c (inl (e, z, w)) = totals-clash (c .pages) w (c .named)
   whole-lacking d n k c (inr (inl (e, w))) = versions-clash k (w .3) (c .agreed)
   whole-lacking d n k c (inr (inr (e, w))) = complete-missing d k c w
 
-  two-lacking : (n m j k : ℕ) → FinishIs S (lacking n j) → FinishIs S (lacking m k) → (n ≡ m) × (j ≡ k)
+  two-lacking : (n m j k : ℕ) → FinishIs S (refusedAt n j) → FinishIs S (refusedAt m k) → (n ≡ m) × (j ≡ k)
   two-lacking n m j k (inl (e, z, w)) (inl (f, y, v)) = (e ∙ sym f, z ∙ sym y)
   two-lacking n m j k (inl (e, z, w)) (inr (inl (f, v))) = absurd (totals-clash (v .0) w (v .1))
   two-lacking n m j k (inl (e, z, w)) (inr (inr (f, v))) = absurd (totals-missing k w v)
@@ -92,46 +93,46 @@ module _ (S : Page → Type 0) where
   two-lacking n m j k (inr (inr (e, w))) (inr (inr (f, v))) = (e ∙ sym f, missing-one j k w v)
 
   -- only one answer is true of a set
-  pub finish-one : (x y : Finish) → FinishIs S x → FinishIs S y → x ≡ y
-  finish-one (whole d) (whole e) a b = ap whole (complete-one d e a b)
-  finish-one (whole d) (lacking m k) a b = absurd (whole-lacking d m k a b)
-  finish-one (lacking n j) (whole e) a b = absurd (whole-lacking e n j b a)
-  finish-one (lacking n j) (lacking m k) a b = let w = two-lacking n m j k a b in ap₂ lacking (w .0) (w .1)
+  pub finish-one : (x y : Answer (List ℕ)) → FinishIs S x → FinishIs S y → x ≡ y
+  finish-one (done d) (done e) a b = ap done (complete-one d e a b)
+  finish-one (done d) (refusedAt m k) a b = absurd (whole-lacking d m k a b)
+  finish-one (refusedAt n j) (done e) a b = absurd (whole-lacking e n j b a)
+  finish-one (refusedAt n j) (refusedAt m k) a b = let w = two-lacking n m j k a b in ap₂ refusedAt (w .0) (w .1)
 
 -- ---- exactly when
 
 module _ (S : Page → Type 0) (b : Book) (v : Valid b) (m : BookIs S b) where
   -- finish gives an answer exactly when it is true of the set
-  pub finish-exact : (x : Finish) → (finishBook b ≡ x) ↔ FinishIs S x
+  pub finish-exact : (x : Answer (List ℕ)) → (finishBook b ≡ x) ↔ FinishIs S x
   finish-exact x = ((λ e. subst (FinishIs S) e (finish-is S b v m)), λ w. finish-one S (finishBook b) x (finish-is S b v m) w)
 
   -- the data, exactly when the set is complete and they are its data
-  pub finish-whole : (d : List ℕ) → (finishBook b ≡ whole d) ↔ Complete S d
-  finish-whole d = finish-exact (whole d)
+  pub finish-whole : (d : List ℕ) → (finishBook b ≡ done d) ↔ Complete S d
+  finish-whole d = finish-exact (done d)
 
   -- 14 exactly when two pages name two totals
-  pub finish-14 : (finishBook b ≡ lacking 14 0) ↔ TwoTotals S
-  finish-14 = ((λ e. said (finish-exact (lacking 14 0) .0 e)), λ w. finish-exact (lacking 14 0) .1 (inl (refl, refl, w)))
+  pub finish-14 : (finishBook b ≡ refusedAt 14 0) ↔ TwoTotals S
+  finish-14 = ((λ e. said (finish-exact (refusedAt 14 0) .0 e)), λ w. finish-exact (refusedAt 14 0) .1 (inl (refl, refl, w)))
     where
-      said : FinishIs S (lacking 14 0) → TwoTotals S
+      said : FinishIs S (refusedAt 14 0) → TwoTotals S
       said (inl (e, z, w)) = w
       said (inr (inl (e, w))) = absurd (omega arith)
       said (inr (inr (e, w))) = absurd (omega arith)
 
   -- 15 with k exactly when there is one total, and k is the lowest index below it in two versions
-  pub finish-15 : (k : ℕ) → (finishBook b ≡ lacking 15 k) ↔ FirstDisputed S k
-  finish-15 k = ((λ e. said (finish-exact (lacking 15 k) .0 e)), λ w. finish-exact (lacking 15 k) .1 (inr (inl (refl, w))))
+  pub finish-15 : (k : ℕ) → (finishBook b ≡ refusedAt 15 k) ↔ FirstDisputed S k
+  finish-15 k = ((λ e. said (finish-exact (refusedAt 15 k) .0 e)), λ w. finish-exact (refusedAt 15 k) .1 (inr (inl (refl, w))))
     where
-      said : FinishIs S (lacking 15 k) → FirstDisputed S k
+      said : FinishIs S (refusedAt 15 k) → FirstDisputed S k
       said (inl (e, z, w)) = absurd (omega arith)
       said (inr (inl (e, w))) = w
       said (inr (inr (e, w))) = absurd (omega arith)
 
   -- 16 with k exactly when there is no page and k is 0, or one total, one version of each page, and k is the lowest index below the total without a page
-  pub finish-16 : (k : ℕ) → (finishBook b ≡ lacking 16 k) ↔ FirstMissing S k
-  finish-16 k = ((λ e. said (finish-exact (lacking 16 k) .0 e)), λ w. finish-exact (lacking 16 k) .1 (inr (inr (refl, w))))
+  pub finish-16 : (k : ℕ) → (finishBook b ≡ refusedAt 16 k) ↔ FirstMissing S k
+  finish-16 k = ((λ e. said (finish-exact (refusedAt 16 k) .0 e)), λ w. finish-exact (refusedAt 16 k) .1 (inr (inr (refl, w))))
     where
-      said : FinishIs S (lacking 16 k) → FirstMissing S k
+      said : FinishIs S (refusedAt 16 k) → FirstMissing S k
       said (inl (e, z, w)) = absurd (omega arith)
       said (inr (inl (e, w))) = absurd (omega arith)
       said (inr (inr (e, w))) = w
@@ -140,49 +141,49 @@ module _ (S : Page → Type 0) (b : Book) (v : Valid b) (m : BookIs S b) where
 abbrev pub OneOfFour : (Page → Type 0) → Type 0
 OneOfFour S = ((d : List ℕ) × Complete S d) ⊎ (TwoTotals S ⊎ (((k : ℕ) × FirstDisputed S k) ⊎ ((k : ℕ) × FirstMissing S k)))
 
-finish-cases : (S : Page → Type 0) (x : Finish) → FinishIs S x → OneOfFour S
-finish-cases S (whole d) c = inl (d, c)
-finish-cases S (lacking n k) (inl (e, z, w)) = inr (inl w)
-finish-cases S (lacking n k) (inr (inl (e, w))) = inr (inr (inl (k, w)))
-finish-cases S (lacking n k) (inr (inr (e, w))) = inr (inr (inr (k, w)))
+finish-cases : (S : Page → Type 0) (x : Answer (List ℕ)) → FinishIs S x → OneOfFour S
+finish-cases S (done d) c = inl (d, c)
+finish-cases S (refusedAt n k) (inl (e, z, w)) = inr (inl w)
+finish-cases S (refusedAt n k) (inr (inl (e, w))) = inr (inr (inl (k, w)))
+finish-cases S (refusedAt n k) (inr (inr (e, w))) = inr (inr (inr (k, w)))
 
 -- For the reader: these exhaust everything: every set that has a meaning is one of the four
 pub set-cases : (S : Page → Type 0) (b : Book) → Valid b → BookIs S b → OneOfFour S
 set-cases S b v m = finish-cases S (finishBook b) (finish-is S b v m)
 
 -- For the reader: a page of length 0 is a page: one of one, whatever its contents, is the whole
-pub one-page : (d : List ℕ) → finishBook (takePage (record { index = 0; total = 1; contents = d }) empty) ≡ whole d
+pub one-page : (d : List ℕ) → finishBook (takePage (record { index = 0; total = 1; contents = d }) empty) ≡ done d
 unfolding finishBook takePage finishPages noPages lowest isDisputed isAbsent joined dataOf
-one-page d = ap whole (append-nil d)
+one-page d = ap done (append-nil d)
 
 -- ---- for the proofs of code: finish by its tests, and the sizes of its answers. No set stands here: it holds of a mended collection too
 
 module _ (t : ℕ) (ss : List Slot) where
   -- a page in two versions
-  pub finish-disputed : lowest isDisputed (take t ss) < length (take t ss) → finishBook (collecting t ss) ≡ lacking 15 (lowest isDisputed (take t ss))
+  pub finish-disputed : lowest isDisputed (take t ss) < length (take t ss) → finishBook (collecting t ss) ≡ refusedAt 15 (lowest isDisputed (take t ss))
   unfolding finishBook finishPages
   finish-disputed h = rw (lt-ltb (lowest isDisputed (take t ss)) (length (take t ss)) h)
 
   -- none, and a page missing
   pub finish-missing : length (take t ss) ≤ lowest isDisputed (take t ss) → lowest isAbsent (take t ss) < length (take t ss)
-      → finishBook (collecting t ss) ≡ lacking 16 (lowest isAbsent (take t ss))
+      → finishBook (collecting t ss) ≡ refusedAt 16 (lowest isAbsent (take t ss))
   unfolding finishBook finishPages
   finish-missing h k = rw (le-ltb (lowest isDisputed (take t ss)) (length (take t ss)) h, lt-ltb (lowest isAbsent (take t ss)) (length (take t ss)) k)
 
   -- neither
   pub finish-held : length (take t ss) ≤ lowest isDisputed (take t ss) → length (take t ss) ≤ lowest isAbsent (take t ss)
-      → finishBook (collecting t ss) ≡ whole (joined (take t ss))
+      → finishBook (collecting t ss) ≡ done (joined (take t ss))
   unfolding finishBook finishPages
   finish-held h k = rw (le-ltb (lowest isDisputed (take t ss)) (length (take t ss)) h, le-ltb (lowest isAbsent (take t ss)) (length (take t ss)) k)
 
   -- which of the three gave an answer
-  abbrev pub Ways : Finish → Type 0
+  abbrev pub Ways : Answer (List ℕ) → Type 0
   Ways x =
-      ((lowest isDisputed (take t ss) < length (take t ss)) × (x ≡ lacking 15 (lowest isDisputed (take t ss))))
-      ⊎ (((lowest isAbsent (take t ss) < length (take t ss)) × (x ≡ lacking 16 (lowest isAbsent (take t ss)))) ⊎ (x ≡ whole (joined (take t ss))))
+      ((lowest isDisputed (take t ss) < length (take t ss)) × (x ≡ refusedAt 15 (lowest isDisputed (take t ss))))
+      ⊎ (((lowest isAbsent (take t ss) < length (take t ss)) × (x ≡ refusedAt 16 (lowest isAbsent (take t ss)))) ⊎ (x ≡ done (joined (take t ss))))
 
   -- there is no other way
-  pub finish-ways : (x : Finish) → finishBook (collecting t ss) ≡ x → Ways x
+  pub finish-ways : (x : Answer (List ℕ)) → finishBook (collecting t ss) ≡ x → Ways x
   finish-ways x e = go (lt-or-le (lowest isDisputed (take t ss)) (length (take t ss))) (lt-or-le (lowest isAbsent (take t ss)) (length (take t ss)))
     where
       go : (lowest isDisputed (take t ss) < length (take t ss)) ⊎ (length (take t ss) ≤ lowest isDisputed (take t ss))
@@ -193,35 +194,35 @@ module _ (t : ℕ) (ss : List Slot) where
       go (inr h) (inr k) = inr (inr (sym e ∙ finish-held h k))
 
 -- the data are not a refusal
-pub whole-not-lacking : {d : List ℕ} {n k : ℕ} → whole d ≡ lacking n k → ⊥
+pub whole-not-lacking : {d : List ℕ} {n k : ℕ} → done d ≡ refusedAt n k → ⊥
 whole-not-lacking e = let z : _≡_ {A = ℕ} 0 1 = cc in omega arith
 
 -- a refusal's place is an index
-pub finish-place : (b : Book) (n k : ℕ) → Valid b → finishBook b ≡ lacking n k → k < 96
+pub finish-place : (b : Book) (n k : ℕ) → Valid b → finishBook b ≡ refusedAt n k → k < 96
 unfolding finishBook
 finish-place empty n k v e = let i : 0 ≡ k = cc in omega arith
-finish-place (collecting t ss) n k v e = go (finish-ways t ss (lacking n k) e)
+finish-place (collecting t ss) n k v e = go (finish-ways t ss (refusedAt n k) e)
   where
     size : length (take t ss) ≡ t
     size = length-take-le t ss (omega (arith, v .most, v .slots))
 
-    go : Ways t ss (lacking n k) → k < 96
+    go : Ways t ss (refusedAt n k) → k < 96
     go (inl (h, q)) = let i : k ≡ lowest isDisputed (take t ss) = cc in omega (arith, size, v .most)
     go (inr (inl (h, q))) = let i : k ≡ lowest isAbsent (take t ss) = cc in omega (arith, size, v .most)
     go (inr (inr q)) = absurd (whole-not-lacking (sym q))
 finish-place disagree n k v e = let i : 0 ≡ k = cc in omega arith
 
 -- the data that finish gives are those of the slots below the total, in order
-pub finish-data : (t : ℕ) (ss : List Slot) (d : List ℕ) → finishBook (collecting t ss) ≡ whole d → d ≡ joined (take t ss)
-finish-data t ss d e = go (finish-ways t ss (whole d) e)
+pub finish-data : (t : ℕ) (ss : List Slot) (d : List ℕ) → finishBook (collecting t ss) ≡ done d → d ≡ joined (take t ss)
+finish-data t ss d e = go (finish-ways t ss (done d) e)
   where
-    go : Ways t ss (whole d) → d ≡ joined (take t ss)
+    go : Ways t ss (done d) → d ≡ joined (take t ss)
     go (inl (h, q)) = cc
     go (inr (inl (h, q))) = cc
     go (inr (inr q)) = cc
 
 -- at most 46,080 of them
-pub finish-short : (b : Book) (d : List ℕ) → Valid b → finishBook b ≡ whole d → length d ≤ 46080
+pub finish-short : (b : Book) (d : List ℕ) → Valid b → finishBook b ≡ done d → length d ≤ 46080
 unfolding finishBook
 finish-short empty d v e = absurd (whole-not-lacking (sym e))
 finish-short (collecting t ss) d v e =

@@ -6,7 +6,7 @@ use mathlib.Core.List.{List, [], flatten}
 use Prim.Native.Nat.{ℕ, suc, _<_}
 use lib.ListN.{length, getD}
 use Rattle.state.specs.Take.{Page}
-use Rattle.state.specs.Finish.{Finish, whole, lacking}
+use Rattle.wire.specs.Answer.{Answer, done, refusedAt}
 
 -- there is no page
 abbrev pub NoPages : (Page → Type 0) → Type 0
@@ -66,6 +66,6 @@ FirstMissing S k =
     ((k ≡ 0) × NoPages S) ⊎ ((t : ℕ) × OneTotal S t × OneVersion S × (k < t) × Missing S k × ((j : ℕ) → j < k → Present S j))
 
 -- what each answer of finish says
-abbrev pub FinishIs : (Page → Type 0) → Finish → Type 0
-FinishIs S (whole d) = Complete S d
-FinishIs S (lacking n k) = ((n ≡ 14) × (k ≡ 0) × TwoTotals S) ⊎ (((n ≡ 15) × FirstDisputed S k) ⊎ ((n ≡ 16) × FirstMissing S k))
+abbrev pub FinishIs : (Page → Type 0) → Answer (List ℕ) → Type 0
+FinishIs S (done d) = Complete S d
+FinishIs S (refusedAt n k) = ((n ≡ 14) × (k ≡ 0) × TwoTotals S) ⊎ (((n ≡ 15) × FirstDisputed S k) ⊎ ((n ≡ 16) × FirstMissing S k))

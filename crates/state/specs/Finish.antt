@@ -4,7 +4,7 @@ use mathlib.Core.Bool.{Bool, true, false}
 use mathlib.Core.List.{List, [], _∷_, _++_}
 use lib.Dec.{ltb}
 use lib.ListN.{length, take}
-use Rattle.wire.specs.Answer.{choose}
+use Rattle.wire.specs.Answer.{choose, Answer, done, refusedAt, refused}
 use Rattle.state.specs.State.{Slot, absent, held, disputed, dataOf, Book, empty, collecting, disagree}
 
 -- "A held page of length 0 is present": absent is a state, and no length
@@ -38,19 +38,15 @@ unfoldable pub joined : List Slot → List ℕ
 joined [] = []
 joined (x ∷ xs) = dataOf x ++ joined xs
 
--- the ciphertext, or the number of a refusal and its place
-pub data Finish : Type 0 where
-  whole : List ℕ → Finish
-  lacking : ℕ → ℕ → Finish
-
--- of the pages below the total: 15, then 16, each with the lowest such index
-unfoldable pub finishPages : List Slot → Finish
+-- the ciphertext of the pages below the total: 15, then 16, each with the lowest such index
+unfoldable pub finishPages : List Slot → Answer (List ℕ)
 finishPages ss =
-    choose (ltb (lowest isDisputed ss) (length ss)) (lacking 15 (lowest isDisputed ss))
-    (choose (ltb (lowest isAbsent ss) (length ss)) (lacking 16 (lowest isAbsent ss)) (whole (joined ss)))
+    choose (ltb (lowest isDisputed ss) (length ss)) (refusedAt 15 (lowest isDisputed ss))
+    (choose (ltb (lowest isAbsent ss) (length ss)) (refusedAt 16 (lowest isAbsent ss))
+    (done (joined ss)))
 
 -- "14, 15, 16 (empty collection: page 0)"
-unfoldable pub finishBook : Book → Finish
-finishBook empty = lacking 16 0
+unfoldable pub finishBook : Book → Answer (List ℕ)
+finishBook empty = refused 16
 finishBook (collecting t ss) = finishPages (take t ss)
-finishBook disagree = lacking 14 0
+finishBook disagree = refused 14

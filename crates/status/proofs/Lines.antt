@@ -7,8 +7,8 @@ use native.Mathlib.Omega.{arith}
 use borrow.Author.Tests.{lt-ltb, le-ltb, ne-eqb}
 use lib.ListN.{length, take, getD, replicate, length-replicate, length-append}
 use Rattle.wire.specs.Over.{over}
-use Rattle.wire.specs.Writing.{Written, bytes}
-use Rattle.wire.specs.declared.Wrote.{Wrote}
+use Rattle.wire.specs.Answer.{done, Answer, Kept}
+use Rattle.wire.specs.Writing.{writing}
 use Rattle.wire.proofs.Overs.{over-append, read-over}
 use Rattle.state.specs.State.{Slot, Book, empty, collecting, disagree}
 use Rattle.state.specs.Finish.{isAbsent, isHeld, isDisputed, lowest, count}
@@ -20,7 +20,7 @@ use Rattle.tally.proofs.Pages.{in-absent, in-held, in-disputed, lowest-as, coun
 use Rattle.status.specs.Line.{decimal, field, pagesName, heldName, missingName, disputedName, firstName, noFirst, refusedName, emptyLine, disagreeLine, lineFeed, firstField, pagesLine, bookLine, refusedLine, statusLine}
 
 -- a promise for what is the same
-pub written-as : (xs ys out out' : List ℕ) (r : Wrote) → xs ≡ ys → Written 0 (bytes ys) out out' r → Written 0 (bytes xs) out out' r
+pub written-as : (xs ys out out' : List ℕ) (r : Answer ℕ) → xs ≡ ys → Kept (writing 0 out (done ys)) out out' r → Kept (writing 0 out (done xs)) out out' r
 written-as xs ys out out' r e w = rw e w
 
 -- ---- a name and a number
@@ -55,9 +55,9 @@ module _ (at k t : ℕ) (l : List ℕ) where
 -- ---- a line that grows in a room of 64 bytes
 
 -- n bytes, which are `done`, stand in front of x
-record Grown (done : List ℕ) (n : ℕ) (x : List ℕ) : Type 0 where
-  number : n ≡ length done
-  stands : x ≡ over 0 done (replicate 64 0)
+record Grown (front : List ℕ) (n : ℕ) (x : List ℕ) : Type 0 where
+  number : n ≡ length front
+  stands : x ≡ over 0 front (replicate 64 0)
 
 room-size : length (replicate {A = ℕ} 64 0) ≡ 64
 room-size = length-replicate {A = ℕ} 64 0
@@ -65,18 +65,18 @@ room-size = length-replicate {A = ℕ} 64 0
 grown-start : (bs x : List ℕ) (r m : ℕ) → (r ≡ 0 + length bs) × (r ≤ m) × (x ≡ over 0 bs (replicate 64 0)) → Grown bs r x
 grown-start bs x r m (e, f, g) = record { number = omega arith; stands = g }
 
-grown-on : (done bs x y : List ℕ) (n r m : ℕ) → m ≤ 64 → Grown done n x → (r ≡ n + length bs) × (r ≤ m) × (y ≡ over n bs x) → Grown (done ++ bs) r y
-grown-on done bs x y n r m fits g (e, f, h) = record {
-  number = omega (arith, g .number, length-append done bs);
-  stands = h ∙ ap (over n bs) (g .stands) ∙ over-append 0 done bs (replicate 64 0) n (omega (arith, g .number)) (omega (arith, room-size));
+grown-on : (front bs x y : List ℕ) (n r m : ℕ) → m ≤ 64 → Grown front n x → (r ≡ n + length bs) × (r ≤ m) × (y ≡ over n bs x) → Grown (front ++ bs) r y
+grown-on front bs x y n r m fits g (e, f, h) = record {
+  number = omega (arith, g .number, length-append front bs);
+  stands = h ∙ ap (over n bs) (g .stands) ∙ over-append 0 front bs (replicate 64 0) n (omega (arith, g .number)) (omega (arith, room-size));
 }
 
 -- the line feed ends it
-grown-end : (done y x : List ℕ) (n : ℕ) → n + 1 ≤ 64 → Grown done n x → y ≡ over n lineFeed x → take (n + 1 - 0) y ≡ done ++ lineFeed
-grown-end done y x n fits g h =
-    let w = grown-on done lineFeed x y n (n + 1) (n + 1) fits g (refl, omega arith, h) in
-    let e : n + 1 - 0 ≡ length (done ++ lineFeed) = omega (arith, w .number) in
-    rw (e, w .stands) (read-over 0 (done ++ lineFeed) (replicate 64 0) (omega (arith, w .number, room-size)))
+grown-end : (front y x : List ℕ) (n : ℕ) → n + 1 ≤ 64 → Grown front n x → y ≡ over n lineFeed x → take (n + 1 - 0) y ≡ front ++ lineFeed
+grown-end front y x n fits g h =
+    let w = grown-on front lineFeed x y n (n + 1) (n + 1) fits g (refl, omega arith, h) in
+    let e : n + 1 - 0 ≡ length (front ++ lineFeed) = omega (arith, w .number) in
+    rw (e, w .stands) (read-over 0 (front ++ lineFeed) (replicate 64 0) (omega (arith, w .number, room-size)))
 
 -- ---- the pages below a total
 

@@ -3,7 +3,8 @@ ghost use mathlib.Core.Path.{_≡_};
 ghost use Prim.Native.Nat.{_+_, _≤_};
 ghost use lib.ListN.{length};
 ghost use Rattle.wire.specs.Over.{over};
-ghost use Rattle.wire.specs.Writing.{Written, bytes};
+ghost use Rattle.wire.specs.Answer.{done};
+ghost use Rattle.wire.specs.Writing.{Written};
 ghost use Rattle.book.specs.Read.{readPages};
 ghost use Rattle.status.specs.Line.{decimal, field, firstField, pagesLine, refusedLine, statusLine};
 use wire::Wrote;
@@ -54,7 +55,7 @@ fn first(out: &mut [u8], at: usize, lowest: u8, total: u8) -> usize
 
 // The line of a collection that has pages.
 fn pages_line(c: &[u8], total: u8, out: &mut [u8]) -> Wrote
-    ensures { λ r. ⌜ Written 0 (bytes (pagesLine total (readPages 0 total (now (c .entry))))) (now (out .entry)) (now (out .exit)) r ⌝ }
+    ensures { λ r. ⌜ Written 0 (done (pagesLine total (readPages 0 total (now (c .entry))))) (now (out .entry)) (now (out .exit)) r ⌝ }
 {
     let held = tally::count(c, total, block::HELD);
     let missing = tally::count(c, total, block::ABSENT);
@@ -73,7 +74,7 @@ fn pages_line(c: &[u8], total: u8, out: &mut [u8]) -> Wrote
 
 // The line of a refusal: of a collection that is not well formed, and of a program that refuses its input.
 pub fn refused_line(no: u8, out: &mut [u8]) -> Wrote
-    ensures { λ r. ⌜ Written 0 (bytes (refusedLine no)) (now (out .entry)) (now (out .exit)) r ⌝ }
+    ensures { λ r. ⌜ Written 0 (done (refusedLine no)) (now (out .entry)) (now (out .exit)) r ⌝ }
 {
     let mut room = [0u8; ROOM];
     let at = named(&mut room, 0, b"refused ", no);
@@ -84,7 +85,7 @@ pub fn refused_line(no: u8, out: &mut [u8]) -> Wrote
 
 // The status line at the front of out.
 pub fn status(c: &[u8], out: &mut [u8]) -> Wrote
-    ensures { λ r. ⌜ Written 0 (bytes (statusLine (now (c .entry)))) (now (out .entry)) (now (out .exit)) r ⌝ }
+    ensures { λ r. ⌜ Written 0 (done (statusLine (now (c .entry)))) (now (out .entry)) (now (out .exit)) r ⌝ }
 {
     if !book::well_formed(c) {
         return refused_line(wire::BAD_COLLECTION, out);

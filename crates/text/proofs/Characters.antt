@@ -1,7 +1,7 @@
 -- Characters and their values, each from the other. Assumes nothing.
 use Prim.Native.Nat.{ℕ, zero, suc, _+_, _^_, _≤_, _<_}
 use mathlib.Core.Path.{_≡_, refl, sym, ap, ap₂, _∙_}
-use mathlib.Core.Bool.{Bool, true, false, _&&_}
+use mathlib.Core.Bool.{Bool, true, false}
 use mathlib.Core.List.{List, [], _∷_, _++_, map, map-append}
 use native.Mathlib.Nat.{le-of-suc-le-suc}
 use native.Mathlib.Omega.{arith}
@@ -11,21 +11,23 @@ use lib.ListN.{length, getD}
 use Rattle.wire.specs.Answer.{choose}
 use Rattle.wire.specs.Number.{Digits}
 use Rattle.wire.proofs.Cases.{both-hold}
-use Rattle.text.specs.Text.{Form, skipped, kept, place, value, values, letter, below}
+use Rattle.wire.specs.Every.{every, within}
+use Rattle.wire.proofs.Everys.{every-fails}
+use Rattle.text.specs.Text.{Form, skipped, kept, place, value, values, letter}
 use Rattle.text.proofs.Forms.{Lawful}
 
--- ---- all below a bound, as a test and as a fact
+-- ---- all within a bound, as a test and as a fact
 
-pub below-true : (n : ℕ) (vs : List ℕ) → Digits n vs → below n vs ≡ true
-unfolding below
-below-true n [] all = refl
-below-true n (v ∷ vs) all = rw (lt-ltb v n (all 0)) (below-true n vs (λ i. all (suc i)))
+pub within-true : (n : ℕ) (vs : List ℕ) → Digits n vs → within n vs ≡ true
+unfolding every
+within-true n [] all = refl
+within-true n (v ∷ vs) all = rw (lt-ltb v n (all 0)) (within-true n vs (λ i. all (suc i)))
 
-pub below-all : (n : ℕ) (vs : List ℕ) → 0 < n → below n vs ≡ true → Digits n vs
-unfolding below
-below-all n [] z e i = z
-below-all n (v ∷ vs) z e zero = ltb-true v n (both-hold (ltb v n) (below n vs) e .0)
-below-all n (v ∷ vs) z e (suc i) = below-all n vs z (both-hold (ltb v n) (below n vs) e .1) i
+pub within-all : (n : ℕ) (vs : List ℕ) → 0 < n → within n vs ≡ true → Digits n vs
+unfolding every
+within-all n [] z e i = z
+within-all n (v ∷ vs) z e zero = ltb-true v n (both-hold (ltb v n) (within n vs) e .0)
+within-all n (v ∷ vs) z e (suc i) = within-all n vs z (both-hold (ltb v n) (within n vs) e .1) i
 
 -- ---- a character that is allowed stands in the alphabet at its value
 
@@ -93,12 +95,6 @@ length-values f (c ∷ cs) = go (skipped f c) (length-values f cs)
     go true h = omega arith
     go false h = omega arith
 
--- one value that is not below the bound
-pub below-stop : (n v : ℕ) (xs ys : List ℕ) → n ≤ v → below n (xs ++ (v ∷ ys)) ≡ false
-unfolding below
-below-stop n v [] ys h = rw (le-ltb v n h)
-below-stop n v (x ∷ xs) ys h = rw (below-stop n v xs ys h) (and-false (ltb x n))
-  where
-    and-false : (a : Bool) → (a && false) ≡ false
-    and-false true = refl
-    and-false false = refl
+-- one value that is not within the bound
+pub within-stop : (n v : ℕ) (xs ys : List ℕ) → n ≤ v → within n (xs ++ (v ∷ ys)) ≡ false
+within-stop n v xs ys h = every-fails _ xs v ys (le-ltb v n h)

@@ -12,7 +12,7 @@ use lib.Dec.{leb}
 use lib.ListN.{length, take, getD, length-append, List·getD-append, List·getD-eq-default}
 use lib.Pow.{pow-add, shl-shr}
 use lib.Seq.{take-all, take-suc, take-append-seam, length-take-le, getD-append-add}
-use Rattle.wire.specs.Answer.{choose}
+use Rattle.wire.specs.Answer.{choose, done}
 use Rattle.wire.specs.Number.{digits, number, Bytes}
 use Rattle.wire.proofs.Cases.{lt-or-le}
 use Rattle.wire.proofs.Digits.{number-snoc}

@@ -11,16 +11,17 @@ use lib.Dec.{ltb}
 use lib.ListN.{length, take, drop, getD, length-append, length-take, take-append-drop}
 use lib.Pow.{pow-pos}
 use lib.Seq.{take-all, take-suc, split-at}
-use Rattle.wire.specs.Answer.{choose}
+use Rattle.wire.specs.Answer.{choose, done}
 use Rattle.wire.specs.Number.{Digits}
 use Rattle.wire.proofs.Digits.{length-digits, small-snoc}
-use Rattle.text.specs.Text.{skipped, kept, value, values, below, leftover}
+use Rattle.wire.specs.Every.{within}
+use Rattle.text.specs.Text.{skipped, kept, value, values, leftover}
 use Rattle.text.specs.Parts.{Narrow, formOf, fed, stepped, emitted, decoded, judged}
 use Rattle.text.specs.declared.read.Seen.{Seen}
 use Rattle.text.specs.declared.read.Step.the-variants.{On, Bad}
 use Rattle.text.specs.declared.read.Judged.the-variants as J
 use Rattle.text.proofs.Counts.{narrow-bounds, leftover-is}
-use Rattle.text.proofs.Characters.{below-true, below-stop, values-append, values-skipped, values-one, length-values}
+use Rattle.text.proofs.Characters.{within-true, within-stop, values-append, values-skipped, values-one, length-values}
 use Rattle.text.proofs.Flow.{Flow, flow-none, flow-in, flow-out, flow-digits, flow-held}
 use Rattle.text.proofs.Sorts.{form-width, form-lawful}
 
@@ -89,7 +90,7 @@ module _ (w : ℕ) (narrow : Narrow w) (cs : List ℕ) (i : ℕ) (more : i < len
       go false false p q h = let z : _≡_ {A = ℕ} 0 1 = cc in absurd (omega arith)
 
   -- a character that is not allowed decides the whole text
-  pub reading-bad : (s : Seen) → Bad ≡ stepped w s c → below (2 ^ w) (values (formOf w) cs) ≡ false
+  pub reading-bad : (s : Seen) → Bad ≡ stepped w s c → within (2 ^ w) (values (formOf w) cs) ≡ false
   unfolding stepped
   reading-bad s e = go (skipped (formOf w) c) (ltb (value (formOf w) c) (2 ^ w)) refl refl e
     where
@@ -101,10 +102,10 @@ module _ (w : ℕ) (narrow : Narrow w) (cs : List ℕ) (i : ℕ) (more : i < len
 
       go : (a b : Bool) → skipped (formOf w) c ≡ a → ltb (value (formOf w) c) (2 ^ w) ≡ b
           → Bad ≡ choose a (On (record { bits = s .bits; count = s .count; made = s .made; full = false; byte = 0 })) (choose b (On (fed w s (value (formOf w) c))) Bad)
-          → below (2 ^ w) (values (formOf w) cs) ≡ false
+          → within (2 ^ w) (values (formOf w) cs) ≡ false
       go true b p q h = let z : _≡_ {A = ℕ} 0 1 = cc in absurd (omega arith)
       go false true p q h = let z : _≡_ {A = ℕ} 0 1 = cc in absurd (omega arith)
-      go false false p q h = rw (parts p) (below-stop (2 ^ w) (value (formOf w) c) (values (formOf w) (take i cs)) (values (formOf w) (drop (suc i) cs)) (ltb-false (value (formOf w) c) (2 ^ w) q))
+      go false false p q h = rw (parts p) (within-stop (2 ^ w) (value (formOf w) c) (values (formOf w) (take i cs)) (values (formOf w) (drop (suc i) cs)) (ltb-false (value (formOf w) c) (2 ^ w) q))
 
 module _ (w : ℕ) (narrow : Narrow w) (cs : List ℕ) (i : ℕ) (s : Seen) (ys : List ℕ) (r : Reading w cs i s ys) where
   -- fewer bytes are made than characters read
@@ -142,8 +143,8 @@ module _ (w : ℕ) (narrow : Narrow w) (cs : List ℕ) (i : ℕ) (s : Seen) (ys 
         let h = leftover-is (formOf w) (form-lawful w narrow) (length ys) (length vs) (s .count) (rw e (flow-all .count)) (r .short) in
         (h .0, rw e at (h .1))
 
-    pub reading-below : below (2 ^ w) (values (formOf w) cs) ≡ true
-    reading-below = below-true (2 ^ w) (values (formOf w) cs) (rw all at (r .small))
+    pub reading-below : within (2 ^ w) (values (formOf w) cs) ≡ true
+    reading-below = within-true (2 ^ w) (values (formOf w) cs) (rw all at (r .small))
 
     pub reading-bytes : ys ≡ decoded w cs
     unfolding decoded vs
@@ -156,6 +157,6 @@ module _ (w : ℕ) (narrow : Narrow w) (cs : List ℕ) (i : ℕ) (s : Seen) (ys 
 -- ---- what was judged of the whole text
 
 module _ (w : ℕ) (cs : List ℕ) where
-  pub judged-bad : below (2 ^ w) (values (formOf w) cs) ≡ false → J.Bad ≡ judged w cs
+  pub judged-bad : within (2 ^ w) (values (formOf w) cs) ≡ false → J.Bad ≡ judged w cs
   unfolding judged
   judged-bad e = rw e

@@ -7,14 +7,15 @@ use native.Mathlib.Omega.{arith}
 use borrow.Author.Tests.{le-leb, lt-leb, eq-eqb, ne-eqb}
 use lib.Dec.{leb, eqb}
 use lib.ListN.{length}
-use Rattle.wire.specs.Answer.{choose}
+use Rattle.wire.specs.Answer.{choose, done, refused}
 use Rattle.wire.specs.Number.{digits, number}
 use Rattle.wire.specs.Over.{over}
-use Rattle.wire.specs.Writing.{bytes, fault, Written}
+use Rattle.wire.specs.Writing.{Written}
 use Rattle.wire.specs.declared.Wrote.the-variants.{Done, Refused}
 use Rattle.wire.proofs.Digits.{length-digits}
 use Rattle.wire.proofs.Writes.{written, no-room, denied}
-use Rattle.text.specs.Text.{values, below, leftover, readValues, readText}
+use Rattle.wire.specs.Every.{within}
+use Rattle.text.specs.Text.{values, leftover, readValues, readText}
 use Rattle.text.specs.Parts.{Narrow, formOf, decoded, judged}
 use Rattle.text.specs.declared.read.Judged.{Judged}
 use Rattle.text.specs.declared.read.Judged.the-variants.{Good, Bad}
@@ -32,48 +33,48 @@ module _ (w : ℕ) (narrow : Narrow w) (cs : List ℕ) where
 
   -- the answer at this width, with the count that no text has as a test of the bits left over
   answer : readText (formOf w) cs
-      ≡ choose (below (2 ^ w) (values (formOf w) cs)) (choose (leb w k) (fault 2) (choose (eqb (v % 2 ^ k) 0) (bytes (decoded w cs)) (fault 2))) (fault 1)
+      ≡ choose (within (2 ^ w) (values (formOf w) cs)) (choose (leb w k) (refused 2) (choose (eqb (v % 2 ^ k) 0) (done (decoded w cs)) (refused 2))) (refused 1)
   unfolding readText readValues decoded n k v
   answer =
       let l : ℕ = leftover (formOf w) (length (values (formOf w) cs)) in
       let vs : List ℕ = values (formOf w) cs in
-      ap (λ (t : Bool). choose (below (2 ^ formOf w .width) vs) (choose t (fault 2) (choose (eqb (number (2 ^ formOf w .width) vs % 2 ^ l) 0) (bytes (digits 256 (formOf w .width * length vs / 8) (number (2 ^ formOf w .width) vs / 2 ^ l))) (fault 2))) (fault 1)) (form-lawful w narrow .counts (length vs))
-      ∙ ap (λ (x : ℕ). choose (below (2 ^ x) vs) (choose (leb x l) (fault 2) (choose (eqb (number (2 ^ x) vs % 2 ^ l) 0) (bytes (digits 256 (x * length vs / 8) (number (2 ^ x) vs / 2 ^ l))) (fault 2))) (fault 1)) (form-width w narrow)
+      ap (λ (t : Bool). choose (within (2 ^ formOf w .width) vs) (choose t (refused 2) (choose (eqb (number (2 ^ formOf w .width) vs % 2 ^ l) 0) (done (digits 256 (formOf w .width * length vs / 8) (number (2 ^ formOf w .width) vs / 2 ^ l))) (refused 2))) (refused 1)) (form-lawful w narrow .counts (length vs))
+      ∙ ap (λ (x : ℕ). choose (within (2 ^ x) vs) (choose (leb x l) (refused 2) (choose (eqb (number (2 ^ x) vs % 2 ^ l) 0) (done (digits 256 (x * length vs / 8) (number (2 ^ x) vs / 2 ^ l))) (refused 2))) (refused 1)) (form-width w narrow)
 
   -- the two ways of having been judged
-  good-is : (b c m : ℕ) → Good b c m ≡ judged w cs → (below (2 ^ w) (values (formOf w) cs) ≡ true) × (b ≡ v % 2 ^ k) × (c ≡ k) × (m ≡ w * n / 8)
+  good-is : (b c m : ℕ) → Good b c m ≡ judged w cs → (within (2 ^ w) (values (formOf w) cs) ≡ true) × (b ≡ v % 2 ^ k) × (c ≡ k) × (m ≡ w * n / 8)
   unfolding judged n k v
-  good-is b c m e = go (below (2 ^ w) (values (formOf w) cs)) refl e
+  good-is b c m e = go (within (2 ^ w) (values (formOf w) cs)) refl e
     where
-      go : (t : Bool) → below (2 ^ w) (values (formOf w) cs) ≡ t → Good b c m ≡ choose t (Good (v % 2 ^ k) k (w * n / 8)) Bad
-          → (below (2 ^ w) (values (formOf w) cs) ≡ true) × (b ≡ v % 2 ^ k) × (c ≡ k) × (m ≡ w * n / 8)
+      go : (t : Bool) → within (2 ^ w) (values (formOf w) cs) ≡ t → Good b c m ≡ choose t (Good (v % 2 ^ k) k (w * n / 8)) Bad
+          → (within (2 ^ w) (values (formOf w) cs) ≡ true) × (b ≡ v % 2 ^ k) × (c ≡ k) × (m ≡ w * n / 8)
       go true p h = (p, cc, cc, cc)
       go false p h = let z : _≡_ {A = ℕ} 0 1 = cc in absurd (omega arith)
 
-  verdict-bad : Bad ≡ judged w cs → readText (formOf w) cs ≡ fault 1
+  verdict-bad : Bad ≡ judged w cs → readText (formOf w) cs ≡ refused 1
   unfolding judged
-  verdict-bad e = answer ∙ go (below (2 ^ w) (values (formOf w) cs)) e
+  verdict-bad e = answer ∙ go (within (2 ^ w) (values (formOf w) cs)) e
     where
       go : (t : Bool) → Bad ≡ choose t (Good (number (2 ^ w) (values (formOf w) cs) % 2 ^ leftover (formOf w) (length (values (formOf w) cs))) (leftover (formOf w) (length (values (formOf w) cs))) (w * length (values (formOf w) cs) / 8)) Bad
-          → choose t (choose (leb w k) (fault 2) (choose (eqb (v % 2 ^ k) 0) (bytes (decoded w cs)) (fault 2))) (fault 1) ≡ fault 1
+          → choose t (choose (leb w k) (refused 2) (choose (eqb (v % 2 ^ k) 0) (done (decoded w cs)) (refused 2))) (refused 1) ≡ refused 1
       go true h = let z : _≡_ {A = ℕ} 0 1 = cc in absurd (omega arith)
       go false h = refl
 
   module _ (b c m : ℕ) (e : Good b c m ≡ judged w cs) where
-    verdict-count : w ≤ c → readText (formOf w) cs ≡ fault 2
+    verdict-count : w ≤ c → readText (formOf w) cs ≡ refused 2
     verdict-count h = let g = good-is b c m e in answer ∙ rw (g .0, le-leb w k (omega (arith, g .2)))
 
-    verdict-bits : c < w → (b ≡ 0 → ⊥) → readText (formOf w) cs ≡ fault 2
+    verdict-bits : c < w → (b ≡ 0 → ⊥) → readText (formOf w) cs ≡ refused 2
     verdict-bits h z =
         let g = good-is b c m e in
         answer ∙ rw (g .0, lt-leb w k (omega (arith, g .2)), ne-eqb (v % 2 ^ k) 0 (λ (q : v % 2 ^ k ≡ 0). z (g .1 ∙ q)))
 
-    verdict-good : c < w → b ≡ 0 → readText (formOf w) cs ≡ bytes (decoded w cs)
+    verdict-good : c < w → b ≡ 0 → readText (formOf w) cs ≡ done (decoded w cs)
     verdict-good h z =
         let g = good-is b c m e in
         answer ∙ rw (g .0, lt-leb w k (omega (arith, g .2)), eq-eqb (v % 2 ^ k) 0 (sym (g .1) ∙ z))
 
-    verdict-below : below (2 ^ w) (values (formOf w) cs) ≡ true
+    verdict-below : within (2 ^ w) (values (formOf w) cs) ≡ true
     verdict-below = good-is b c m e .0
 
     verdict-length : m ≡ length (decoded w cs)
@@ -89,7 +90,7 @@ module _ (w : ℕ) (narrow : Narrow w) (cs out : List ℕ) (r : Judged) (e : r �
     pub read-count : w ≤ c → Written 0 (readText (formOf w) cs) out out (Refused 2)
     read-count h = rw (verdict-count w narrow cs b c m (sym q ∙ e) h) (denied 0 out 2)
 
-    pub read-below : below (2 ^ w) (values (formOf w) cs) ≡ true
+    pub read-below : within (2 ^ w) (values (formOf w) cs) ≡ true
     read-below = verdict-below w narrow cs b c m (sym q ∙ e)
 
     pub read-fits : m ≤ length out → length (decoded w cs) ≤ length out

@@ -8,7 +8,8 @@ use lib.Dec.{ltb, leb, eqb}
 use lib.ListN.{length, getD}
 use Rattle.wire.specs.Answer.{choose}
 use Rattle.wire.specs.Number.{digits, number}
-use Rattle.text.specs.Text.{Form, base64, zbase32, skipped, value, values, below, leftover}
+use Rattle.wire.specs.Every.{within}
+use Rattle.text.specs.Text.{Form, base64, zbase32, skipped, value, values, leftover}
 use Rattle.text.specs.declared.read.Seen.{Seen}
 use Rattle.text.specs.declared.read.Step.{Step}
 use Rattle.text.specs.declared.read.Step.the-variants.{On, Bad}
@@ -54,7 +55,7 @@ decoded w cs =
 
 unfoldable pub judged : ℕ → List ℕ → Judged
 judged w cs =
-    choose (below (2 ^ w) (values (formOf w) cs))
+    choose (within (2 ^ w) (values (formOf w) cs))
     (J.Good (number (2 ^ w) (values (formOf w) cs) % 2 ^ leftover (formOf w) (length (values (formOf w) cs))) (leftover (formOf w) (length (values (formOf w) cs))) (w * length (values (formOf w) cs) / 8))
     J.Bad
 

@@ -2,11 +2,11 @@
 use Prim.Native.Nat.{ℕ, suc, _+_, _-_, _*_, _/_, _%_, _^_}
 use mathlib.Core.Bool.{Bool, true, false, _&&_, _||_}
 use mathlib.Core.List.{List, [], _∷_, map}
-use lib.Dec.{ltb, leb, eqb}
+use lib.Dec.{leb, eqb}
 use lib.ListN.{length, getD}
-use Rattle.wire.specs.Answer.{choose}
+use Rattle.wire.specs.Answer.{choose, Answer, done, refused, demand}
+use Rattle.wire.specs.Every.{within}
 use Rattle.wire.specs.Number.{digits, number}
-use Rattle.wire.specs.Writing.{Verdict, bytes, fault}
 
 -- what a form has of its own: how many bits a character stands for; the characters of the values 0, 1, 2, .. in that
 -- order; whether the dash is skipped; and which counts of characters no text has
@@ -59,26 +59,20 @@ value f c = place c (f .alphabet)
 unfoldable pub values : Form → List ℕ → List ℕ
 values f cs = map (value f) (kept f cs)
 
--- each is below n
-unfoldable pub below : ℕ → List ℕ → Bool
-below n [] = true
-below n (v ∷ vs) = ltb v n && below n vs
-
 -- n characters have so many bits left over after the last whole byte
 unfoldable pub leftover : Form → ℕ → ℕ
 leftover f n = f .width * n % 8
 
 -- the values as one number, first bits first; its last `leftover` bits are no part of a byte, and must be zero
-unfoldable pub readValues : Form → List ℕ → Verdict
+unfoldable pub readValues : Form → List ℕ → Answer (List ℕ)
 readValues f vs =
-    choose (f .impossible (length vs)) (fault 2)
-    (choose (eqb (number (2 ^ f .width) vs % 2 ^ leftover f (length vs)) 0)
-    (bytes (digits 256 (f .width * length vs / 8) (number (2 ^ f .width) vs / 2 ^ leftover f (length vs))))
-    (fault 2))
+    choose (f .impossible (length vs)) (refused 2)
+    (demand (eqb (number (2 ^ f .width) vs % 2 ^ leftover f (length vs)) 0) 2
+    (done (digits 256 (f .width * length vs / 8) (number (2 ^ f .width) vs / 2 ^ leftover f (length vs)))))
 
 -- a character that is not allowed, anywhere, comes before all else
-unfoldable pub readText : Form → List ℕ → Verdict
-readText f cs = choose (below (2 ^ f .width) (values f cs)) (readValues f (values f cs)) (fault 1)
+unfoldable pub readText : Form → List ℕ → Answer (List ℕ)
+readText f cs = demand (within (2 ^ f .width) (values f cs)) 1 (readValues f (values f cs))
 
 -- the fewest characters that hold n bytes
 unfoldable pub characters : Form → ℕ → ℕ

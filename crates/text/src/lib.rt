@@ -5,7 +5,8 @@ mod read;
 mod tables;
 mod write;
 
-ghost use Rattle.wire.specs.Writing.{Written, bytes};
+ghost use Rattle.wire.specs.Answer.{done};
+ghost use Rattle.wire.specs.Writing.{Written};
 ghost use Rattle.text.specs.Text.{base64, zbase32, textOf, readText};
 use wire::Wrote;
 
@@ -18,7 +19,7 @@ pub fn base64_read(text: &[u8], out: &mut [u8]) -> Wrote
 
 // The base64 text of all bytes, at the front of out.
 pub fn base64_write(src: &[u8], out: &mut [u8]) -> Wrote
-    ensures { λ r. ⌜ Written 0 (bytes (textOf base64 (now (src .entry)))) (now (out .entry)) (now (out .exit)) r ⌝ }
+    ensures { λ r. ⌜ Written 0 (done (textOf base64 (now (src .entry)))) (now (out .entry)) (now (out .exit)) r ⌝ }
 {
     write::write(&tables::BASE64_LETTERS, 6, src, out)
 }
@@ -32,7 +33,7 @@ pub fn zbase32_read(text: &[u8], out: &mut [u8]) -> Wrote
 
 // The z-base-32 text of all bytes, at the front of out.
 pub fn zbase32_write(src: &[u8], out: &mut [u8]) -> Wrote
-    ensures { λ r. ⌜ Written 0 (bytes (textOf zbase32 (now (src .entry)))) (now (out .entry)) (now (out .exit)) r ⌝ }
+    ensures { λ r. ⌜ Written 0 (done (textOf zbase32 (now (src .entry)))) (now (out .entry)) (now (out .exit)) r ⌝ }
 {
     write::write(&tables::ZBASE32_LETTERS, 5, src, out)
 }

@@ -1,11 +1,12 @@
 // A text is gone through twice: once to judge all of it, and only then to write.
 ghost use mathlib.Core.Path.{_≡_};
 ghost use mathlib.Core.Bool.{true};
-ghost use Prim.Native.Nat.{_+_, _-_, _*_, _/_, _^_, _≤_, _<_};
+ghost use Prim.Native.Nat.{_+_, _-_, _^_, _≤_, _<_};
 ghost use lib.ListN.{length};
+ghost use Rattle.wire.specs.Every.{within};
 ghost use Rattle.wire.specs.Over.{over};
 ghost use Rattle.wire.specs.Writing.{Written};
-ghost use Rattle.text.specs.Text.{readText, values, below};
+ghost use Rattle.text.specs.Text.{readText, values};
 ghost use Rattle.text.specs.Parts.{Narrow, formOf, Sorted, fed, stepped, judged, decoded, emitted};
 use super::pack;
 use super::tables;
@@ -121,7 +122,7 @@ fn emit(out: &mut [u8], at: usize, full: bool, byte: u8)
 }
 
 fn decode(table: &[u8; 256], w: u32, text: &[u8], out: &mut [u8])
-    requires { ⌜ Narrow w × Sorted w (now table) × (below (2 ^ w) (values (formOf w) (now text)) ≡ true) × (length (decoded w (now text)) ≤ length (now out)) ⌝ }
+    requires { ⌜ Narrow w × Sorted w (now table) × (within (2 ^ w) (values (formOf w) (now text)) ≡ true) × (length (decoded w (now text)) ≤ length (now out)) ⌝ }
     ensures { λ _. ⌜ now (out .exit) ≡ over 0 (decoded w (now (text .entry))) (now (out .entry)) ⌝ }
 {
     let mut s = Seen {

@@ -3,7 +3,8 @@ ghost use mathlib.Core.Path.{_≡_};
 ghost use Prim.Native.Nat.{_+_, _-_, _*_, _/_, _%_, _^_, _≤_, _<_};
 ghost use lib.ListN.{length, getD};
 ghost use Rattle.wire.specs.Over.{over};
-ghost use Rattle.wire.specs.Writing.{Written, bytes};
+ghost use Rattle.wire.specs.Answer.{done};
+ghost use Rattle.wire.specs.Writing.{Written};
 ghost use Rattle.text.specs.Text.{textOf, characters};
 ghost use Rattle.text.specs.Parts.{Narrow, formOf, refilled};
 use super::pack;
@@ -70,7 +71,7 @@ fn encode(letters: &[u8], w: u32, src: &[u8], len: usize, out: &mut [u8])
 
 pub(super) fn write(letters: &[u8], w: u32, src: &[u8], out: &mut [u8]) -> Wrote
     requires { ⌜ Narrow w × (now letters ≡ formOf w .alphabet) ⌝ }
-    ensures { λ r. ⌜ Written 0 (bytes (textOf (formOf w) (now (src .entry)))) (now (out .entry)) (now (out .exit)) r ⌝ }
+    ensures { λ r. ⌜ Written 0 (done (textOf (formOf w) (now (src .entry)))) (now (out .entry)) (now (out .exit)) r ⌝ }
 {
     let len = length_of(w, src.len());
     if out.len() < len {

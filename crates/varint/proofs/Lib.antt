@@ -5,3 +5,4 @@ pub mod Refusals
 pub mod Answers
 pub mod Turns
 pub mod Stores
+pub mod Placeless

@@ -6,12 +6,12 @@ use mathlib.Core.List.{List, [], _∷_}
 use mathlib.Core.Bool.{Bool, true, false}
 use lib.Dec.{ltb, eqb}
 use lib.ListN.{drop}
-use Rattle.wire.specs.Answer.{choose, Got, got, refused}
-use Rattle.wire.proofs.Cases.{not-got}
+use Rattle.wire.specs.Answer.{choose, done, refusedAt, refused, Got, got}
+use Rattle.wire.proofs.Cases.{not-done}
 use Rattle.varint.specs.Varint.{onto, ending, tenth, laterFrom, varintFrom, varintAt}
 
 refused-no : {P : Type 0} {v k e : ℕ} → _≡_ {A = Got ℕ} (got v k) (refused e) → P
-refused-no h = not-got (sym h)
+refused-no h = not-done (sym h)
 
 -- a refusal, if it is one, is 3 or 7
 abbrev Refuses : Got ℕ → Type 0
@@ -28,8 +28,8 @@ refuses-choose true a b x y = x
 refuses-choose false a b x y = y
 
 refuses-onto : (n w : ℕ) (g : Got ℕ) → Refuses g → Refuses (onto n w g)
-refuses-onto n w (got v k) x e h = refused-no h
-refuses-onto n w (refused a) x e h = x e h
+refuses-onto n w (done (v, k)) x e h = refused-no h
+refuses-onto n w (refusedAt a place) x e h = x e h
 
 refuses-ending : (b i : ℕ) → Refuses (ending b i)
 unfolding ending

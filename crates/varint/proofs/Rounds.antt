@@ -10,9 +10,9 @@ use borrow.Author.Tests.{lt-ltb, le-ltb, ne-eqb, ltb-true, ltb-false, eqb-false}
 use lib.Dec.{ltb, eqb, lit<}
 use lib.ListN.{length, drop, length-append, length-drop}
 use lib.Seq.{drop-at, getD-drop}
-use Rattle.wire.specs.Answer.{choose, Got, got, refused}
+use Rattle.wire.specs.Answer.{choose, done, refusedAt, Got, got}
 use Rattle.wire.specs.Number.{Bytes}
-use Rattle.wire.proofs.Cases.{lt-or-le, not-got, escaped}
+use Rattle.wire.proofs.Cases.{lt-or-le, not-done, escaped, got-value, got-next}
 use Rattle.wire.proofs.Standing.{Stands, stands-at, stands-as}
 use Rattle.varint.specs.Varint.{sevens, varint, onto, ending, tenth, laterFrom, varintFrom, varintAt}
 use Rattle.varint.proofs.Sevens.{sevens-last, sevens-more, sevens-ind}
@@ -75,13 +75,11 @@ unfolding ending
 ending-got b i n next h =
     let t = escaped (eqb b 0) (got b i) 7 h in
     let z = eqb-false b 0 (t .0) in
-    let p : b ≡ n = cc (t .1) in
-    let q : i ≡ next = cc (t .1) in
-    (omega arith, p, q)
+    (omega arith, got-value (t .1), got-next (t .1))
 
 onto-got : (a w : ℕ) (g : Got ℕ) (n next : ℕ) → onto a w g ≡ got n next → (v : ℕ) × (g ≡ got v next) × (n ≡ a + w * v)
-onto-got a w (got v k) n next h = let p : k ≡ next = cc in (v, ap (got v) p, (cc))
-onto-got a w (refused e) n next h = not-got h
+onto-got a w (done (v, k)) n next h = (v, ap (got v) (got-next h), sym (got-value h))
+onto-got a w (refusedAt e place) n next h = not-done h
 
 module _ (p i b n next : ℕ) (bs : List ℕ) where
   -- a last byte is the number
@@ -104,7 +102,7 @@ Later p i bs n next = Starts bs (sevens p n) i next × (0 < n) × (n < 2 * 128 ^
 
 later-was : (p i : ℕ) (bs : List ℕ) (n next : ℕ) → Bytes bs → laterFrom p i bs ≡ got n next → Later p i bs n next
 unfolding laterFrom tenth Later
-later-was p i [] n next y h = not-got h
+later-was p i [] n next y h = not-done h
 later-was zero i (b ∷ bs) n next y h =
     let t = escaped (ltb 1 b) (ending b (i + 1)) 7 h in
     let l = ltb-false 1 b (t .0) in
@@ -126,15 +124,13 @@ later-was (suc p) i (b ∷ bs) n next y h = go (ltb b 128) refl (later-was p (i 
 
 from-was : (i : ℕ) (bs : List ℕ) (n next : ℕ) → Bytes bs → varintFrom i bs ≡ got n next → Starts bs (varint n) i next × (n < 2 ^ 64)
 unfolding varintFrom varint Later
-from-was i [] n next y h = not-got h
+from-was i [] n next y h = not-done h
 from-was i (b ∷ bs) n next y h = go (ltb b 128) refl h
   where
     go : (t : Bool) → ltb b 128 ≡ t → choose t (got b (i + 1)) (onto (b % 128) 128 (laterFrom 8 (i + 1) bs)) ≡ got n next → Starts (b ∷ bs) (sevens 9 n) i next × (n < 2 ^ 64)
     go true e h =
         let l = ltb-true b 128 e in
-        let p : b ≡ n = cc in
-        let q : i + 1 ≡ next = cc in
-        (starts-last 9 i b n next bs l p q, omega arith)
+        (starts-last 9 i b n next bs l (got-value h) (got-next h), omega (arith, got-value h))
     go false e h =
         let l = ltb-false b 128 e in
         let t = onto-got (b % 128) 128 (laterFrom 8 (i + 1) bs) n next h in

@@ -9,7 +9,7 @@ use borrow.Author.Tests.{lt-ltb, le-ltb, eq-eqb, ne-eqb}
 use lib.Dec.{lit<}
 use lib.ListN.{length, drop, getD, drop-of-length-le}
 use lib.Seq.{drop-cons}
-use Rattle.wire.specs.Answer.{Got, got, refused}
+use Rattle.wire.specs.Answer.{done, refusedAt, refused, Got, got}
 use Rattle.varint.specs.Varint.{onto, ending, tenth, laterFrom, varintFrom, varintAt}
 
 -- ---- the first byte
@@ -72,10 +72,10 @@ tenth-adds n w b l h = omega (arith, mul-le-mul-left w l)
 -- ---- the loop: n is read so far, w weighs the byte at position i, after which left may follow
 
 onto-onto : (n w x u : ℕ) (g : Got ℕ) → onto n w (onto x u g) ≡ onto (n + w * x) (w * u) g
-onto-onto n w x u (got v next) =
+onto-onto n w x u (done (v, next)) =
     let e : n + w * (x + u * v) ≡ n + w * x + w * u * v = omega (arith, mul-add w x (u * v), mul-assoc w u v) in
     ap (λ (k : ℕ). got k next) e
-onto-onto n w x u (refused e) = refl
+onto-onto n w x u (refusedAt e place) = refl
 
 -- the next byte weighs 128 times as much
 weight-next : (w p : ℕ) → (p ≡ 0 → ⊥) → w * 128 ^ p ≡ 2 ^ 63 → w * 128 * 128 ^ (p - 1) ≡ 2 ^ 63

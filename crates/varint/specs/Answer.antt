@@ -1,6 +1,6 @@
 -- What `read` answers, as document 01's number and values.
 use Prim.Native.Nat.{ℕ}
-use Rattle.wire.specs.Answer.{Got, got, refused}
+use Rattle.wire.specs.Answer.{refused, Got, got}
 use Rattle.varint.specs.declared.VarintRead.{VarintRead}
 use Rattle.varint.specs.declared.VarintRead.the-variants.{Value, Refused}
 

@@ -3,7 +3,7 @@ use Prim.Native.Nat.{ℕ, zero, suc, _+_, _*_, _/_, _%_}
 use mathlib.Core.List.{List, [], _∷_}
 use lib.Dec.{ltb, eqb}
 use lib.ListN.{drop}
-use Rattle.wire.specs.Answer.{choose, Got, got, refused}
+use Rattle.wire.specs.Answer.{choose, refused, then, Got, got}
 
 -- seven bits a byte, lowest first, the top bit set on all but the last; at most p bytes follow the first
 unfoldable pub sevens : ℕ → ℕ → List ℕ
@@ -16,8 +16,7 @@ varint n = sevens 9 n
 
 -- n, which is below the weight w, and what was found from the weight w on
 abbrev pub onto : ℕ → ℕ → Got ℕ → Got ℕ
-onto n w (got v next) = got (n + w * v) next
-onto n w (refused e) = refused e
+onto n w g = then g (λ (v, next). got (n + w * v) next)
 
 -- only the shortest form is read: one of several bytes that ends in 00 is refused
 unfoldable pub ending : ℕ → ℕ → Got ℕ

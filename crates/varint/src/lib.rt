@@ -3,9 +3,9 @@ use wire::Wrote;
 ghost use mathlib.Core.Path.{_≡_};
 ghost use Prim.Native.Nat.{_+_, _*_, _^_, _<_, _≤_};
 ghost use lib.ListN.{length, drop};
-ghost use Rattle.wire.specs.Answer.{numberOf};
+ghost use Rattle.wire.specs.Answer.{done, numberOf};
 ghost use Rattle.wire.specs.Over.{over};
-ghost use Rattle.wire.specs.Writing.{bytes, Written};
+ghost use Rattle.wire.specs.Writing.{Written};
 ghost use Rattle.varint.specs.Varint.{varint, onto, ending, tenth, laterFrom, varintAt};
 ghost use Rattle.varint.specs.Answer.{told};
 
@@ -135,7 +135,7 @@ fn write_fitting(n: u64, out: &mut [u8], at: usize)
 
 // The form of n, from index at of out on.
 pub fn write(n: u64, out: &mut [u8], at: usize) -> Wrote
-    ensures { λ r. ⌜ Written at (bytes (varint n)) (now (out .entry)) (now (out .exit)) r ⌝ }
+    ensures { λ r. ⌜ Written at (done (varint n)) (now (out .entry)) (now (out .exit)) r ⌝ }
 {
     let len = size(n);
     if out.len() < at {

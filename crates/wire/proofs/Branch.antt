@@ -3,8 +3,8 @@ use Prim.Native.Nat.{ℕ}
 use mathlib.Core.Path.{_≡_}
 use mathlib.Core.Bool.{Bool, true, false, _&&_, _||_}
 use borrow.Author.Tests.{lt-ltb, le-ltb, le-leb, lt-leb, eq-eqb, ne-eqb, not-true, not-false}
-use Rattle.wire.specs.Answer.{choose, Got, refused, then, numberOf}
-use Rattle.wire.proofs.Cases.{flag}
+use Rattle.wire.specs.Answer.{choose, Answer, refused, then, numberOf}
+use Rattle.wire.proofs.Cases.{flag, got-both}
 
 module _ {A : Type 0} (t : Bool) (r a b : A) where
   pub choose-yes : t ≡ true → r ≡ a → r ≡ choose t a b
@@ -13,7 +13,7 @@ module _ {A : Type 0} (t : Bool) (r a b : A) where
   pub choose-no : t ≡ false → r ≡ b → r ≡ choose t a b
   choose-no e h = rw e h
 
-module _ {A B : Type 0} (t : Bool) (r : Got B) (a b : Got A) (f : A → ℕ → Got B) where
+module _ {A B : Type 0} (t : Bool) (r : Answer B) (a b : Answer A) (f : A → Answer B) where
   pub then-yes : t ≡ true → r ≡ then a f → r ≡ then (choose t a b) f
   then-yes e h = rw e h
 
@@ -35,14 +35,14 @@ or-off t u r e h = rw e h
 
 pub ruleset tests = (and-on, and-off, or-on, or-off, flag, not-true, not-false, le-leb, lt-leb, eq-eqb, ne-eqb)
 
--- one field of a chain, for every answer enum E: told reads it, g is what a reader's contract says, r what it answered, n the number that the code took from r
-module _ {A B E : Type 0} (told : E → Got A) (g : Got A) (f : A → ℕ → Got B) where
-  -- it was read, and the chain goes on
-  pub go : (r x : E) (y : Got B) → told r ≡ g → r ≡ x → y ≡ then (told x) f → y ≡ then g f
+-- one step of a chain, for every answer enum E: told reads it, g is what a call's contract says, r what it answered, n the number that the code took from r
+module _ {A B E : Type 0} (told : E → Answer A) (g : Answer A) (f : A → Answer B) where
+  -- it is done, and the chain goes on
+  pub go : (r x : E) (y : Answer B) → told r ≡ g → r ≡ x → y ≡ then (told x) f → y ≡ then g f
   go r x y e k h = rw (← e, k) h
 
   -- it was refused, and so is the chain
   pub stop : (r x : E) (n e : ℕ) → told r ≡ g → r ≡ x → told x ≡ refused e → n ≡ numberOf (told r) → refused n ≡ then g f
   stop r x n e h k w q = rw (q, ← h, k, w)
 
-pub ruleset branch = (choose-yes, choose-no, then-yes, then-no, lt-ltb, le-ltb, le-leb, lt-leb, eq-eqb, ne-eqb)
+pub ruleset branch = (choose-yes, choose-no, then-yes, then-no, got-both, lt-ltb, le-ltb, le-leb, lt-leb, eq-eqb, ne-eqb)

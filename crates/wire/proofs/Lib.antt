@@ -4,3 +4,6 @@ pub mod Digits
 pub mod Overs
 pub mod Standing
 pub mod Writes
+pub mod Both
+pub mod Everys
+pub mod Placeless

@@ -1,46 +1,75 @@
--- What a reader answers: document 01, "Numbers a call may answer".
+-- What a call answers: document 01, "Numbers a call may answer".
 use Prim.Native.Nat.{ℕ}
+use mathlib.Core.Path.{_≡_}
 use mathlib.Core.Bool.{Bool, true, false}
+use mathlib.Core.List.{List}
 
 -- the first where the test holds, else the second
 abbrev pub choose : {A : Type 0} → Bool → A → A → A
 choose true a b = a
 choose false a b = b
 
--- a value and the position past its last byte, or the number of a refusal
-pub data Got (A : Type 0) : Type 0 where
-  got : A → ℕ → Got A
-  refused : ℕ → Got A
-
--- fields are read left to right, and the first fault decides
-abbrev pub then : {A B : Type 0} → Got A → (A → ℕ → Got B) → Got B
-then (got a next) f = f a next
-then (refused e) f = refused e
-
--- 01's number: 0 where something was read
-abbrev pub numberOf : {A : Type 0} → Got A → ℕ
-numberOf (got a next) = 0
-numberOf (refused e) = e
-
--- ---- what a call answers that writes, collects or opens an envelope
-
--- what comes with the number: the values of a call that is done, or nothing
-pub data Values (A : Type 0) : Type 0 where
-  with : A → Values A
-  none : Values A
-
--- 01's answer, whole: its number, its place and its values
+-- done with a value, or refused with a number and a place
 pub data Answer (A : Type 0) : Type 0 where
-  reply : ℕ → ℕ → Values A → Answer A
-
--- done is number 0, with no place
-abbrev pub done : {A : Type 0} → A → Answer A
-done a = reply 0 0 (with a)
-
--- a refusal is its number and its place, and no value comes with it
-abbrev pub failedAt : {A : Type 0} → ℕ → ℕ → Answer A
-failedAt e place = reply e place none
+  done : A → Answer A
+  refusedAt : ℕ → ℕ → Answer A
 
 -- the place is 0 for every refusal but 15, 16 and 21
-abbrev pub failed : {A : Type 0} → ℕ → Answer A
-failed e = failedAt e 0
+abbrev pub refused : {A : Type 0} → ℕ → Answer A
+refused e = refusedAt e 0
+
+-- 01's number, which is 0 where the call is done, and its place
+abbrev pub numberOf : {A : Type 0} → Answer A → ℕ
+numberOf (done a) = 0
+numberOf (refusedAt e place) = e
+
+abbrev pub placeOf : {A : Type 0} → Answer A → ℕ
+placeOf (done a) = 0
+placeOf (refusedAt e place) = place
+
+-- one thing after another: the first refusal decides
+abbrev pub then : {A B : Type 0} → Answer A → (A → Answer B) → Answer B
+then (done a) f = f a
+then (refusedAt e place) f = refusedAt e place
+
+-- a rule, the number and the place of the refusal where it is broken, and what comes behind it
+abbrev pub demandAt : {A : Type 0} → (holds : Bool) (e place : ℕ) → Answer A → Answer A
+demandAt holds e place a = choose holds a (refusedAt e place)
+
+abbrev pub demand : {A : Type 0} → Bool → ℕ → Answer A → Answer A
+demand holds e a = demandAt holds e 0 a
+
+-- ---- a call that reads answers a value and the position past its last byte
+
+abbrev pub Got : Type 0 → Type 0
+Got A = Answer (A × ℕ)
+
+abbrev pub got : {A : Type 0} → A → ℕ → Got A
+got a next = done (a, next)
+
+-- the value without the position; what a reader refuses has no place
+abbrev pub valueOf : {A : Type 0} → Got A → Answer A
+valueOf (done (a, next)) = done a
+valueOf (refusedAt e place) = refused e
+
+-- ---- a call that changes a lent buffer decides all the bytes that it leaves there, and a value
+
+abbrev pub Change : Type 0 → Type 0
+Change A = Answer (List ℕ × A)
+
+abbrev pub leaves : {A : Type 0} → List ℕ → A → Change A
+leaves bytes a = done (bytes, a)
+
+-- every byte of the buffer l after the call: a refusal changes none
+abbrev pub bytesAfter : {A : Type 0} → List ℕ → Change A → List ℕ
+bytesAfter l (done (bytes, a)) = bytes
+bytesAfter l (refusedAt e place) = l
+
+-- 01's answer: the value alone
+abbrev pub answerOf : {A : Type 0} → Change A → Answer A
+answerOf d = then d (λ (bytes, a). done a)
+
+-- the whole promise of such a call: its answer a, and every byte of what was lent, which was l and is now l'
+pub record Kept {A : Type 0} (d : Change A) (l l' : List ℕ) (a : Answer A) : Type 0 where
+  pub answer : a ≡ answerOf d
+  pub bytes : l' ≡ bytesAfter l d

@@ -1,4 +1,4 @@
-// What every crate of Stiltbasket shares: the numbers that a call may answer, and the answer of a call that writes.
+// What every crate of Stiltbasket shares: the numbers that a call may answer, the answer of a call that writes, and where bytes stand.
 // The definitions that contracts cite are in specs/, their laws in proofs/.
 
 // Document 01, "Numbers a call may answer". Each refusal is its number, named here and nowhere else.
@@ -48,4 +48,10 @@ pub const BAD_CONTENTS: u8 = 21;
 pub enum Wrote {
     Done { len: usize },
     Refused { no: u8 },
+}
+
+// Where bytes stand in a buffer: in the input, for what was read.
+pub struct Span {
+    pub start: usize,
+    pub len: usize,
 }

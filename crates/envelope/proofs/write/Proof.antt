@@ -26,7 +26,7 @@ same-length : tie.Need-same-length
 same-length c = search needs
 
 returns-2 : tie.Need-returns-2
-returns-2 c = write-fine _ _ _ _ (c .before .before .before .before .before .before .before .parts .ensures) (c .before .before .before .before .before .enum-told .given .1) _ _ _ (c .before .before .before .lay .ensures) (c .unplaced .ensures)
+returns-2 c = write-fine _ _ _ _ (c .before .before .before .before .before .before .before .parts .ensures) (c .before .before .before .before .before .enum-told .given .1) _ (c .before .before .before .lay .result) _ (c .before .before .before .lay .ensures) (c .unplaced .ensures)
 
 pub write-spec : {M : Type 1} → statement M
 write-spec =

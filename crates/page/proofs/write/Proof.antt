@@ -4,18 +4,18 @@ use Prim.Native.Nat.{ℕ, _-_, _*_}
 use native.Mathlib.Omega.{arith}
 use borrow.Author.Needs.{needs}
 use Rattle.wire.proofs.Writes.{denied}
-use Rattle.page.specs.Page.{Counted, pages, unprintable}
-use Rattle.page.specs.Answer.{told, numberOf}
+use Rattle.wire.specs.Answer.{Answer, done, refused, numberOf}
+use Rattle.page.specs.Answer.{told}
 use Rattle.page.specs.declared.PageCount.{PageCount}
 use Rattle.page.specs.declared.PageCount.the-variants.{Pages, Refused}
 use Rattle.page.proofs.Cutting.{refused-count, no-page, page-is, page-start, page-part}
 use Rattle.page.proofs.write.Statement.{statement}
 use Rattle.page.proofs.write.Tie as tie
 
-told-pages : {r : PageCount} {n : ℕ} {k : Counted} → Pages n ≡ r → told r ≡ k → pages n ≡ k
+told-pages : {r : PageCount} {n : ℕ} {k : Answer ℕ} → Pages n ≡ r → told r ≡ k → done n ≡ k
 told-pages p q = rw (← q, ← p)
 
-told-refused : {r : PageCount} {x e : ℕ} {k : Counted} → r ≡ Refused x → e ≡ numberOf (told r) → told r ≡ k → unprintable e ≡ k
+told-refused : {r : PageCount} {x e : ℕ} {k : Answer ℕ} → r ≡ Refused x → e ≡ numberOf (told r) → told r ≡ k → refused e ≡ k
 told-refused p n q = rw (n, ← q, p)
 
 count-requires : tie.Need-count-requires

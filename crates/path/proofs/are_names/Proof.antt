@@ -5,7 +5,7 @@ use Prim.Native.Nat.{_≤_, _-_}
 use native.Mathlib.Omega.{arith}
 use lib.ListN.{length, take, drop}
 use borrow.Author.Needs.{needs}
-use Rattle.path.specs.Every.{every}
+use Rattle.wire.specs.Every.{every}
 use Rattle.path.specs.Names.{partsAfter, parts, isName}
 use Rattle.path.proofs.Names.{names-stop, names-on, names-within, names-last}
 use Rattle.path.proofs.are_names.Statement.{statement}

@@ -6,8 +6,8 @@ use native.Mathlib.Omega.{arith}
 use lib.ListN.{length, drop}
 use borrow.Author.Needs.{needs}
 use borrow.Author.Tests.{eq-eqb, ne-eqb}
-use Rattle.path.specs.Every.{without}
-use Rattle.path.proofs.Every.{every-on, every-stop, every-end}
+use Rattle.wire.specs.Every.{without}
+use Rattle.wire.proofs.Everys.{every-on, every-stop, every-end}
 use Rattle.path.proofs.lacks.Statement.{statement}
 use Rattle.path.proofs.lacks.Tie as tie
 

@@ -2,7 +2,7 @@
 use native.Mathlib.Omega.{arith}
 use borrow.Author.Needs.{needs}
 use Rattle.path.specs.Utf8.{outside, leads, follows, joined, twoBytes}
-use Rattle.path.proofs.Both.{tests}
+use Rattle.wire.proofs.Both.{tests}
 use Rattle.path.proofs.Points.{too-short}
 use Rattle.path.proofs.two_bytes.Statement.{statement}
 use Rattle.path.proofs.two_bytes.Tie as tie

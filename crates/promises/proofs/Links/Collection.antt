@@ -1,6 +1,7 @@
 -- From the contracts of `collection` in the source to the definitions that the demands cite. Assumes nothing.
 use denote.Ref.{now}
-use Rattle.collection.specs.Collection.{opening, offering, joining, Kept}
+use Rattle.wire.specs.Answer.{Kept}
+use Rattle.collection.specs.Collection.{opening, offering, joining}
 use Rattle.collection.specs.Answer.{told, toldKind}
 use Rattle.collection.proofs.open as collection-open
 use Rattle.collection.proofs.offer as collection-offer

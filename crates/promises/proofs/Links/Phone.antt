@@ -1,7 +1,8 @@
 -- From the contracts of `phone` in the source to the definitions that the demands cite. Assumes nothing.
 use mathlib.Core.Path.{_≡_}
 use denote.Ref.{now}
-use Rattle.collection.specs.Collection.{opening, offering, joining, answerOf, bytesAfter}
+use Rattle.wire.specs.Answer.{bytesAfter, answerOf}
+use Rattle.collection.specs.Collection.{opening, offering, joining}
 use Rattle.closing.specs.Finish as finishing
 use Rattle.phone.specs.Packed.{packedAnswer, packedKind, packedFinish}
 use Rattle.phone.proofs.stilt_open as phone-stilt-open
@@ -26,6 +27,6 @@ pub phone-stilt-join-link : (k : Call phone-stilt-join.Kinds.ps phone-stilt-join
 phone-stilt-join-link k = (k .kept .0, k .kept .1)
 
 pub phone-stilt-finish-link : (k : Call phone-stilt-finish.Kinds.ps phone-stilt-finish.Kinds.r phone-stilt-finish.Reads.Learnt)
-    → (k .answer ≡ packedFinish (finishing.outcome (finishing.finished (now (k .args .0)) (now (k .args .1 .0)))))
-    × (k .left .1 .0 ≡ finishing.after (now (k .args .1 .0)) (finishing.finished (now (k .args .0)) (now (k .args .1 .0))))
+    → (k .answer ≡ packedFinish (answerOf (finishing.finishing (now (k .args .0)) (now (k .args .1 .0)))))
+    × (k .left .1 .0 ≡ bytesAfter (now (k .args .1 .0)) (finishing.finishing (now (k .args .0)) (now (k .args .1 .0))))
 phone-stilt-finish-link k = (k .kept .0, k .kept .1)

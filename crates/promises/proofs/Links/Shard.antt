@@ -14,6 +14,5 @@ shard-read-link k = k .kept
 pub shard-write-link : (k : Call shard-write.Kinds.ps shard-write.Kinds.r shard-write.Reads.Learnt)
     → Written 0
     (shardVerdict (now (k .args .0)) (now (k .args .1 .0)) (now (k .args .1 .1 .0)) (now (k .args .1 .1 .1 .0)) (now (k .args .1 .1 .1 .1 .0)) (k .args .1 .1 .1 .1 .1 .0)
-    (record { threshold = k .args .1 .1 .1 .1 .1 .1 .0; count = k .args .1 .1 .1 .1 .1 .1 .1 .0; index = k .args .1 .1 .1 .1 .1 .1 .1 .1 .0 }))
-    (now (k .args .1 .1 .1 .1 .1 .1 .1 .1 .1 .0)) (k .left .1 .1 .1 .1 .1 .1 .1 .1 .1 .0) (k .answer)
+    (k .args .1 .1 .1 .1 .1 .1 .0)) (now (k .args .1 .1 .1 .1 .1 .1 .1 .0)) (k .left .1 .1 .1 .1 .1 .1 .1 .0) (k .answer)
 shard-write-link k = k .kept

@@ -28,7 +28,7 @@ returns c =
     let copied = c .before .before in
     let sized = copied .before .before in
     let wrote = sized .before .before .before in
-    chunk-laid _ _ _ _ _ _ _ (wrote .before .before .before .before .pre) (wrote .write .ensures) (sized .size .ensures) (copied .copy .ensures)
+    chunk-laid _ _ _ _ _ _ (wrote .before .before .before .before .pre) (wrote .write .ensures) (sized .size .ensures) (copied .copy .ensures)
 
 pub chunk-spec : {M : Type 1} → statement M
 chunk-spec =

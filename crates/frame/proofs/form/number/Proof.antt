@@ -18,7 +18,7 @@ same-length : tie.Need-same-length
 same-length c = search needs
 
 returns : tie.Need-returns
-returns c = (omega arith, written-over _ _ _ _ _ (c .before .before .before .write .ensures))
+returns c = (omega arith, written-over _ _ _ _ (c .before .before .before .write .ensures))
 
 pub number-spec : {M : Type 1} → statement M
 number-spec = tie.close (tie.spec write-requires size-requires add-result same-length returns)

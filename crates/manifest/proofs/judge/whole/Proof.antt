@@ -1,7 +1,7 @@
 -- `manifest::judge::whole` meets its contract: each judgement in the order of the keys, then the size. Assumes nothing.
 use Rattle.manifest.specs.Writing.{listed, manifestVerdict}
 use Rattle.entry.proofs.Verdicts.{verdicts}
-use Rattle.path.proofs.Both.{both-hold, first-fails, second-fails}
+use Rattle.wire.proofs.Both.{hold-both, first-fails, second-fails}
 use Rattle.manifest.proofs.Lengths.{outcome-stop, outcome-on, total-fits, judge-large, judge-whole}
 use borrow.Author.Needs.{needs}
 use Rattle.manifest.proofs.judge.whole.Statement.{statement}
@@ -16,11 +16,11 @@ returns c = search verdicts depth 40
 
 returns-2 : tie.Need-returns-2
 unfolding manifestVerdict listed
-returns-2 c = search (verdicts, both-hold, first-fails, second-fails) depth 40
+returns-2 c = search (verdicts, hold-both, first-fails, second-fails) depth 40
 
 returns-3 : tie.Need-returns-3
 unfolding manifestVerdict listed
-returns-3 c = search (verdicts, both-hold, first-fails, second-fails) depth 40
+returns-3 c = search (verdicts, hold-both, first-fails, second-fails) depth 40
 
 list-requires : tie.Need-list-requires
 list-requires c κs = search needs
@@ -33,21 +33,21 @@ enum-told c = search needs
 
 returns-4 : tie.Need-returns-4
 unfolding manifestVerdict listed
-returns-4 c = search (verdicts, both-hold, first-fails, second-fails, outcome-stop) depth 40
+returns-4 c = search (verdicts, hold-both, first-fails, second-fails, outcome-stop) depth 40
 
 agree-requires : tie.Need-agree-requires
 agree-requires c κs = search needs
 
 returns-5 : tie.Need-returns-5
 unfolding manifestVerdict listed
-returns-5 c = search (verdicts, both-hold, first-fails, second-fails, outcome-on) depth 40
+returns-5 c = search (verdicts, hold-both, first-fails, second-fails, outcome-on) depth 40
 
 created-allowed-requires : tie.Need-created-allowed-requires
 created-allowed-requires c κs = search needs
 
 returns-6 : tie.Need-returns-6
 unfolding manifestVerdict listed
-returns-6 c = search (verdicts, both-hold, first-fails, second-fails, outcome-on) depth 40
+returns-6 c = search (verdicts, hold-both, first-fails, second-fails, outcome-on) depth 40
 
 total-requires : tie.Need-total-requires
 total-requires c κs = search total-fits

@@ -2,10 +2,10 @@
 use mathlib.Core.Path.{_≡_, refl}
 use mathlib.Core.Bool.{Bool, true, false, _&&_}
 use borrow.Author.Tests.{lt-ltb, le-ltb, le-leb, lt-leb, eq-eqb, ne-eqb}
 use Rattle.wire.proofs.Branch.{choose-yes, choose-no}
 
-pub both-hold : (t u : Bool) → t ≡ true → u ≡ true → (t && u) ≡ true
-both-hold t u d e = rw d e
+pub hold-both : (t u : Bool) → t ≡ true → u ≡ true → (t && u) ≡ true
+hold-both t u d e = rw d e
 
 pub first-fails : (t u : Bool) → t ≡ false → (t && u) ≡ false
 first-fails t u e = rw e
@@ -18,4 +18,4 @@ pub and-true : (t : Bool) → (t && true) ≡ t
 and-true true = refl
 and-true false = refl
 
-pub ruleset tests = (choose-yes, choose-no, both-hold, first-fails, second-fails, lt-ltb, le-ltb, le-leb, lt-leb, eq-eqb, ne-eqb)
+pub ruleset tests = (choose-yes, choose-no, hold-both, first-fails, second-fails, lt-ltb, le-ltb, le-leb, lt-leb, eq-eqb, ne-eqb)

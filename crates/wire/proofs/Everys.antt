@@ -6,8 +6,8 @@ use Prim.Native.Nat.{ℕ, _+_, _≤_, _<_}
 use native.Mathlib.Numerals.{add-one}
 use lib.ListN.{length, drop, getD, drop-of-length-le}
 use lib.Seq.{drop-cons}
-use Rattle.path.specs.Every.{every}
-use Rattle.path.proofs.Both.{second-fails}
+use Rattle.wire.specs.Every.{every}
+use Rattle.wire.proofs.Both.{second-fails}
 
 module _ {A : Type 0} (test : A → Bool) where
   -- one that fails, wherever it stands
