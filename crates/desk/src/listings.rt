@@ -1,6 +1,7 @@
 // The verbs of manifests and envelopes.
 use crate::parts::part;
 use crate::reply;
+use crate::reply::Reply;
 use crate::said;
 use crate::words;
 use cbor::StepRead;
@@ -13,21 +14,14 @@ use manifest::Manifest;
 use manifest::Seed;
 use wire::Span;
 
-fn seed(s: &[u8], v: Seed, out: &mut [u8], at: usize) -> usize {
+fn seed(s: &[u8], v: Seed, out: &mut Reply, at: usize) -> usize {
     match v {
         Seed::Null => reply::put(out, at, b" null"),
         Seed::Bytes { start, len } => reply::bytes(out, at, part(s, start, len)),
     }
 }
 
-fn sealed(v: bool, out: &mut [u8], at: usize) -> usize {
-    if v {
-        return reply::number(out, at, 1);
-    }
-    reply::number(out, at, 0)
-}
-
-fn created(v: Created, out: &mut [u8], at: usize) -> usize {
+fn created(v: Created, out: &mut Reply, at: usize) -> usize {
     match v {
         Created::Integer { negative, n } => {
             let at = reply::put(out, at, b" i");
@@ -40,7 +34,7 @@ fn created(v: Created, out: &mut [u8], at: usize) -> usize {
     }
 }
 
-fn mtime(v: Mtime, out: &mut [u8], at: usize) -> usize {
+fn mtime(v: Mtime, out: &mut Reply, at: usize) -> usize {
     match v {
         Mtime::Null => reply::put(out, at, b" null"),
         Mtime::Integer { negative, n } => {
@@ -50,11 +44,11 @@ fn mtime(v: Mtime, out: &mut [u8], at: usize) -> usize {
     }
 }
 
-fn bytes(s: &[u8], v: Span, out: &mut [u8], at: usize) -> usize {
+fn bytes(s: &[u8], v: Span, out: &mut Reply, at: usize) -> usize {
     reply::bytes(out, at, part(s, v.start, v.len))
 }
 
-fn file(s: &[u8], v: File, out: &mut [u8], at: usize) -> usize {
+fn file(s: &[u8], v: File, out: &mut Reply, at: usize) -> usize {
     let hash = v.hash;
     let path = v.path;
     let changed = v.mtime;
@@ -64,7 +58,7 @@ fn file(s: &[u8], v: File, out: &mut [u8], at: usize) -> usize {
     mtime(changed, out, at)
 }
 
-fn files(s: &[u8], v: [File; 64], count: usize, out: &mut [u8], at: usize) -> usize {
+fn files(s: &[u8], v: [File; 64], count: usize, out: &mut Reply, at: usize) -> usize {
     let mut next = at;
     let mut i = 0;
     while i < 64 {
@@ -77,19 +71,19 @@ fn files(s: &[u8], v: [File; 64], count: usize, out: &mut [u8], at: usize) -> us
     next
 }
 
-fn manifest_values(s: &[u8], v: Manifest, out: &mut [u8]) -> usize {
+fn manifest_values(s: &[u8], v: Manifest, out: &mut Reply) -> usize {
     let from = v.seed;
     let made = v.created;
     let all = v.files;
     let at = reply::done(out);
     let at = seed(s, from, out, at);
-    let at = sealed(v.sealed, out, at);
+    let at = reply::number(out, at, v.sealed as u64);
     let at = created(made, out, at);
     let at = reply::number(out, at, v.count as u64);
     files(s, all, v.count, out, at)
 }
 
-fn manifest_read(s: &[u8], out: &mut [u8]) -> usize {
+pub(crate) fn manifest_read(s: &[u8], out: &mut Reply) -> usize {
     let r = manifest::read(s);
     let answer = r.answer;
     let StepRead::Past { next: _ } = answer else {
@@ -99,12 +93,7 @@ fn manifest_read(s: &[u8], out: &mut [u8]) -> usize {
     manifest_values(s, value, out)
 }
 
-fn manifest_write(v: Manifest, pool: &[u8], room: &mut [u8], out: &mut [u8]) -> usize {
-    let answer = manifest::write(pool, v, room);
-    reply::wrote(out, answer, room)
-}
-
-fn envelope_read(s: &[u8], out: &mut [u8]) -> usize {
+pub(crate) fn envelope_read(s: &[u8], out: &mut Reply) -> usize {
     let answer = envelope::read(s);
     match answer {
         EnvelopeRead::Envelope {
@@ -121,7 +110,12 @@ fn envelope_read(s: &[u8], out: &mut [u8]) -> usize {
     }
 }
 
-fn envelope_write(manifest: &[u8], payload: &[u8], room: &mut [u8], out: &mut [u8]) -> usize {
+fn manifest_write(v: Manifest, pool: &[u8], room: &mut [u8], out: &mut Reply) -> usize {
+    let answer = manifest::write(pool, v, room);
+    reply::wrote(out, answer, room)
+}
+
+fn envelope_write(manifest: &[u8], payload: &[u8], room: &mut [u8], out: &mut Reply) -> usize {
     let answer = envelope::write(manifest, payload, room);
     match answer {
         EnvelopeWrote::Done { len } => reply::written(out, len, room),
@@ -129,28 +123,22 @@ fn envelope_write(manifest: &[u8], payload: &[u8], room: &mut [u8], out: &mut [u
     }
 }
 
-// The reply to a line of this group; 0 for any other line.
+// The reply to a line of this group that writes into the room; 0 for any other line.
 pub(crate) fn call(
     line: &[u8],
     starts: &[usize],
     pool: &[u8],
     room: &mut [u8],
-    out: &mut [u8],
+    out: &mut Reply,
 ) -> usize {
     if said::asks(line, starts) {
         return manifest_write(said::manifest(line, starts), pool, room, out);
     }
-    let verb = words::verb(
-        line,
-        starts,
-        b"manifest-read b,envelope-read b,envelope-write bbr",
-    );
-    let one = words::bytes(pool, starts, 1);
-    let two = words::bytes(pool, starts, 2);
-    match verb {
-        1 => manifest_read(one, out),
-        2 => envelope_read(one, out),
-        3 => envelope_write(one, two, room, out),
-        _ => 0,
+    let verb = words::verb(line, starts, b"envelope-write bbr");
+    if verb < 1 {
+        return 0;
     }
+    let manifest = words::bytes(pool, starts, 1);
+    let payload = words::bytes(pool, starts, 2);
+    envelope_write(manifest, payload, room, out)
 }

@@ -1,10 +1,14 @@
 // The call desk: each line of standard input names a call of a library, and one line of standard output has its answer.
 // CALLS.md is the protocol. The desk has no rule of its own: what it prints is what the library answered.
 //
-// A verb is a row of its group's table (its name and the form of its arguments), an arm of that group's `call`, and one
-// short function. The buffers are arrays of `main`: `input` for what was read, `pool` for the bytes that a line's words
-// say in hex, `shelf`, `lens` and `before` for the registers, `room` for what a call is lent to write into, and `out` for the replies that are
-// not written out yet.
+// A verb is a row of a table (its name and the form of its arguments) and the arm of that number: in `read` where the call
+// only reads, in `writers` or `listings` where it writes into the room, in `registers` where it is about collections. The
+// short function behind it stands with its like.
+//
+// What lasts from line to line are arrays of `main`: `input` for what was read, `shelf` and `lens` for the registers, and
+// `out` for the replies that are not written out yet. A line has arrays of its own: `pool` for the bytes that its words say
+// in hex, the room, and its reply. They are lent as arrays, whose length is in their type, as far as they are lent whole: a
+// slice that is lent on is asked its length again, and costs the proof twice as much.
 mod forms;
 mod frames;
 mod listings;
@@ -18,16 +22,21 @@ mod shards;
 mod sums;
 mod values;
 mod words;
+mod writers;
 
 use libc::STDOUT_FILENO;
 use reading::CHUNK;
+use reading::Input;
 use reading::LINE_MOST;
-
-// No reply is longer.
-const REPLY_MOST: usize = 300_000;
+use registers::Lens;
+use registers::Shelf;
+use reply::Reply;
 
 // Where more than this waits, the output is written out before the next reply.
 const WAITING_MOST: usize = 100_000;
+
+// The output that waits, with room for one more reply.
+type Waiting = [u8; WAITING_MOST + reply::MOST];
 
 // What is left after all whole lines of the input: where the unfinished line starts, and how much output waits.
 struct Fed {
@@ -35,86 +44,95 @@ struct Fed {
     out: usize,
 }
 
-// The reply of the group of forms, frames or sums that has the line's verb; 0 where none has, or the arguments are not of its form.
-fn call_form(line: &[u8], starts: &[usize], pool: &[u8], room: &mut [u8], out: &mut [u8]) -> usize {
-    let n = forms::call(line, starts, pool, room, out);
-    if n > 0 {
-        return n;
+// The reply to a call that only reads; 0 for any other line.
+fn read(line: &[u8], starts: &[usize], pool: &[u8], out: &mut Reply) -> usize {
+    let verb = words::verb(
+        line,
+        starts,
+        b"varint-read b,\
+          crc b,\
+          sha256 b,\
+          blake2b b,\
+          doc-id b,\
+          frame-read b,\
+          auth-read b,\
+          shard-read b,\
+          manifest-read b,\
+          envelope-read b",
+    );
+    let s = words::bytes(pool, starts, 1);
+    match verb {
+        1 => forms::varint_read(s, out),
+        2 => sums::crc(s, out),
+        3 => sums::sha256(s, out),
+        4 => sums::blake2b(s, out),
+        5 => frames::doc_id(s, out),
+        6 => frames::frame_read(s, out),
+        7 => payloads::auth_read(s, out),
+        8 => shards::shard_read(s, out),
+        9 => listings::manifest_read(s, out),
+        10 => listings::envelope_read(s, out),
+        _ => 0,
     }
-    let n = frames::call(line, starts, pool, room, out);
-    if n > 0 {
-        return n;
-    }
-    sums::call(line, starts, pool, out)
 }
 
-// The same for the groups of payloads.
-fn call_payload(
+// The same for a call that is lent the room.
+fn call(
     line: &[u8],
     starts: &[usize],
     pool: &[u8],
+    shelf: &mut Shelf,
+    lens: &mut Lens,
     room: &mut [u8],
-    out: &mut [u8],
+    out: &mut Reply,
 ) -> usize {
-    let n = payloads::call(line, starts, pool, room, out);
+    let n = registers::call(line, starts, pool, shelf, lens, room, out);
     if n > 0 {
         return n;
     }
-    let n = shards::call(line, starts, pool, room, out);
+    let n = writers::call(line, starts, pool, room, out);
     if n > 0 {
         return n;
     }
     listings::call(line, starts, pool, room, out)
 }
 
-fn call(line: &[u8], starts: &[usize], pool: &[u8], room: &mut [u8], out: &mut [u8]) -> usize {
-    let n = call_form(line, starts, pool, room, out);
+// The reply to a line of these words; 0 where it is of no known form. ROOM is always the last argument, so the room is cut
+// to it here, once for every verb.
+fn answer_words(
+    line: &[u8],
+    starts: &[usize],
+    pool: &[u8],
+    shelf: &mut Shelf,
+    lens: &mut Lens,
+    out: &mut Reply,
+) -> usize {
+    let n = read(line, starts, pool, out);
     if n > 0 {
         return n;
     }
-    call_payload(line, starts, pool, room, out)
+    let mut room = words::room();
+    let lent = words::last_room(line, starts);
+    if lent > words::ROOM_MOST as usize {
+        return 0;
+    }
+    call(line, starts, pool, shelf, lens, &mut room[0..lent], out)
 }
 
-// The reply to a line; 0 where it is of no known form. ROOM is always the last argument, so the room is cut to it here,
-// once for every verb but those of registers, which use the rest of the room.
-fn answer(
-    line: &[u8],
-    pool: &mut [u8],
-    shelf: &mut [u8],
-    lens: &mut [usize],
-    before: &mut [u8],
-    room: &mut [u8],
-    out: &mut [u8],
-) -> usize {
+fn answer(line: &[u8], shelf: &mut Shelf, lens: &mut Lens, out: &mut Reply) -> usize {
     let mut starts = [0usize; words::MOST];
     let n = words::split(line, &mut starts);
     if n >= words::MOST {
         return 0;
     }
+    let mut pool = words::pool();
     let cut = &starts[0..n + 1];
-    words::decode_all(line, cut, pool);
-    let lent = words::last_room(line, cut);
-    if lent > room.len() {
-        return 0;
-    }
-    lend::fill(room, 0, lent, reply::UNTOUCHED);
-    let n = registers::call(line, cut, pool, shelf, lens, before, room, lent, out);
-    if n > 0 {
-        return n;
-    }
-    call(line, cut, pool, &mut room[0..lent], out)
+    words::decode_all(line, cut, &mut pool);
+    answer_words(line, cut, &pool, shelf, lens, out)
 }
 
 // What is printed for a line: nothing for an empty line and for a comment.
-fn respond(
-    line: &[u8],
-    pool: &mut [u8],
-    shelf: &mut [u8],
-    lens: &mut [usize],
-    before: &mut [u8],
-    room: &mut [u8],
-    out: &mut [u8],
-) -> usize {
+fn respond(line: &[u8], shelf: &mut Shelf, lens: &mut Lens, out: &mut Reply) -> usize {
     if line.len() > LINE_MOST {
         return reply::line(out, 0);
     }
@@ -124,7 +142,7 @@ fn respond(
     if line[0] == b'#' {
         return 0;
     }
-    let n = answer(line, pool, shelf, lens, before, room, out);
+    let n = answer(line, shelf, lens, out);
     reply::line(out, n)
 }
 
@@ -140,44 +158,22 @@ fn make_space(out: &[u8], waiting: usize) -> usize {
     waiting
 }
 
-// The index n past at, where that is within the length.
-fn behind(at: usize, n: usize, len: usize) -> usize {
-    if at > len {
-        return at;
-    }
-    if n <= len - at { at + n } else { at }
-}
-
 // How much output waits with the reply to the line behind it.
 fn respond_behind(
     waiting: usize,
     line: &[u8],
-    pool: &mut [u8],
-    shelf: &mut [u8],
-    lens: &mut [usize],
-    before: &mut [u8],
-    room: &mut [u8],
-    out: &mut [u8],
+    shelf: &mut Shelf,
+    lens: &mut Lens,
+    out: &mut Waiting,
 ) -> usize {
     let at = make_space(out, waiting);
-    if at > out.len() {
-        return at;
-    }
-    let n = respond(line, pool, shelf, lens, before, room, &mut out[at..]);
-    behind(at, n, out.len())
+    let mut said = reply::blank();
+    let n = respond(line, shelf, lens, &mut said);
+    reply::give(out, at, &said, n)
 }
 
 // Answers each whole line of input, of which the first `held` bytes have no line feed.
-fn feed(
-    input: &[u8],
-    held: usize,
-    pool: &mut [u8],
-    shelf: &mut [u8],
-    lens: &mut [usize],
-    before: &mut [u8],
-    room: &mut [u8],
-    out: &mut [u8],
-) -> Fed {
+fn feed(input: &[u8], held: usize, shelf: &mut Shelf, lens: &mut Lens, out: &mut Waiting) -> Fed {
     if held > input.len() {
         return Fed { rest: 0, out: 0 };
     }
@@ -186,7 +182,7 @@ fn feed(
     let mut end = parts::until(input, held, b'\n');
     while end < input.len() {
         let line = parts::part(input, at, end - at);
-        waiting = respond_behind(waiting, line, pool, shelf, lens, before, room, out);
+        waiting = respond_behind(waiting, line, shelf, lens, out);
         at = end + 1;
         end = parts::until(input, at, b'\n');
     }
@@ -200,75 +196,36 @@ fn feed(
 // line may lack its line feed.
 fn turn(
     held: &mut usize,
-    input: &mut [u8],
-    pool: &mut [u8],
-    shelf: &mut [u8],
-    lens: &mut [usize],
-    before: &mut [u8],
-    room: &mut [u8],
-    out: &mut [u8],
+    input: &mut Input,
+    shelf: &mut Shelf,
+    lens: &mut Lens,
+    out: &mut Waiting,
 ) -> bool {
     let old = *held;
     let end = reading::read_more(input, old);
     if end <= old {
-        let n = respond(
-            parts::part(input, 0, old),
-            pool,
-            shelf,
-            lens,
-            before,
-            room,
-            out,
-        );
+        let n = respond_behind(0, parts::part(input, 0, old), shelf, lens, out);
         write_out(out, n);
         return false;
     }
-    let fed = feed(
-        parts::part(input, 0, end),
-        old,
-        pool,
-        shelf,
-        lens,
-        before,
-        room,
-        out,
-    );
+    let fed = feed(parts::part(input, 0, end), old, shelf, lens, out);
     *held = reading::keep(input, fed.rest, end);
     write_out(out, fed.out)
 }
 
 // A proved loop has to end, and nothing says that the input does: it counts down from a number that no run uses up.
-fn serve(
-    input: &mut [u8],
-    pool: &mut [u8],
-    shelf: &mut [u8],
-    lens: &mut [usize],
-    before: &mut [u8],
-    room: &mut [u8],
-    out: &mut [u8],
-) {
+fn serve(input: &mut Input, shelf: &mut Shelf, lens: &mut Lens, out: &mut Waiting) {
     let mut held = 0;
     let mut turns = u64::MAX;
-    while turns > 0 && turn(&mut held, input, pool, shelf, lens, before, room, out) {
+    while turns > 0 && turn(&mut held, input, shelf, lens, out) {
         turns -= 1;
     }
 }
 
 fn main() {
-    let mut input = [0u8; LINE_MOST + 1 + CHUNK];
-    let mut pool = [0u8; LINE_MOST / 2];
-    let mut shelf = [0u8; registers::SHELF];
-    let mut lens = [0usize; registers::REGISTERS];
-    let mut before = [0u8; registers::SIZE];
-    let mut room = [0u8; words::ROOM_MOST as usize];
-    let mut out = [0u8; WAITING_MOST + REPLY_MOST];
-    serve(
-        &mut input,
-        &mut pool,
-        &mut shelf,
-        &mut lens,
-        &mut before,
-        &mut room,
-        &mut out,
-    );
+    let mut input = [0; LINE_MOST + 1 + CHUNK];
+    let mut shelf = [0; registers::REGISTERS * registers::SIZE];
+    let mut lens = [0; registers::REGISTERS];
+    let mut out = [0; WAITING_MOST + reply::MOST];
+    serve(&mut input, &mut shelf, &mut lens, &mut out);
 }

@@ -8,6 +8,8 @@ pub(crate) const LINE_MOST: usize = 262_144;
 // How much one read asks for.
 pub(crate) const CHUNK: usize = 65_536;
 
+pub(crate) type Input = [u8; LINE_MOST + 1 + CHUNK];
+
 // Reads once behind the bytes that are held, and answers how many there are then: as many as before at the end of the input.
 pub(crate) fn read_more(input: &mut [u8], held: usize) -> usize {
     if input.len() < CHUNK {

@@ -1,7 +1,9 @@
 // The verbs of collections. A register has its own part of the shelf, of which as many bytes count as `lens` has for it. Before a
-// call that may change a register `before` gets a copy of it, so that the desk can tell what the call changed.
+// call that may change a register it is copied, so that the desk can tell what the call changed.
 use crate::parts::part;
 use crate::reply;
+use crate::reply::Reply;
+use crate::values;
 use crate::words;
 use closing::Finished;
 use closing::Mended;
@@ -13,21 +15,29 @@ pub(crate) const REGISTERS: usize = 4;
 // As many bytes as a line of load may bring, and a line of open may ask for.
 pub(crate) const SIZE: usize = 65_536;
 
-pub(crate) const SHELF: usize = REGISTERS * SIZE;
+pub(crate) type Shelf = [u8; REGISTERS * SIZE];
 
-// Which register word k names.
-fn register(line: &[u8], starts: &[usize], k: usize) -> usize {
-    let word = words::word(line, starts, k);
-    if word.len() < 1 {
-        return 0;
-    }
-    match word[0] {
-        b'b' => 1,
-        b'c' => 2,
-        b'd' => 3,
-        _ => 0,
-    }
+pub(crate) type Lens = [usize; REGISTERS];
+
+// What a register is copied into.
+fn blank() -> [u8; SIZE] {
+    [0; SIZE]
 }
+
+// The rows of the table of verbs, in its order. The seventh is mend.
+const LOAD: usize = 1;
+
+const SAVE: usize = 2;
+
+const OPEN: usize = 3;
+
+const OFFER: usize = 4;
+
+const JOIN: usize = 5;
+
+const FINISH: usize = 6;
+
+const STATUS: usize = 8;
 
 fn place(r: usize) -> usize {
     match r {
@@ -38,189 +48,132 @@ fn place(r: usize) -> usize {
     }
 }
 
-fn len(lens: &[usize], r: usize) -> usize {
-    if r < lens.len() { lens[r] } else { 0 }
+fn len(lens: &Lens, r: usize) -> usize {
+    if r < REGISTERS { lens[r] } else { 0 }
 }
 
-fn set_len(lens: &mut [usize], r: usize, n: usize) {
-    if r < lens.len() {
+fn set_len(lens: &mut Lens, r: usize, n: usize) {
+    if r < REGISTERS {
         lens[r] = n;
     }
 }
 
-fn held<'a>(shelf: &'a [u8], lens: &[usize], r: usize) -> &'a [u8] {
+fn held<'a>(shelf: &'a Shelf, lens: &Lens, r: usize) -> &'a [u8] {
     part(shelf, place(r), len(lens, r))
 }
 
-// Ends the reply of a call that refused: the register must be what it was before.
-fn unchanged(
-    shelf: &[u8],
-    lens: &[usize],
-    r: usize,
-    before: &[u8],
-    out: &mut [u8],
-    at: usize,
-) -> usize {
-    if lend::equal(held(shelf, lens, r), part(before, 0, len(lens, r))) {
-        return at;
-    }
-    reply::put(out, at, b" spilled")
+// Makes s what the register holds.
+fn hold(s: &[u8], r: usize, shelf: &mut Shelf, lens: &mut Lens) {
+    lend::copy(shelf, place(r), s);
+    set_len(lens, r, s.len());
 }
 
-fn load(bytes: &[u8], r: usize, shelf: &mut [u8], lens: &mut [usize], out: &mut [u8]) -> usize {
-    lend::copy(shelf, place(r), bytes);
-    set_len(lens, r, bytes.len());
-    reply::done(out)
+// What a call that may change a register answered.
+enum Changed {
+    Done,
+    Counted { n: u64 },
+    Refused { no: u8 },
 }
 
-fn save(r: usize, shelf: &[u8], lens: &[usize], out: &mut [u8]) -> usize {
-    let at = reply::done(out);
-    reply::bytes(out, at, held(shelf, lens, r))
-}
-
-// What open or join answered.
-fn answered(
-    answer: Answered,
-    shelf: &[u8],
-    lens: &[usize],
-    r: usize,
-    before: &[u8],
-    out: &mut [u8],
-) -> usize {
+fn answered(answer: Answered) -> Changed {
     match answer {
-        Answered::Done => reply::done(out),
-        Answered::Refused { no } => {
-            let at = reply::refused(out, no);
-            unchanged(shelf, lens, r, before, out, at)
-        }
+        Answered::Done => Changed::Done,
+        Answered::Refused { no } => Changed::Refused { no },
     }
 }
 
-fn open_at(id: &[u8], shelf: &mut [u8], at: usize, n: usize) -> Answered {
-    if at > shelf.len() {
-        return Answered::Done;
-    }
-    if n > shelf.len() - at {
-        return Answered::Done;
-    }
-    let end = at + n;
-    collection::open(id, &mut shelf[at..end])
-}
-
-fn open(
-    id: &[u8],
-    n: usize,
-    r: usize,
-    shelf: &mut [u8],
-    lens: &mut [usize],
-    before: &mut [u8],
-    out: &mut [u8],
-) -> usize {
-    lend::fill(shelf, place(r), n, reply::UNTOUCHED);
-    set_len(lens, r, n);
-    lend::copy(before, 0, held(shelf, lens, r));
-    let answer = open_at(id, shelf, place(r), n);
-    answered(answer, shelf, lens, r, before, out)
-}
-
-fn offer_at(frame: &[u8], shelf: &mut [u8], at: usize, n: usize) -> Offered {
-    if at > shelf.len() {
-        return Offered::Done { kind: 0 };
-    }
-    if n > shelf.len() - at {
-        return Offered::Done { kind: 0 };
-    }
-    let end = at + n;
-    collection::offer(&mut shelf[at..end], frame)
-}
-
-fn offer(
-    frame: &[u8],
-    r: usize,
-    shelf: &mut [u8],
-    lens: &[usize],
-    before: &mut [u8],
-    out: &mut [u8],
-) -> usize {
-    lend::copy(before, 0, held(shelf, lens, r));
-    let answer = offer_at(frame, shelf, place(r), len(lens, r));
+fn offered(answer: Offered) -> Changed {
     match answer {
-        Offered::Done { kind } => {
+        Offered::Done { kind } => Changed::Counted { n: kind as u64 },
+        Offered::Refused { no } => Changed::Refused { no },
+    }
+}
+
+fn mended(answer: Mended) -> Changed {
+    match answer {
+        Mended::Done { count } => Changed::Counted { n: count as u64 },
+        Mended::Refused { no } => Changed::Refused { no },
+    }
+}
+
+fn change(verb: usize, given: &[u8], book: &mut [u8]) -> Changed {
+    match verb {
+        OPEN => answered(collection::open(given, book)),
+        OFFER => offered(collection::offer(book, given)),
+        JOIN => answered(collection::join(book, given)),
+        _ => mended(closing::mend(book)),
+    }
+}
+
+// The reply of a call that may change a register: where it refused, the register must be what it was before.
+fn tell(answer: Changed, book: &[u8], before: &[u8], out: &mut Reply) -> usize {
+    match answer {
+        Changed::Done => reply::done(out),
+        Changed::Counted { n } => {
             let at = reply::done(out);
-            reply::number(out, at, kind as u64)
+            reply::number(out, at, n)
         }
-        Offered::Refused { no } => {
+        Changed::Refused { no } => {
             let at = reply::refused(out, no);
-            unchanged(shelf, lens, r, before, out, at)
+            if lend::equal(book, before) {
+                return at;
+            }
+            reply::put(out, at, b" spilled")
         }
     }
 }
 
-fn join_at(from: &[u8], shelf: &mut [u8], at: usize, n: usize) -> Answered {
+fn change_and_tell(verb: usize, given: &[u8], book: &mut [u8], out: &mut Reply) -> usize {
+    let mut before = blank();
+    lend::copy(&mut before, 0, book);
+    let answer = change(verb, given, book);
+    tell(answer, book, part(&before, 0, book.len()), out)
+}
+
+fn change_register(
+    verb: usize,
+    given: &[u8],
+    r: usize,
+    shelf: &mut [u8],
+    lens: &Lens,
+    out: &mut Reply,
+) -> usize {
+    let at = place(r);
+    let n = len(lens, r);
     if at > shelf.len() {
-        return Answered::Done;
+        return 0;
     }
     if n > shelf.len() - at {
-        return Answered::Done;
+        return 0;
     }
     let end = at + n;
-    collection::join(&mut shelf[at..end], from)
+    change_and_tell(verb, given, &mut shelf[at..end], out)
 }
 
-// The second register is read from a copy in the room, so that one register may be joined with itself.
-fn join(
-    r: usize,
-    other: usize,
-    shelf: &mut [u8],
-    lens: &[usize],
-    before: &mut [u8],
-    room: &mut [u8],
-    out: &mut [u8],
-) -> usize {
-    lend::copy(before, 0, held(shelf, lens, r));
-    lend::copy(room, 0, held(shelf, lens, other));
-    let from = part(room, 0, len(lens, other));
-    let answer = join_at(from, shelf, place(r), len(lens, r));
-    answered(answer, shelf, lens, r, before, out)
+// The second register is read from a copy, so that one register may be joined with itself.
+fn join(r: usize, other: usize, shelf: &mut Shelf, lens: &Lens, out: &mut Reply) -> usize {
+    let mut copy = blank();
+    lend::copy(&mut copy, 0, held(shelf, lens, other));
+    let from = part(&copy, 0, len(lens, other));
+    change_register(JOIN, from, r, shelf, lens, out)
 }
 
-fn finish(r: usize, shelf: &[u8], lens: &[usize], room: &mut [u8], out: &mut [u8]) -> usize {
-    let answer = closing::finish(held(shelf, lens, r), room);
+fn save(book: &[u8], out: &mut Reply) -> usize {
+    let at = reply::done(out);
+    reply::bytes(out, at, book)
+}
+
+fn finish(book: &[u8], room: &mut [u8], out: &mut Reply) -> usize {
+    let answer = closing::finish(book, room);
     match answer {
         Finished::Done { len } => reply::written(out, len, room),
         Finished::Refused { no, place } => reply::not_written(out, no, place as u64, room),
     }
 }
 
-fn mend_at(shelf: &mut [u8], at: usize, n: usize) -> Mended {
-    if at > shelf.len() {
-        return Mended::Done { count: 0 };
-    }
-    if n > shelf.len() - at {
-        return Mended::Done { count: 0 };
-    }
-    let end = at + n;
-    closing::mend(&mut shelf[at..end])
-}
-
-fn mend(r: usize, shelf: &mut [u8], lens: &[usize], before: &mut [u8], out: &mut [u8]) -> usize {
-    lend::copy(before, 0, held(shelf, lens, r));
-    let answer = mend_at(shelf, place(r), len(lens, r));
-    match answer {
-        Mended::Done { count } => {
-            let at = reply::done(out);
-            reply::number(out, at, count as u64)
-        }
-        Mended::Refused { no } => {
-            let at = reply::refused(out, no);
-            unchanged(shelf, lens, r, before, out, at)
-        }
-    }
-}
-
 // The status line has its own line feed, which is the reply's.
-fn status(r: usize, shelf: &[u8], lens: &[usize], out: &mut [u8]) -> usize {
-    let answer = status::status(held(shelf, lens, r), out);
+fn status(book: &[u8], out: &mut Reply) -> usize {
+    let answer = status::status(book, out);
     match answer {
         wire::Wrote::Done { len } => {
             if len > 0 {
@@ -232,39 +185,54 @@ fn status(r: usize, shelf: &[u8], lens: &[usize], out: &mut [u8]) -> usize {
     }
 }
 
-// The reply to a line of this group; 0 for any other line. Of the room, `lent` bytes are what the line asks for.
+// The reply of a verb that changes nothing, or nothing more; 0 for any other.
+fn look(verb: usize, book: &[u8], room: &mut [u8], out: &mut Reply) -> usize {
+    match verb {
+        LOAD => reply::done(out),
+        SAVE => save(book, out),
+        FINISH => finish(book, room, out),
+        STATUS => status(book, out),
+        _ => 0,
+    }
+}
+
+// What load and open make a register hold before all else.
+fn prepare(verb: usize, bytes: &[u8], room: &[u8], r: usize, shelf: &mut Shelf, lens: &mut Lens) {
+    match verb {
+        LOAD => hold(bytes, r, shelf, lens),
+        OPEN => hold(room, r, shelf, lens),
+        _ => {}
+    }
+}
+
+// The reply to a line of this group; 0 for any other line.
 pub(crate) fn call(
     line: &[u8],
     starts: &[usize],
     pool: &[u8],
-    shelf: &mut [u8],
-    lens: &mut [usize],
-    before: &mut [u8],
+    shelf: &mut Shelf,
+    lens: &mut Lens,
     room: &mut [u8],
-    lent: usize,
-    out: &mut [u8],
+    out: &mut Reply,
 ) -> usize {
     let verb = words::verb(
         line,
         starts,
         b"load gl,save g,open gbr,offer gb,join gg,finish gr,mend g,status g",
     );
-    let r = register(line, starts, 1);
-    let bytes = words::bytes(pool, starts, 2);
-    match verb {
-        1 => load(bytes, r, shelf, lens, out),
-        2 => save(r, shelf, lens, out),
-        3 => open(bytes, lent, r, shelf, lens, before, out),
-        4 => offer(bytes, r, shelf, lens, before, out),
-        5 => join(r, register(line, starts, 2), shelf, lens, before, room, out),
-        6 => {
-            if lent > room.len() {
-                return 0;
-            }
-            finish(r, shelf, lens, &mut room[0..lent], out)
-        }
-        7 => mend(r, shelf, lens, before, out),
-        8 => status(r, shelf, lens, out),
-        _ => 0,
+    if verb < 1 {
+        return 0;
     }
+    let r = values::register(words::word(line, starts, 1));
+    let bytes = words::bytes(pool, starts, 2);
+    prepare(verb, bytes, room, r, shelf, lens);
+    let n = look(verb, held(shelf, lens, r), room, out);
+    if n > 0 {
+        return n;
+    }
+    if verb == JOIN {
+        let other = values::register(words::word(line, starts, 2));
+        return join(r, other, shelf, lens, out);
+    }
+    change_register(verb, bytes, r, shelf, lens, out)
 }

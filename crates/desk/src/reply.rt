@@ -3,12 +3,24 @@
 ghost use mathlib.Core.Path.{_≡_};
 ghost use lib.ListN.{length, replicate};
 ghost use Rattle.lend.specs.Same.{same};
+use crate::parts::part;
 use wire::Wrote;
 
 // What the room holds before a call. A byte that a call may not change holds it afterwards.
 pub(crate) const UNTOUCHED: u8 = 0xA5;
 
-pub(crate) fn put(out: &mut [u8], at: usize, s: &[u8]) -> usize {
+// No reply is longer.
+pub(crate) const MOST: usize = 300_000;
+
+pub(crate) type Reply = [u8; MOST];
+
+// A call gives the array, since a large one that is written out here and lent as a slice takes the prover seconds.
+pub(crate) fn blank() -> Reply {
+    [0; MOST]
+}
+
+// As put, into any output.
+fn append(out: &mut [u8], at: usize, s: &[u8]) -> usize {
     if at <= out.len() {
         if s.len() <= out.len() - at {
             lend::copy(out, at, s);
@@ -18,23 +30,40 @@ pub(crate) fn put(out: &mut [u8], at: usize, s: &[u8]) -> usize {
     at
 }
 
-fn decimal(out: &mut [u8], at: usize, n: u64) -> usize {
+pub(crate) fn put(out: &mut Reply, at: usize, s: &[u8]) -> usize {
+    append(out, at, s)
+}
+
+fn byte(out: &mut Reply, at: usize, b: u8) -> usize {
+    if at < MOST {
+        out[at] = b;
+        return at + 1;
+    }
+    at
+}
+
+fn decimal(out: &mut Reply, at: usize, n: u64) -> usize {
     let mut text = [0u8; 20];
     let k = io::decimal(n, &mut text);
     put(out, at, &text[..k])
 }
 
-// An answer of 0, which its values follow.
-pub(crate) fn done(out: &mut [u8]) -> usize {
-    put(out, 0, b"0")
+// Puts the first n bytes of a reply behind the output that waits.
+pub(crate) fn give(out: &mut [u8], at: usize, said: &Reply, n: usize) -> usize {
+    append(out, at, part(said, 0, n))
 }
 
-pub(crate) fn refused(out: &mut [u8], no: u8) -> usize {
+// An answer of 0, which its values follow.
+pub(crate) fn done(out: &mut Reply) -> usize {
+    byte(out, 0, b'0')
+}
+
+pub(crate) fn refused(out: &mut Reply, no: u8) -> usize {
     decimal(out, 0, no as u64)
 }
 
 // A refusal that may have a place: 01 gives one with 15, 16 and 21.
-pub(crate) fn refused_at(out: &mut [u8], no: u8, place: u64) -> usize {
+pub(crate) fn refused_at(out: &mut Reply, no: u8, place: u64) -> usize {
     let at = refused(out, no);
     match no {
         wire::PAGE_DISPUTED | wire::PAGE_MISSING | wire::BAD_CONTENTS => number(out, at, place),
@@ -42,21 +71,21 @@ pub(crate) fn refused_at(out: &mut [u8], no: u8, place: u64) -> usize {
     }
 }
 
-pub(crate) fn number(out: &mut [u8], at: usize, n: u64) -> usize {
-    let next = put(out, at, b" ");
+pub(crate) fn number(out: &mut Reply, at: usize, n: u64) -> usize {
+    let next = byte(out, at, b' ');
     decimal(out, next, n)
 }
 
 // A number in width hex digits.
-pub(crate) fn hex_digits(out: &mut [u8], at: usize, n: u64, width: usize) -> usize {
+pub(crate) fn hex_digits(out: &mut Reply, at: usize, n: u64, width: usize) -> usize {
     let mut text = [0u8; 16];
     let k = io::hex(n, width, &mut text);
     put(out, at, &text[..k])
 }
 
 // A number as bytes, big-endian: width hex digits.
-pub(crate) fn digits(out: &mut [u8], at: usize, n: u64, width: usize) -> usize {
-    let next = put(out, at, b" ");
+pub(crate) fn digits(out: &mut Reply, at: usize, n: u64, width: usize) -> usize {
+    let next = byte(out, at, b' ');
     hex_digits(out, next, n, width)
 }
 
@@ -70,12 +99,12 @@ fn digit(d: u8) -> u8 {
     b'?'
 }
 
-fn pair(out: &mut [u8], at: usize, b: u8) -> usize {
+fn pair(out: &mut Reply, at: usize, b: u8) -> usize {
     let two = [digit(b / 16), digit(b % 16)];
     put(out, at, &two)
 }
 
-fn hex(out: &mut [u8], at: usize, s: &[u8]) -> usize {
+fn hex(out: &mut Reply, at: usize, s: &[u8]) -> usize {
     let mut next = at;
     let mut i = 0;
     while i < s.len() {
@@ -85,24 +114,28 @@ fn hex(out: &mut [u8], at: usize, s: &[u8]) -> usize {
     next
 }
 
+fn one_more(out: &mut Reply, at: usize, n: u64) -> usize {
+    if n == u64::MAX {
+        return put(out, at, b"18446744073709551616");
+    }
+    decimal(out, at, n + 1)
+}
+
 // The number n, or -1 - n where it is negative.
-pub(crate) fn signed(out: &mut [u8], at: usize, negative: bool, n: u64) -> usize {
+pub(crate) fn signed(out: &mut Reply, at: usize, negative: bool, n: u64) -> usize {
     if negative {
-        let next = put(out, at, b"-");
-        if n == u64::MAX {
-            return put(out, next, b"18446744073709551616");
-        }
-        return decimal(out, next, n + 1);
+        let next = byte(out, at, b'-');
+        return one_more(out, next, n);
     }
     decimal(out, at, n)
 }
 
-pub(crate) fn bytes(out: &mut [u8], at: usize, s: &[u8]) -> usize {
-    let next = put(out, at, b" ");
+pub(crate) fn bytes(out: &mut Reply, at: usize, s: &[u8]) -> usize {
+    let next = byte(out, at, b' ');
     if s.len() > 0 {
         return hex(out, next, s);
     }
-    put(out, next, b"-")
+    byte(out, next, b'-')
 }
 
 // Nothing that the libraries print shows a wrong answer of this one, so its contract is whole.
@@ -119,30 +152,29 @@ fn is_untouched(s: &[u8]) -> bool
     true
 }
 
-// Ends a reply: kept is what the call was lent and may not have changed.
-pub(crate) fn end(out: &mut [u8], at: usize, kept: &[u8]) -> usize {
-    if is_untouched(kept) {
-        return at;
+// Ends a reply: of the room, all but the first len bytes were lent and may not have changed.
+fn end(out: &mut Reply, at: usize, len: usize, room: &[u8]) -> usize {
+    if len <= room.len() {
+        if is_untouched(&room[len..]) {
+            return at;
+        }
     }
     put(out, at, b" spilled")
 }
 
-pub(crate) fn written(out: &mut [u8], len: usize, room: &[u8]) -> usize {
+pub(crate) fn written(out: &mut Reply, len: usize, room: &[u8]) -> usize {
     let at = done(out);
-    if len > room.len() {
-        return put(out, at, b" - spilled");
-    }
-    let next = bytes(out, at, &room[0..len]);
-    end(out, next, &room[len..])
+    let next = bytes(out, at, part(room, 0, len));
+    end(out, next, len, room)
 }
 
-pub(crate) fn not_written(out: &mut [u8], no: u8, place: u64, room: &[u8]) -> usize {
+pub(crate) fn not_written(out: &mut Reply, no: u8, place: u64, room: &[u8]) -> usize {
     let at = refused_at(out, no, place);
-    end(out, at, room)
+    end(out, at, 0, room)
 }
 
 // The whole reply of a verb that writes into the room.
-pub(crate) fn wrote(out: &mut [u8], answer: Wrote, room: &[u8]) -> usize {
+pub(crate) fn wrote(out: &mut Reply, answer: Wrote, room: &[u8]) -> usize {
     match answer {
         Wrote::Done { len } => written(out, len, room),
         Wrote::Refused { no } => not_written(out, no, 0, room),
@@ -150,9 +182,9 @@ pub(crate) fn wrote(out: &mut [u8], answer: Wrote, room: &[u8]) -> usize {
 }
 
 // Ends the reply's line; a reply of no bytes is that of a line which is not understood.
-pub(crate) fn line(out: &mut [u8], at: usize) -> usize {
+pub(crate) fn line(out: &mut Reply, at: usize) -> usize {
     if at > 0 {
-        return put(out, at, b"\n");
+        return byte(out, at, b'\n');
     }
     put(out, 0, b"?\n")
 }

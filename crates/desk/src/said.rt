@@ -27,7 +27,9 @@ fn count(line: &[u8], starts: &[usize]) -> usize {
 const FORM: [u8; 264] =
     *b"zscmbbntbbntbbntbbntbbntbbntbbntbbntbbntbbntbbntbbntbbntbbntbbntbbntbbntbbntbbntbbntbbntbbntbbntbbntbbntbbntbbntbbntbbntbbntbbntbbntbbntbbntbbntbbntbbntbbntbbntbbntbbntbbntbbntbbntbbntbbntbbntbbntbbntbbntbbntbbntbbntbbntbbntbbntbbntbbntbbntbbntbbntbbntbbntbbntbbnt";
 
-fn asks_with(line: &[u8], starts: &[usize], n: usize) -> bool {
+// Whether the line is a call of manifest-write, of its form.
+pub(crate) fn asks(line: &[u8], starts: &[usize]) -> bool {
+    let n = count(line, starts);
     if n > MOST {
         return false;
     }
@@ -41,11 +43,6 @@ fn asks_with(line: &[u8], starts: &[usize], n: usize) -> bool {
         return false;
     }
     values::is_at_most(words::word(line, starts, 4 * n + 5), words::ROOM_MOST)
-}
-
-// Whether the line is a call of manifest-write, of its form.
-pub(crate) fn asks(line: &[u8], starts: &[usize]) -> bool {
-    asks_with(line, starts, count(line, starts))
 }
 
 fn seed(line: &[u8], starts: &[usize]) -> Seed {

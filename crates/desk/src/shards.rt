@@ -1,29 +1,32 @@
 // The verbs of shard payloads.
 use crate::parts::part;
+use crate::payloads;
 use crate::reply;
+use crate::reply::Reply;
 use crate::words;
 use shard::Content;
 use shard::Quorum;
 use shard::ShardRead;
 use wire::Span;
+use wire::Wrote;
 
-fn span(s: &[u8], v: Span, out: &mut [u8], at: usize) -> usize {
+fn span(s: &[u8], v: Span, out: &mut Reply, at: usize) -> usize {
     reply::bytes(out, at, part(s, v.start, v.len))
 }
 
-fn content(s: &[u8], v: Content, out: &mut [u8], at: usize) -> usize {
+fn content(s: &[u8], v: Content, out: &mut Reply, at: usize) -> usize {
     let at = span(s, v.kind, out, at);
     let at = span(s, v.share, out, at);
     reply::number(out, at, v.length)
 }
 
-fn quorum(v: Quorum, out: &mut [u8], at: usize) -> usize {
+fn quorum(v: Quorum, out: &mut Reply, at: usize) -> usize {
     let at = reply::number(out, at, v.threshold);
     let at = reply::number(out, at, v.count);
     reply::number(out, at, v.index)
 }
 
-fn shard_read(s: &[u8], out: &mut [u8]) -> usize {
+pub(crate) fn shard_read(s: &[u8], out: &mut Reply) -> usize {
     let answer = shard::read(s);
     match answer {
         ShardRead::Value {
@@ -34,10 +37,7 @@ fn shard_read(s: &[u8], out: &mut [u8]) -> usize {
             quorum: q,
             next: _,
         } => {
-            let at = reply::done(out);
-            let at = reply::bytes(out, at, part(s, public, 32));
-            let at = reply::bytes(out, at, part(s, sig, 64));
-            let at = reply::bytes(out, at, part(s, hash, 32));
+            let at = payloads::signed_by(s, public, sig, hash, out);
             let at = content(s, v, out, at);
             quorum(q, out, at)
         }
@@ -45,14 +45,8 @@ fn shard_read(s: &[u8], out: &mut [u8]) -> usize {
     }
 }
 
-fn shard_write(
-    line: &[u8],
-    starts: &[usize],
-    pool: &[u8],
-    room: &mut [u8],
-    out: &mut [u8],
-) -> usize {
-    let answer = shard::write(
+pub(crate) fn shard_write(line: &[u8], starts: &[usize], pool: &[u8], room: &mut [u8]) -> Wrote {
+    shard::write(
         words::bytes(pool, starts, 1),
         words::bytes(pool, starts, 2),
         words::bytes(pool, starts, 3),
@@ -65,18 +59,11 @@ fn shard_write(
             index: words::number(line, starts, 9),
         },
         room,
-    );
-    reply::wrote(out, answer, room)
+    )
 }
 
-fn shard_signed(
-    line: &[u8],
-    starts: &[usize],
-    pool: &[u8],
-    room: &mut [u8],
-    out: &mut [u8],
-) -> usize {
-    let answer = shard::signed(
+pub(crate) fn shard_signed(line: &[u8], starts: &[usize], pool: &[u8], room: &mut [u8]) -> Wrote {
+    shard::signed(
         words::bytes(pool, starts, 1),
         words::bytes(pool, starts, 2),
         words::bytes(pool, starts, 3),
@@ -88,27 +75,5 @@ fn shard_signed(
             index: words::number(line, starts, 8),
         },
         room,
-    );
-    reply::wrote(out, answer, room)
-}
-
-// The reply to a line of this group; 0 for any other line.
-pub(crate) fn call(
-    line: &[u8],
-    starts: &[usize],
-    pool: &[u8],
-    room: &mut [u8],
-    out: &mut [u8],
-) -> usize {
-    let verb = words::verb(
-        line,
-        starts,
-        b"shard-read b,shard-write bbbbbnnnnr,shard-signed bbbbnnnnr",
-    );
-    match verb {
-        1 => shard_read(words::bytes(pool, starts, 1), out),
-        2 => shard_write(line, starts, pool, room, out),
-        3 => shard_signed(line, starts, pool, room, out),
-        _ => 0,
-    }
+    )
 }

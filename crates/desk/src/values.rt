@@ -1,9 +1,9 @@
 // What one word says: a number in decimal, or bytes in hex.
-ghost use Prim.Native.Nat.{_<_};
+ghost use mathlib.Core.Path.{_≡_};
 
 const DIGITS_MOST: usize = 40;
 
-pub(crate) enum Parsed {
+enum Parsed {
     Is { n: u64 },
     Not,
 }
@@ -25,7 +25,7 @@ fn longer(n: u64, digit: u8) -> Parsed {
     Parsed::Is { n: n * 10 + d }
 }
 
-pub(crate) fn decimal(word: &[u8]) -> Parsed {
+fn decimal(word: &[u8]) -> Parsed {
     if word.len() < 1 {
         return Parsed::Not;
     }
@@ -80,7 +80,8 @@ pub(crate) fn is_signed(word: &[u8]) -> bool {
     is_at_most(word, u64::MAX)
 }
 
-fn magnitude(word: &[u8]) -> u64 {
+// The number that the word says; 0 where it is none.
+pub(crate) fn number(word: &[u8]) -> u64 {
     let said = decimal(word);
     match said {
         Parsed::Is { n } => n,
@@ -91,7 +92,7 @@ fn magnitude(word: &[u8]) -> u64 {
 // What the word says, where it is such a number. The negative of 0 is 0.
 pub(crate) fn signed(word: &[u8]) -> Said {
     if has_minus(word) {
-        let n = magnitude(behind_first(word));
+        let n = number(behind_first(word));
         if n > 0 {
             return Said {
                 negative: true,
@@ -102,17 +103,21 @@ pub(crate) fn signed(word: &[u8]) -> Said {
     }
     Said {
         negative: false,
-        n: magnitude(word),
+        n: number(word),
     }
 }
 
-pub(crate) fn is_register(word: &[u8]) -> bool {
+// Which register the word names; 4 where it names none.
+pub(crate) fn register(word: &[u8]) -> usize {
     if word.len() != 1 {
-        return false;
+        return 4;
     }
     match word[0] {
-        b'a'..=b'd' => true,
-        _ => false,
+        b'a' => 0,
+        b'b' => 1,
+        b'c' => 2,
+        b'd' => 3,
+        _ => 4,
     }
 }
 
@@ -129,17 +134,30 @@ pub(crate) fn is_created(word: &[u8]) -> bool {
     }
 }
 
+// The number with one hex digit more; as it was where that is no digit, or no room is left.
+fn longer_hex(n: u64, digit: u8) -> u64 {
+    if digit > 15 {
+        return n;
+    }
+    if n > u64::MAX / 16 {
+        return n;
+    }
+    n * 16 + wide(digit)
+}
+
 // The 64 bits that 16 hex digits say.
 pub(crate) fn double(digits: &[u8]) -> u64 {
-    let mut b = [0u8; 8];
-    decode(digits, &mut b);
-    let high = wide(b[0]) * 16777216 + wide(b[1]) * 65536 + wide(b[2]) * 256 + wide(b[3]);
-    let low = wide(b[4]) * 16777216 + wide(b[5]) * 65536 + wide(b[6]) * 256 + wide(b[7]);
-    high * 4294967296 + low
+    let mut n = 0;
+    let mut i = 0;
+    while i < digits.len() {
+        n = longer_hex(n, digit(digits[i]));
+        i += 1;
+    }
+    n
 }
 
 fn wide(b: u8) -> u64
-    ensures { λ r. ⌜ r < 256 ⌝ }
+    ensures { λ r. ⌜ r ≡ b ⌝ }
 {
     b as u64
 }

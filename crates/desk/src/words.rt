@@ -6,8 +6,9 @@
 
 use crate::parts::part;
 use crate::parts::until;
+use crate::reading::LINE_MOST;
+use crate::reply::UNTOUCHED;
 use crate::values;
-use crate::values::Parsed;
 use wire::Span;
 
 // The letters of a form, which say what a verb asks of each argument, as b"br" for BYTES ROOM.
@@ -33,6 +34,15 @@ const REGISTER: u8 = b'g';
 const LOADED: u8 = b'l';
 
 pub(crate) const ROOM_MOST: u64 = 65_536;
+
+// What a call is lent, of which ROOM says how much.
+pub(crate) fn room() -> [u8; ROOM_MOST as usize] {
+    [UNTOUCHED; ROOM_MOST as usize]
+}
+
+pub(crate) fn pool() -> [u8; LINE_MOST / 2] {
+    [0; LINE_MOST / 2]
+}
 
 // No line that is understood has as many words.
 pub(crate) const MOST: usize = 512;
@@ -110,11 +120,7 @@ pub(crate) fn split(line: &[u8], starts: &mut [usize]) -> usize {
 
 // The number that word k says, where it is one.
 pub(crate) fn number(line: &[u8], starts: &[usize], k: usize) -> u64 {
-    let said = values::decimal(word(line, starts, k));
-    match said {
-        Parsed::Is { n } => n,
-        Parsed::Not => 0,
-    }
+    values::number(word(line, starts, k))
 }
 
 // What the last word asks for as a ROOM; 0 where it is none.
@@ -155,7 +161,7 @@ fn fits(word: &[u8], kind: u8) -> bool {
         CREATED => values::is_created(word),
         MANIFEST_COUNT => values::is_at_most(word, 65),
         TIME_OR_NULL => lend::equal(word, b"null") || values::is_signed(word),
-        REGISTER => values::is_register(word),
+        REGISTER => values::register(word) < 4,
         LOADED => values::is_bytes(word) && word.len() <= 131_072,
         _ => false,
     }

@@ -1,5 +1,4 @@
--- Safe and ending: a line ends at or behind its start, so what is left of the input falls; each buffer keeps its length.
-use mathlib.Core.Path.{_≡_}
+-- Safe and ending: a line ends at or behind its start, so what is left of the input falls.
 use Prim.Native.Nat.{_≤_, _-_}
 use borrow.Author.Needs.{needs}
 use lib.ListN.{length}
@@ -7,18 +6,12 @@ use Rattle.desk.proofs.feed.Statement.{statement}
 use Rattle.desk.proofs.feed.Tie as tie
 
 abbrev Inv-loop : tie.InvT-loop
-Inv-loop input held pool₀ shelf₀ lens₀ before₀ room₀ out₀ waiting₀ at₀ end₀ pool shelf lens before room out waiting at end =
+Inv-loop input held shelf₀ lens₀ out₀ waiting₀ at₀ end₀ shelf lens out waiting at end =
     (at ≤ end) ×
-    (end ≤ length input) ×
-    (length pool ≡ length pool₀) ×
-    (length shelf ≡ length shelf₀) ×
-    (length lens ≡ length lens₀) ×
-    (length before ≡ length before₀) ×
-    (length room ≡ length room₀) ×
-    (length out ≡ length out₀)
+    (end ≤ length input)
 
 abbrev μ-loop : tie.MeasureT-loop
-μ-loop input held pool₀ shelf₀ lens₀ before₀ room₀ out₀ waiting₀ at₀ end₀ pool shelf lens before room out waiting at end = length input - end
+μ-loop input held shelf₀ lens₀ out₀ waiting₀ at₀ end₀ shelf lens out waiting at end = length input - end
 
 returns : tie.Need-returns Inv-loop μ-loop
 returns c = search needs
@@ -50,24 +43,6 @@ loop-less c = search needs
 loop-again : tie.Need-loop-again Inv-loop μ-loop
 loop-again c = search needs
 
-same-length : tie.Need-same-length Inv-loop μ-loop
-same-length c = search needs
-
-same-length-2 : tie.Need-same-length-2 Inv-loop μ-loop
-same-length-2 c = search needs
-
-same-length-3 : tie.Need-same-length-3 Inv-loop μ-loop
-same-length-3 c = search needs
-
-same-length-4 : tie.Need-same-length-4 Inv-loop μ-loop
-same-length-4 c = search needs
-
-same-length-5 : tie.Need-same-length-5 Inv-loop μ-loop
-same-length-5 c = search needs
-
-same-length-6 : tie.Need-same-length-6 Inv-loop μ-loop
-same-length-6 c = search needs
-
 returns-2 : tie.Need-returns-2 Inv-loop μ-loop
 returns-2 c = search needs
 
@@ -87,10 +62,4 @@ feed-spec =
     until-requires-2
     loop-less
     loop-again
-    same-length
-    same-length-2
-    same-length-3
-    same-length-4
-    same-length-5
-    same-length-6
     returns-2)

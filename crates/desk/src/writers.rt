@@ -1,0 +1,83 @@
+// The verbs that write into the room, but for those of manifests, envelopes and registers.
+use crate::frames;
+use crate::reply;
+use crate::reply::Reply;
+use crate::shards;
+use crate::words;
+use wire::Wrote;
+
+// The verbs of one argument.
+fn of_one(verb: usize, s: &[u8], room: &mut [u8]) -> Wrote {
+    match verb {
+        1 => text::base64_read(s, room),
+        2 => text::base64_write(s, room),
+        3 => text::zbase32_read(s, room),
+        _ => text::zbase32_write(s, room),
+    }
+}
+
+// The verbs of two.
+fn of_two(verb: usize, one: &[u8], two: &[u8], room: &mut [u8]) -> Wrote {
+    match verb {
+        5 => slip::key(one, two, room),
+        6 => slip::auth(one, two, room),
+        _ => auth::signed(one, two, room),
+    }
+}
+
+// The verbs that take numbers, or more.
+fn of_more(verb: usize, line: &[u8], starts: &[usize], pool: &[u8], room: &mut [u8]) -> Wrote {
+    let one = words::bytes(pool, starts, 1);
+    match verb {
+        8 => varint::write(words::number(line, starts, 1), room, 0),
+        9 => frames::page_write(line, starts, one, room),
+        10 => auth::write(
+            one,
+            words::bytes(pool, starts, 2),
+            words::bytes(pool, starts, 3),
+            room,
+        ),
+        11 => shards::shard_write(line, starts, pool, room),
+        _ => shards::shard_signed(line, starts, pool, room),
+    }
+}
+
+fn write(verb: usize, line: &[u8], starts: &[usize], pool: &[u8], room: &mut [u8]) -> Wrote {
+    let one = words::bytes(pool, starts, 1);
+    match verb {
+        1..=4 => of_one(verb, one, room),
+        5..=7 => of_two(verb, one, words::bytes(pool, starts, 2), room),
+        _ => of_more(verb, line, starts, pool, room),
+    }
+}
+
+// The reply to a line of this group; 0 for any other line.
+pub(crate) fn call(
+    line: &[u8],
+    starts: &[usize],
+    pool: &[u8],
+    room: &mut [u8],
+    out: &mut Reply,
+) -> usize {
+    let verb = words::verb(
+        line,
+        starts,
+        b"base64-read br,\
+          base64-write br,\
+          zbase32-read br,\
+          zbase32-write br,\
+          key-write bbr,\
+          auth-frame-write bbr,\
+          auth-signed bbr,\
+          varint-write nr,\
+          page-write bnnr,\
+          auth-write bbbr,\
+          shard-write bbbbbnnnnr,\
+          shard-signed bbbbnnnnr",
+    );
+    if verb < 1 {
+        return 0;
+    }
+    let answer = write(verb, line, starts, pool, room);
+    reply::wrote(out, answer, room)
+}
