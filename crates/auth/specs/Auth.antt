@@ -4,6 +4,7 @@ use mathlib.Core.List.{List, [], _∷_, _++_}
 use lib.Dec.{eqb}
 use lib.ListN.{length}
 use Rattle.wire.specs.Answer.{Answer, done, then, demand, Got, got}
+use Rattle.wire.specs.Ascii.{ascii}
 use Rattle.cbor.specs.Form.{stringFieldOf, numberFieldOf}
 use Rattle.cbor.specs.Item.{oneAt, stringFieldAt, numberFieldAt}
 use Rattle.cbor.specs.Names.{pubKey, sigKey, hashKey, versionKey}
@@ -44,9 +45,8 @@ authVerdict public sig hash =
     (demand (eqb (length hash) 32) 19
     (done (authOf public sig hash))))
 
--- `ETHERNITY-AUTH-V1`
 abbrev pub authDomain : List ℕ
-authDomain = 69 ∷ 84 ∷ 72 ∷ 69 ∷ 82 ∷ 78 ∷ 73 ∷ 84 ∷ 89 ∷ 45 ∷ 65 ∷ 85 ∷ 84 ∷ 72 ∷ 45 ∷ 86 ∷ 49 ∷ []
+authDomain = ascii "ETHERNITY-AUTH-V1"
 
 -- signed bytes: the domain, then the map without `sig`, head A3
 unfoldable pub signedOf : List ℕ → List ℕ → List ℕ

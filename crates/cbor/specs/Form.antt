@@ -1,5 +1,5 @@
 -- The one written form of each item: RFC 8949, section 3; document 01, "CBOR payloads": definite lengths, shortest heads.
-use Prim.Native.Nat.{ℕ, _+_, _*_}
+use Prim.Native.Nat.{ℕ, _+_, _*_, _^_}
 use mathlib.Core.List.{List, _∷_, _++_}
 use lib.ListN.{length}
 use lib.Dec.{ltb, eqb}
@@ -10,9 +10,9 @@ use Rattle.wire.specs.Number.{bigEndian}
 unfoldable pub infoOf : ℕ → ℕ
 infoOf n =
     choose (ltb n 24) n
-    (choose (ltb n 256) 24
-    (choose (ltb n 65536) 25
-    (choose (ltb n 4294967296) 26 27)))
+    (choose (ltb n (2 ^ 8)) 24
+    (choose (ltb n (2 ^ 16)) 25
+    (choose (ltb n (2 ^ 32)) 26 27)))
 
 -- how many bytes of the number follow the first byte
 unfoldable pub widthOf : ℕ → ℕ

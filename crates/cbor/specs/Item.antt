@@ -45,7 +45,7 @@ headAt s at kind =
     demand (eqb (infoOf n) (x % 32)) 18 (got (record { major = x / 32; number = n }) next)))))
 
 -- a number, an array's count or a string's length, from least to most; a negative number is none
-unfoldable pub numberAt : List ℕ → ℕ → ℕ → ℕ → ℕ → ℕ → Got ℕ
+unfoldable pub numberAt : (s : List ℕ) (at kind least most fault : ℕ) → Got ℕ
 numberAt s at kind least most fault =
     then (headAt s at kind) (λ (h, next).
     demand (eqb (h .major) kind) fault
@@ -57,7 +57,7 @@ unfoldable pub contentsAt : List ℕ → ℕ → ℕ → Got Span
 contentsAt s at len = demand (leb (at + len) (length s)) 3 (got (record { start = at; len = len }) (at + len))
 
 -- a byte string, or a text, of a length from least to most
-unfoldable pub stringAt : List ℕ → ℕ → ℕ → ℕ → ℕ → ℕ → Got Span
+unfoldable pub stringAt : (s : List ℕ) (at kind least most fault : ℕ) → Got Span
 stringAt s at kind least most fault = then (numberAt s at kind least most fault) (λ (len, next). contentsAt s next len)
 
 -- the contents of a key
@@ -75,9 +75,9 @@ unfoldable pub doubleAt : List ℕ → ℕ → Got ℕ
 doubleAt s at = then (oneAt s at 0xFB) (λ (_, p). bigEndianAt s p 8)
 
 -- a key and a string
-unfoldable pub stringFieldAt : List ℕ → ℕ → List ℕ → ℕ → ℕ → ℕ → ℕ → Got Span
+unfoldable pub stringFieldAt : (s : List ℕ) (at : ℕ) (name : List ℕ) (kind least most fault : ℕ) → Got Span
 stringFieldAt s at name kind least most fault = then (keyAt s at name) (λ (_, p). stringAt s p kind least most fault)
 
 -- a key and a number
-unfoldable pub numberFieldAt : List ℕ → ℕ → List ℕ → ℕ → ℕ → Got ℕ
+unfoldable pub numberFieldAt : (s : List ℕ) (at : ℕ) (name : List ℕ) (least most : ℕ) → Got ℕ
 numberFieldAt s at name least most = then (keyAt s at name) (λ (_, p). numberAt s p 0 least most 19)

@@ -10,13 +10,13 @@ pub(super) fn info(n: u64) -> u8
     if n < 24 {
         return n as u8;
     }
-    if n < 256 {
+    if n < 0x100 {
         return 24;
     }
-    if n < 65536 {
+    if n < 0x10000 {
         return 25;
     }
-    if n < 4294967296 {
+    if n < 0x100000000 {
         return 26;
     }
     27

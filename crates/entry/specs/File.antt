@@ -1,8 +1,9 @@
 -- One file of a manifest, as it is read: document 01, "CBOR payloads".
-use Prim.Native.Nat.{ℕ}
+use Prim.Native.Nat.{ℕ, _^_}
 use mathlib.Core.List.{List}
 use lib.Dec.{ltb, eqb}
 use Rattle.wire.specs.Answer.{choose, then, demand, Got, got}
+use Rattle.wire.specs.Sizes.{mostFileSize}
 use Rattle.wire.specs.declared.Span.{Span}
 use Rattle.wire.specs.Span.{partAt}
 use Rattle.path.specs.Order.{below}
@@ -15,7 +16,7 @@ use Rattle.entry.specs.declared.File.{File}
 
 -- "integers in `created` and `mtime` run from -2^63 to 2^63 - 1": of major type 1 the number n stands for -1 - n
 unfoldable pub integerAt : List ℕ → ℕ → Got Head
-integerAt s at = then (headAt s at 0) (λ (h, next). demand (ltb (h .number) 9223372036854775808) 19 (got h next))
+integerAt s at = then (headAt s at 0) (λ (h, next). demand (ltb (h .number) (2 ^ 63)) 19 (got h next))
 
 -- "mtime may be null", which is F6
 unfoldable pub mtimeAt : List ℕ → ℕ → Got Mtime
@@ -36,6 +37,6 @@ fileAt s at prev =
     then (oneAt s at 0xA4) (λ (_, a).
     then (stringFieldAt s a hashKey 2 32 32 19) (λ (hash, b).
     then (pathAt s b prev) (λ (path, c).
-    then (numberFieldAt s c sizeKey 0 4294967295) (λ (size, d).
+    then (numberFieldAt s c sizeKey 0 mostFileSize) (λ (size, d).
     then (mtimeAt s d) (λ (mtime, next).
     got (record { hash = hash; path = path; size = size; mtime = mtime }) next)))))

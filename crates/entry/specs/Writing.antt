@@ -1,10 +1,11 @@
 -- One file of a manifest, as it is written: document 01, "CBOR payloads".
-use Prim.Native.Nat.{ℕ, _+_}
+use Prim.Native.Nat.{ℕ, _+_, _^_}
 use mathlib.Core.Bool.{Bool, true, _&&_}
 use mathlib.Core.List.{List, [], _∷_, _++_}
 use lib.Dec.{ltb, leb, eqb}
 use lib.ListN.{length}
 use Rattle.wire.specs.Answer.{choose, Answer, done, refusedAt, demand}
+use Rattle.wire.specs.Sizes.{mostFileSize}
 use Rattle.wire.specs.declared.Span.{Span}
 use Rattle.wire.specs.Span.{partAt}
 use Rattle.path.specs.Order.{below}
@@ -61,14 +62,14 @@ pathIn pool prev p = held pool p && (pathAllowed (partAt pool p) && below prev (
 -- from -2^63 to 2^63 - 1, or null
 unfoldable pub mtimeAllowed : Mtime → Bool
 mtimeAllowed Null = true
-mtimeAllowed (Integer negative n) = ltb n 9223372036854775808
+mtimeAllowed (Integer negative n) = ltb n (2 ^ 63)
 
 -- a value out of range is 19, a path 20, in the order of the keys
 unfoldable pub fileVerdict : List ℕ → List ℕ → File → Answer (List ℕ)
 fileVerdict pool prev f =
     demand (digestIn pool (f .hash)) 19
     (demand (pathIn pool prev (f .path)) 20
-    (demand (leb (f .size) 4294967295) 19
+    (demand (leb (f .size) mostFileSize) 19
     (demand (mtimeAllowed (f .mtime)) 19
     (done (fileOf pool f)))))
 

@@ -108,7 +108,7 @@ pub fn file(s: &[u8], at: usize, prev: &[u8]) -> FileRead
         return FileRead::Refused { no: string_no(p) };
     };
     let path = Span { start, len };
-    let z = cbor::read::number_field(s, next, b"size", 0, 0xFFFFFFFF);
+    let z = cbor::read::number_field(s, next, b"size", 0, wire::MOST_FILE_SIZE);
     let NumberRead::Value { n: size, next } = z else {
         return FileRead::Refused { no: number_no(z) };
     };

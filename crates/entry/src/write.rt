@@ -112,7 +112,7 @@ pub fn judge(pool: &[u8], prev: &[u8], f: File) -> Wrote
     if !path_fits(pool, prev, path) {
         return Wrote::Refused { no: BAD_PATH };
     }
-    if 0xFFFFFFFF < f.size {
+    if wire::MOST_FILE_SIZE < f.size {
         return Wrote::Refused { no: OUT_OF_RANGE };
     }
     let mtime = f.mtime;

@@ -3,6 +3,7 @@ ghost use mathlib.Core.Path.{_≡_};
 ghost use Prim.Native.Nat.{_≤_};
 ghost use lib.Dec.{eqb};
 ghost use lib.ListN.{length, take};
+ghost use Rattle.wire.specs.Sizes.{mostFiles};
 ghost use Rattle.envelope.specs.Envelope.{total, digests, judged};
 ghost use Rattle.envelope.specs.Parts.{judgeTold};
 use cbor::StepRead;
@@ -16,8 +17,8 @@ pub enum Judge {
 }
 
 // Whether the sizes of the first count files sum to n. Each is taken off what is left of n, so that no sum can wrap.
-fn adds_up(files: [File; 64], count: usize, n: u64) -> bool
-    requires { ⌜ (count ≤ 64) × (count ≤ length files) ⌝ }
+fn adds_up(files: [File; wire::MOST_FILES], count: usize, n: u64) -> bool
+    requires { ⌜ (count ≤ mostFiles) × (count ≤ length files) ⌝ }
     ensures { λ r. ⌜ r ≡ eqb (total (take count files)) n ⌝ }
 {
     let mut left = n;
@@ -34,8 +35,13 @@ fn adds_up(files: [File; 64], count: usize, n: u64) -> bool
 }
 
 // The digests of the first count files, which take up the payload one after the other.
-fn digests_hold(manifest: &[u8], payload: &[u8], files: [File; 64], count: usize) -> Judge
-    requires { ⌜ (count ≤ 64) × (count ≤ length files) × (total (take count files) ≡ length (now payload)) ⌝ }
+fn digests_hold(
+    manifest: &[u8],
+    payload: &[u8],
+    files: [File; wire::MOST_FILES],
+    count: usize,
+) -> Judge
+    requires { ⌜ (count ≤ mostFiles) × (count ≤ length files) × (total (take count files) ≡ length (now payload)) ⌝ }
     ensures { λ r. ⌜ judgeTold r ≡ digests (now (manifest .entry)) (take count files) 0 (now (payload .entry)) ⌝ }
 {
     let mut at = 0;

@@ -5,6 +5,7 @@ use mathlib.Core.List.{List, [], _∷_}
 use lib.Dec.{ltb, leb, eqb}
 use lib.ListN.{length, take, drop, getD}
 use Rattle.wire.specs.Answer.{choose, refused, then, demand, Got, got}
+use Rattle.wire.specs.Sizes.{mostPages, mostData, idSize}
 use Rattle.wire.specs.Number.{bigEndian}
 use Rattle.lend.specs.Same.{same}
 use Rattle.varint.specs.Varint.{varintAt}
@@ -21,7 +22,7 @@ pub record Frame : Type 0 where
 
 -- the id of a frame that is read stands at bytes 4 to 11
 abbrev pub idOf : List ℕ → List ℕ
-idOf s = take 8 (drop 4 s)
+idOf s = take idSize (drop 4 s)
 
 abbrev pub dataOf : List ℕ → Frame → List ℕ
 dataOf s f = take (f .len) (drop (f .at) s)
@@ -41,7 +42,7 @@ kindAt s at = choose (leb (length s) at) (refused 3) (choose (known (getD s at 0
 
 -- 8 bytes id
 unfoldable pub idAt : List ℕ → ℕ → Got Unit
-idAt s at = choose (ltb (length s - at) 8) (refused 3) (got tt (at + 8))
+idAt s at = choose (ltb (length s - at) idSize) (refused 3) (got tt (at + idSize))
 
 -- all before the varints: the type byte
 unfoldable pub startOf : List ℕ → Got ℕ
@@ -75,9 +76,9 @@ dataAt s at len =
 unfoldable pub inPlace : ℕ → ℕ → ℕ → Bool
 inPlace kind index total = choose (eqb total 0) false (choose (leb total index) false (choose (eqb kind 0x44) true (eqb total 1)))
 
--- unless 9 is due: TOTAL above 96, frame data above 480
+-- unless 9 is due: TOTAL, or the length of the data, above the house size
 unfoldable pub inSize : ℕ → ℕ → Bool
-inSize total len = choose (ltb 96 total) false (leb len 480)
+inSize total len = choose (ltb mostPages total) false (leb len mostData)
 
 -- the type byte and the numbers are judged together, after the CRC: 8, then 9
 unfoldable pub judged : (kind : ℕ) (n : Numbers) (at next : ℕ) → Got Frame

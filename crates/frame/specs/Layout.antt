@@ -17,9 +17,9 @@ unfoldable pub numbers : ℕ → ℕ → ℕ → List ℕ
 numbers index total len = varint index ++ varint total ++ varint len
 
 -- the data
-unfoldable pub body : ℕ → List ℕ → ℕ → ℕ → List ℕ → List ℕ
+unfoldable pub body : (kind : ℕ) (id : List ℕ) (index total : ℕ) (contents : List ℕ) → List ℕ
 body kind id index total contents = start kind id ++ numbers index total (length contents) ++ contents
 
 -- CRC-32/ISO-HDLC of all before it, big-endian
-unfoldable pub layout : ℕ → List ℕ → ℕ → ℕ → List ℕ → List ℕ
+unfoldable pub layout : (kind : ℕ) (id : List ℕ) (index total : ℕ) (contents : List ℕ) → List ℕ
 layout kind id index total contents = body kind id index total contents ++ bigEndian 4 (crc32 (body kind id index total contents))

@@ -2,6 +2,7 @@
 ghost use mathlib.Core.Path.{_≡_};
 ghost use Prim.Native.Nat.{_+_, _≤_};
 ghost use lib.ListN.{length, take};
+ghost use Rattle.wire.specs.Sizes.{idSize};
 ghost use Rattle.wire.specs.Number.{bigEndian};
 ghost use Rattle.wire.specs.Over.{over};
 ghost use Rattle.wire.specs.Answer.{done};
@@ -22,7 +23,7 @@ fn numbers_size(index: u64, total: u64, len: u64) -> usize
 }
 
 fn start(kind: u8, id: &[u8], out: &mut [u8])
-    requires { ⌜ (length (now id) ≡ 8) × (12 ≤ length (now out)) ⌝ }
+    requires { ⌜ (length (now id) ≡ idSize) × (12 ≤ length (now out)) ⌝ }
     ensures { λ _. ⌜ now (out .exit) ≡ over 0 (L.start kind (now (id .entry))) (now (out .entry)) ⌝ }
 {
     mark::lay(b"AP", out);
@@ -51,7 +52,7 @@ fn numbers(index: u64, total: u64, len: u64, out: &mut [u8], at: usize) -> usize
 
 // All before the CRC; the answer is its length.
 fn body(kind: u8, id: &[u8], index: u64, total: u64, contents: &[u8], out: &mut [u8]) -> usize
-    requires { ⌜ (length (now id) ≡ 8) × (12 + length (L.numbers index total (length (now contents))) + length (now contents) ≤ length (now out)) ⌝ }
+    requires { ⌜ (length (now id) ≡ idSize) × (12 + length (L.numbers index total (length (now contents))) + length (now contents) ≤ length (now out)) ⌝ }
     ensures { λ r. ⌜ (r ≡ length (L.body kind (now (id .entry)) index total (now (contents .entry)))) × (now (out .exit) ≡ over 0 (L.body kind (now (id .entry)) index total (now (contents .entry))) (now (out .entry))) ⌝ }
 {
     start(kind, id, out);
@@ -77,7 +78,7 @@ pub(super) fn lay(
     contents: &[u8],
     out: &mut [u8],
 ) -> Wrote
-    requires { ⌜ length (now id) ≡ 8 ⌝ }
+    requires { ⌜ length (now id) ≡ idSize ⌝ }
     ensures { λ r. ⌜ Written 0 (done (L.layout kind (now (id .entry)) index total (now (contents .entry)))) (now (out .entry)) (now (out .exit)) r ⌝ }
 {
     let len = SHORTEST + numbers_size(index, total, contents.len() as u64) + contents.len();

@@ -21,11 +21,6 @@ pub const KEY: u8 = 0x4B;
 
 pub const AUTH: u8 = 0x41;
 
-// House sizes.
-pub const MOST_PAGES: u64 = 96;
-
-pub const MOST_DATA: u64 = 480;
-
 pub enum FrameRead {
     // The data stand in the input, len bytes from at on; the id always at bytes 4 to 11.
     Frame {
@@ -59,10 +54,10 @@ fn in_place(kind: u8, index: u64, total: u64) -> bool
 fn in_size(total: u64, len: u64) -> bool
     ensures { λ r. ⌜ r ≡ inSize total len ⌝ }
 {
-    if MOST_PAGES < total {
+    if (wire::MOST_PAGES as u64) < total {
         return false;
     }
-    len <= MOST_DATA
+    len <= wire::MOST_DATA as u64
 }
 
 // What is left to judge once every field is there and the CRC is right; the data start at index at.
@@ -120,7 +115,14 @@ pub fn read(s: &[u8]) -> FrameRead
 }
 
 // The frame of these parts, whatever they are, at the front of out.
-pub fn lay(kind: u8, id: &[u8; 8], index: u64, total: u64, contents: &[u8], out: &mut [u8]) -> Wrote
+pub fn lay(
+    kind: u8,
+    id: &[u8; wire::ID_SIZE],
+    index: u64,
+    total: u64,
+    contents: &[u8],
+    out: &mut [u8],
+) -> Wrote
     ensures { λ r. ⌜ Written 0 (done (layout kind (now (id .entry)) index total (now (contents .entry)))) (now (out .entry)) (now (out .exit)) r ⌝ }
 {
     form::lay(kind, id, index, total, contents, out)

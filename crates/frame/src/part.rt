@@ -102,12 +102,14 @@ fn id(s: &[u8], at: usize) -> Step
     requires { ⌜ at ≤ length (now s) ⌝ }
     ensures { λ r. ⌜ stepOf r ≡ idAt (now (s .entry)) at ⌝ }
 {
-    if s.len() - at < 8 {
+    if s.len() - at < wire::ID_SIZE {
         return Step::Refused {
             no: wire::CUT_OR_LEFT_OVER,
         };
     }
-    Step::At { next: at + 8 }
+    Step::At {
+        next: at + wire::ID_SIZE,
+    }
 }
 
 // All before the varints.

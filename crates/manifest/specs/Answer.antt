@@ -4,6 +4,7 @@ use mathlib.Core.Bool.{true, false}
 use mathlib.Core.List.{List, [], _++_}
 use lib.ListN.{length, replicate}
 use Rattle.wire.specs.Answer.{done, refusedAt, Got}
+use Rattle.wire.specs.Sizes.{mostFiles}
 use Rattle.cbor.specs.declared.StepRead.the-variants as step
 use Rattle.entry.specs.declared.Mtime.the-variants as mtime
 use Rattle.entry.specs.declared.File.{File}
@@ -17,9 +18,9 @@ use Rattle.manifest.specs.declared.ManifestRead.{ManifestRead}
 unfoldable pub blankFile : File
 blankFile = record { hash = record { start = 0; len = 0 }; path = record { start = 0; len = 0 }; size = 0; mtime = mtime.Null }
 
--- the files in an array of 64
+-- the files in an array with room for the most
 unfoldable pub padded : List File → List File
-padded fs = fs ++ replicate (64 - length fs) blankFile
+padded fs = fs ++ replicate (mostFiles - length fs) blankFile
 
 -- the answer's value where a manifest is refused
 unfoldable pub blankManifest : Manifest

@@ -1,10 +1,11 @@
 -- The manifest, as it is read: document 01, "CBOR payloads" and "House sizes".
-use Prim.Native.Nat.{ℕ, zero, suc, _/_, _%_}
+use Prim.Native.Nat.{ℕ, zero, suc, _-_, _/_, _%_, _^_}
 use mathlib.Core.Bool.{Bool, not}
 use mathlib.Core.List.{List, [], _∷_}
 use lib.Dec.{leb, eqb}
 use lib.ListN.{length}
 use Rattle.wire.specs.Answer.{choose, then, demand, Got, got}
+use Rattle.wire.specs.Sizes.{mostManifest, mostFiles}
 use Rattle.wire.specs.Span.{partAt}
 use Rattle.cbor.specs.Item.{byteAt, oneAt, numberAt, keyAt, stringAt, doubleAt, numberFieldAt}
 use Rattle.cbor.specs.Names.{seedKey, filesKey, sealedKey, createdKey, versionKey}
@@ -30,14 +31,14 @@ seedAt s at =
     choose (eqb x 0xF6) (got seed.Null p) (then (stringAt s a 2 32 32 19) (λ (v, next). got (seed.Bytes (v .start) (v .len)) next))))
 
 -- so many files, the first above prev and each above the one before it
-unfoldable pub filesAt : List ℕ → ℕ → ℕ → List ℕ → Got (List File)
+unfoldable pub filesAt : (s : List ℕ) (k at : ℕ) (prev : List ℕ) → Got (List File)
 filesAt s zero at prev = got [] at
 filesAt s (suc k) at prev =
     then (fileAt s at prev) (λ (f, p). then (filesAt s k p (partAt s (f .path))) (λ (fs, next). got (f ∷ fs) next))
 
 -- "1 to 64 files": every path is above the empty one
 unfoldable pub listAt : List ℕ → ℕ → Got (List File)
-listAt s at = then (keyAt s at filesKey) (λ (_, a). then (numberAt s a 4 1 64 19) (λ (k, p). filesAt s k p []))
+listAt s at = then (keyAt s at filesKey) (λ (_, a). then (numberAt s a 4 1 mostFiles 19) (λ (k, p). filesAt s k p []))
 
 -- "sealed means seed null; unsealed means 32 bytes"
 unfoldable pub agrees : Seed → Bool → Bool
@@ -53,7 +54,7 @@ sealedAt s at key =
 
 -- a double is finite where its eleven exponent bits are not all ones
 unfoldable pub finite : ℕ → Bool
-finite bits = not (eqb (bits / 4503599627370496 % 2048) 2047)
+finite bits = not (eqb (bits / 2 ^ 52 % 2 ^ 11) (2 ^ 11 - 1))
 
 unfoldable pub finiteAt : List ℕ → ℕ → Got Created
 finiteAt s at = then (doubleAt s at) (λ (bits, next). demand (finite bits) 19 (got (created.Double bits) next))
@@ -82,7 +83,7 @@ endAt s at key =
 -- "a manifest above 16,384 bytes is 9 before all else"; head A5: `seed`, `files`, `sealed`, `created`, `version`
 unfoldable pub manifestAt : List ℕ → Got Listing
 manifestAt s =
-    demand (leb (length s) 16384) 9
+    demand (leb (length s) mostManifest) 9
     (then (oneAt s 0 0xA5) (λ (_, a).
     then (seedAt s a) (λ (key, b).
     then (listAt s b) (λ (files, c).

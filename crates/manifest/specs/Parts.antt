@@ -5,6 +5,7 @@ use mathlib.Core.Bool.{Bool}
 use mathlib.Core.List.{List, [], _∷_, _++_}
 use lib.ListN.{length, take}
 use Rattle.wire.specs.Answer.{choose, done, refusedAt, refused, Got, got}
+use Rattle.wire.specs.Sizes.{mostFiles}
 use Rattle.cbor.specs.Form.{headOf, headSize, stringOf, numberFieldOf}
 use Rattle.cbor.specs.Names.{seedKey, filesKey, sealedKey, createdKey, versionKey}
 use Rattle.cbor.specs.declared.NumberRead.the-variants as number
@@ -52,14 +53,14 @@ closingOf m = stringOf 3 sealedKey ++ ((choose (m .sealed) 0xF5 0xF4 ∷ []) ++ 
 
 -- the files of m may be written, and there is room for them from at on
 pub record Room (pool : List ℕ) (m : Manifest) (at : ℕ) (out form : List ℕ) : Type 0 where
-  pub few : m .count ≤ 64
-  pub array : length (m .files) ≡ 64
+  pub few : m .count ≤ mostFiles
+  pub array : length (m .files) ≡ mostFiles
   pub judged : filesVerdict pool [] (take (m .count) (m .files)) ≡ done form
   pub room : at + length form ≤ length out
 
 -- m may be written, and there is room for it
 pub record Ready (pool : List ℕ) (m : Manifest) (out : List ℕ) : Type 0 where
-  pub array : length (m .files) ≡ 64
+  pub array : length (m .files) ≡ mostFiles
   pub judged : manifestVerdict pool m ≡ done (manifestOf pool (listed m))
   pub room : length (manifestOf pool (listed m)) ≤ length out
 

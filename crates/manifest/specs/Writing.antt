@@ -6,6 +6,7 @@ use mathlib.Core.List.{List, [], _∷_, _++_, map}
 use lib.Dec.{ltb, leb}
 use lib.ListN.{length, take}
 use Rattle.wire.specs.Answer.{choose, Answer, done, then, demand}
+use Rattle.wire.specs.Sizes.{mostManifest, mostFiles}
 use Rattle.wire.specs.Span.{partAt}
 use Rattle.cbor.specs.Form.{headOf, stringOf, doubleOf, numberFieldOf}
 use Rattle.cbor.specs.Names.{seedKey, filesKey, sealedKey, createdKey, versionKey}
@@ -86,7 +87,7 @@ filesVerdict pool prev (f ∷ fs) =
 
 -- from -2^63 to 2^63 - 1, or finite
 unfoldable pub createdAllowed : Created → Bool
-createdAllowed (created.Integer negative n) = ltb n 9223372036854775808
+createdAllowed (created.Integer negative n) = ltb n (2 ^ 63)
 createdAllowed (created.Double bits) = finite bits
 
 -- the first `count` files of the array are those that are meant
@@ -97,11 +98,11 @@ listed m = record { seed = m .seed; files = take (m .count) (m .files); sealed =
 unfoldable pub manifestVerdict : List ℕ → Manifest → Answer (List ℕ)
 manifestVerdict pool m =
     demand (seedAllowed pool (m .seed)) 19
-    (demand (leb 1 (m .count) && leb (m .count) 64) 19
+    (demand (leb 1 (m .count) && leb (m .count) mostFiles) 19
     (then (filesVerdict pool [] (listed m .files)) (λ _.
     demand (agrees (m .seed) (m .sealed)) 19
     (demand (createdAllowed (m .created)) 19
-    (demand (leb (length (manifestOf pool (listed m))) 16384) 9
+    (demand (leb (length (manifestOf pool (listed m))) mostManifest) 9
     (done (manifestOf pool (listed m))))))))
 
 -- ---- what the types of the struct say of every value
@@ -111,7 +112,7 @@ abbrev pub CreatedFits : Created → Type 0
 CreatedFits (created.Integer negative n) = Unit
 CreatedFits (created.Double bits) = bits < 2 ^ 64
 
--- the array has 64 files
+-- the array has room for the most files
 pub record Typed (m : Manifest) : Type 0 where
-  pub array : length (m .files) ≡ 64
+  pub array : length (m .files) ≡ mostFiles
   pub bits : CreatedFits (m .created)

@@ -2,6 +2,7 @@
 ghost use mathlib.Core.Path.{_≡_};
 ghost use mathlib.Core.List.{[]};
 ghost use Prim.Native.Nat.{_≤_};
+ghost use Rattle.wire.specs.Sizes.{mostFiles};
 ghost use Rattle.wire.specs.Answer.{refused};
 ghost use Rattle.manifest.specs.Manifest.{filesAt, listAt};
 ghost use Rattle.manifest.specs.Parts.{filesAnswer};
@@ -29,7 +30,7 @@ fn no_files(no: u8) -> FilesRead
 
 // count files from position at on.
 fn run(s: &[u8], at: usize, count: usize) -> FilesRead
-    requires { ⌜ count ≤ 64 ⌝ }
+    requires { ⌜ count ≤ mostFiles ⌝ }
     ensures { λ r. ⌜ r ≡ filesAnswer (filesAt (now (s .entry)) count at []) ⌝ }
 {
     let mut files = blank_files();
@@ -65,7 +66,7 @@ pub(super) fn list(s: &[u8], at: usize) -> FilesRead
     let StepRead::Past { next: a } = k else {
         return no_files(step_no(k));
     };
-    let h = cbor::read::number(s, a, ARRAY, 1, 64, OUT_OF_RANGE);
+    let h = cbor::read::number(s, a, ARRAY, 1, wire::MOST_FILES as u64, OUT_OF_RANGE);
     let NumberRead::Value { n, next } = h else {
         return no_files(number_no(h));
     };

@@ -1,14 +1,14 @@
 // Whether a manifest may be written, and how long it then is: the values are judged in the order of the keys.
 ghost use mathlib.Core.Path.{_≡_};
 ghost use mathlib.Core.List.{[]};
-ghost use Prim.Native.Nat.{_+_, _≤_};
+ghost use Prim.Native.Nat.{_+_, _^_, _≤_};
 ghost use lib.ListN.{length, take};
+ghost use Rattle.wire.specs.Sizes.{mostFiles};
 ghost use Rattle.wire.specs.Writing.{told, outcome};
 ghost use Rattle.cbor.specs.Form.{headSize};
 ghost use Rattle.manifest.specs.Writing.{seedAllowed, createdAllowed, filesVerdict, manifestVerdict};
 ghost use Rattle.manifest.specs.Parts.{seedSize, createdSize};
 use super::Created;
-use super::LARGEST;
 use super::Manifest;
 use super::Seed;
 use super::fields;
@@ -54,7 +54,7 @@ fn created_size(created: Created) -> usize
 
 // The files of m: their length or the first refusal.
 fn list(pool: &[u8], m: Manifest) -> Wrote
-    requires { ⌜ (m .count ≤ 64) × (length (m .files) ≡ 64) ⌝ }
+    requires { ⌜ (m .count ≤ mostFiles) × (length (m .files) ≡ mostFiles) ⌝ }
     ensures { λ r. ⌜ told r ≡ outcome (filesVerdict (now (pool .entry)) [] (take (m .count) (m .files))) ⌝ }
 {
     let count = m.count;
@@ -76,7 +76,7 @@ fn list(pool: &[u8], m: Manifest) -> Wrote
 
 // How long m is, whose files have so many bytes: 37 are its head, its keys, sealed and version.
 fn total(m: Manifest, files: usize) -> usize
-    requires { ⌜ files ≤ 65536 ⌝ }
+    requires { ⌜ files ≤ 2 ^ 16 ⌝ }
     ensures { λ r. ⌜ r ≡ 37 + seedSize (m .seed) + headSize (m .count) + files + createdSize (m .created) ⌝ }
 {
     let seed = m.seed;
@@ -85,7 +85,7 @@ fn total(m: Manifest, files: usize) -> usize
 }
 
 pub(super) fn whole(pool: &[u8], m: Manifest) -> Wrote
-    requires { ⌜ length (m .files) ≡ 64 ⌝ }
+    requires { ⌜ length (m .files) ≡ mostFiles ⌝ }
     ensures { λ r. ⌜ told r ≡ outcome (manifestVerdict (now (pool .entry)) m) ⌝ }
 {
     let seed = m.seed;
@@ -95,7 +95,7 @@ pub(super) fn whole(pool: &[u8], m: Manifest) -> Wrote
     if m.count < 1 {
         return Wrote::Refused { no: OUT_OF_RANGE };
     }
-    if 64 < m.count {
+    if wire::MOST_FILES < m.count {
         return Wrote::Refused { no: OUT_OF_RANGE };
     }
     let j = list(pool, m);
@@ -110,7 +110,7 @@ pub(super) fn whole(pool: &[u8], m: Manifest) -> Wrote
         return Wrote::Refused { no: OUT_OF_RANGE };
     }
     let n = total(m, len);
-    if LARGEST < n {
+    if wire::MOST_MANIFEST < n {
         return Wrote::Refused {
             no: wire::TOO_LARGE,
         };

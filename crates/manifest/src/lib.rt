@@ -36,7 +36,7 @@ pub enum Created {
 // The first `count` files are meant.
 pub struct Manifest {
     pub seed: Seed,
-    pub files: [File; 64],
+    pub files: [File; wire::MOST_FILES],
     pub count: usize,
     pub sealed: bool,
     pub created: Created,
@@ -79,13 +79,10 @@ enum EndRead {
 // How many files there are and the position past them, or the refusal; and the files.
 struct FilesRead {
     answer: NumberRead,
-    files: [File; 64],
+    files: [File; wire::MOST_FILES],
 }
 
-// A manifest has at most so many bytes.
-const LARGEST: usize = 16384;
-
-fn blank_files() -> [File; 64]
+fn blank_files() -> [File; wire::MOST_FILES]
     ensures { λ r. ⌜ r ≡ padded [] ⌝ }
 {
     let none = Span { start: 0, len: 0 };
@@ -95,7 +92,7 @@ fn blank_files() -> [File; 64]
         size: 0,
         mtime: Mtime::Null,
     };
-    [file; 64]
+    [file; wire::MOST_FILES]
 }
 
 fn refusal(no: u8) -> ManifestRead
@@ -122,7 +119,7 @@ fn refusal(no: u8) -> ManifestRead
 pub fn read(s: &[u8]) -> ManifestRead
     ensures { λ r. ⌜ r ≡ answerFor (manifestAt (now (s .entry))) ⌝ }
 {
-    if LARGEST < s.len() {
+    if wire::MOST_MANIFEST < s.len() {
         return refusal(wire::TOO_LARGE);
     }
     let m = cbor::read::one_byte(s, 0, 0xA5);

@@ -5,13 +5,14 @@ use mathlib.Core.List.{List, [], _++_}
 use lib.Dec.{ltb, leb}
 use lib.ListN.{length, take, drop}
 use Rattle.wire.specs.Answer.{Answer, done, then, demand}
+use Rattle.wire.specs.Sizes.{mostPages, mostData, idSize}
 use Rattle.blake2b.specs.Blake2b.{blake2b}
 use Rattle.text.specs.Text.{Form, textOf}
 use Rattle.frame.specs.Layout.{layout}
 
 -- the id is the first 8 bytes of unkeyed BLAKE2b with 32-byte output over the ciphertext
 unfoldable pub documentId : List ℕ → List ℕ
-documentId c = take 8 (blake2b c)
+documentId c = take idSize (blake2b c)
 
 -- the fewest pages of so many bytes that hold a ciphertext of n bytes
 unfoldable pub pageCount : ℕ → ℕ → ℕ
@@ -26,21 +27,21 @@ pageFrame c size i = layout 0x44 (documentId c) i (pageCount (length c) size) (p
 
 -- a page size of 1 to 480 is given, and a ciphertext that is not empty
 unfoldable pub printable : ℕ → ℕ → Bool
-printable n size = ltb 0 n && (ltb 0 size && leb size 480)
+printable n size = ltb 0 n && (ltb 0 size && leb size mostData)
 
 -- how many pages there are: page size or empty ciphertext 19, more than 96 pages 9
 unfoldable pub countOf : ℕ → ℕ → Answer ℕ
 countOf n size =
     demand (printable n size) 19
-    (demand (leb (pageCount n size) 96) 9
+    (demand (leb (pageCount n size) mostPages) 9
     (done (pageCount n size)))
 
 -- so a document that can be printed with this page size
 pub record Printed (c : List ℕ) (size : ℕ) : Type 0 where
   pub some : 0 < length c
   pub least : 0 < size
-  pub most : size ≤ 480
-  pub fits : pageCount (length c) size ≤ 96
+  pub most : size ≤ mostData
+  pub fits : pageCount (length c) size ≤ mostPages
 
 -- then page number not below the total 8
 unfoldable pub pageVerdict : List ℕ → ℕ → ℕ → Answer (List ℕ)

@@ -9,7 +9,7 @@ ghost use Rattle.page.specs.Answer.{told};
 use wire::Wrote;
 
 // The id is the front of the digest of the whole ciphertext.
-pub fn document_id(c: &[u8]) -> [u8; 8]
+pub fn document_id(c: &[u8]) -> [u8; wire::ID_SIZE]
     ensures { λ r. ⌜ r ≡ documentId (now (c .entry)) ⌝ }
 {
     let d = blake2b::blake2b(c);
@@ -36,13 +36,13 @@ pub fn count(n: usize, size: usize) -> PageCount
             no: wire::OUT_OF_RANGE,
         };
     }
-    if 480 < size {
+    if wire::MOST_DATA < size {
         return PageCount::Refused {
             no: wire::OUT_OF_RANGE,
         };
     }
     let before_last = (n - 1) / size;
-    if 96 <= before_last {
+    if wire::MOST_PAGES <= before_last {
         return PageCount::Refused {
             no: wire::TOO_LARGE,
         };

@@ -4,19 +4,20 @@ use mathlib.Core.Bool.{Bool, not, _&&_, _||_}
 use mathlib.Core.List.{List, [], _∷_, _++_}
 use lib.Dec.{ltb, eqb}
 use Rattle.wire.specs.Answer.{choose}
+use Rattle.wire.specs.Ascii.{ascii}
 use Rattle.lend.specs.Same.{same}
 
 -- `/`
 abbrev pub slash : ℕ
 slash = 0x2F
 
--- `.`, the folder itself
+-- the folder itself
 abbrev pub here : List ℕ
-here = 0x2E ∷ []
+here = ascii "."
 
--- `..`, the folder above
+-- the folder above
 abbrev pub above : List ℕ
-above = 0x2E ∷ 0x2E ∷ []
+above = ascii ".."
 
 -- the parts of what is left to read, where p is what was read of the first of them
 unfoldable pub partsAfter : List ℕ → List ℕ → List (List ℕ)

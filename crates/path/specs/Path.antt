@@ -4,6 +4,7 @@ use mathlib.Core.Bool.{Bool, _&&_}
 use mathlib.Core.List.{List}
 use lib.Dec.{leb}
 use lib.ListN.{length}
+use Rattle.wire.specs.Sizes.{mostPath}
 use Rattle.wire.specs.Every.{every, within, without}
 use Rattle.path.specs.Utf8.{codePoints}
 use Rattle.path.specs.Names.{parts, isName}
@@ -13,7 +14,7 @@ abbrev pub pathLeast : ℕ
 pathLeast = 1
 
 abbrev pub pathMost : ℕ
-pathMost = 200
+pathMost = mostPath
 
 -- UTF-8 of code points below U+0300
 unfoldable pub plainText : List ℕ → Bool

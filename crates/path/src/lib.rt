@@ -12,7 +12,7 @@ ghost use Rattle.path.specs.Spans.{Spans};
 // How many bytes a path has. A reader judges its length by these before the bytes are there.
 pub const LEAST: u64 = 1;
 
-pub const MOST: u64 = 200;
+pub const MOST: u64 = wire::MOST_PATH as u64;
 
 // Only code points below this one are allowed.
 const END: u32 = 0x300;

@@ -1,10 +1,12 @@
 -- The shard payload and the bytes that get signed: document 01, "CBOR payloads" and "House sizes" (source 9).
-use Prim.Native.Nat.{ℕ, _+_, _*_, _/_}
+use Prim.Native.Nat.{ℕ, _+_, _-_, _*_, _/_, _^_}
 use mathlib.Core.Bool.{Bool, _&&_, _||_}
 use mathlib.Core.List.{List, [], _∷_, _++_}
 use lib.Dec.{eqb, leb}
 use lib.ListN.{length}
 use Rattle.wire.specs.Answer.{choose, Answer, done, refused, then, demand, Got, got}
+use Rattle.wire.specs.Ascii.{ascii}
+use Rattle.wire.specs.Sizes.{mostShare}
 use Rattle.wire.specs.declared.Span.{Span}
 use Rattle.wire.specs.Span.{partAt}
 use Rattle.lend.specs.Same.{same}
@@ -17,13 +19,11 @@ use Rattle.shard.specs.declared.Quorum.{Quorum}
 
 -- ---- the rules of the values
 
--- `passphrase`
 abbrev pub passphrase : List ℕ
-passphrase = 112 ∷ 97 ∷ 115 ∷ 115 ∷ 112 ∷ 104 ∷ 114 ∷ 97 ∷ 115 ∷ 101 ∷ []
+passphrase = ascii "passphrase"
 
--- `signing-seed`
 abbrev pub signingSeed : List ℕ
-signingSeed = 115 ∷ 105 ∷ 103 ∷ 110 ∷ 105 ∷ 110 ∷ 103 ∷ 45 ∷ 115 ∷ 101 ∷ 101 ∷ 100 ∷ []
+signingSeed = ascii "signing-seed"
 
 -- "type is `passphrase` or `signing-seed`"
 unfoldable pub known : List ℕ → Bool
@@ -44,12 +44,12 @@ kindAt s at =
     (then (contentsAt s b len) (λ (kind, next).
     demand (known (partAt s kind)) 19 (got kind next)))))
 
--- `type`; `share` of at most 224 bytes; `length`, 1 or more of what a head can hold, at which the rule over it and the share is judged
+-- `type`; `share`, no longer than the house size; `length`, 1 or more of what a head can hold, at which the rule over it and the share is judged
 unfoldable pub contentAt : List ℕ → ℕ → Got Content
 contentAt s at =
     then (kindAt s at) (λ (kind, a).
-    then (stringFieldAt s a shareKey 2 0 224 19) (λ (share, b).
-    then (numberFieldAt s b lengthKey 1 0xFFFFFFFFFFFFFFFF) (λ (len, next).
+    then (stringFieldAt s a shareKey 2 0 mostShare 19) (λ (share, b).
+    then (numberFieldAt s b lengthKey 1 (2 ^ 64 - 1)) (λ (len, next).
     demand (eqb (share .len) (padded len)) 19
     (got (record { kind = kind; share = share; length = len }) next))))
 
@@ -91,17 +91,17 @@ quorumOf q =
     numberFieldOf thresholdKey (q .threshold) ++ (numberFieldOf shareCountKey (q .count) ++ numberFieldOf shareIndexKey (q .index))
 
 -- from `hash` on the payload and the signed bytes are the same
-unfoldable pub restOf : List ℕ → List ℕ → List ℕ → ℕ → Quorum → List ℕ
+unfoldable pub restOf : (hash kind share : List ℕ) (len : ℕ) (q : Quorum) → List ℕ
 restOf hash kind share len q = stringFieldOf hashKey 2 hash ++ (contentOf kind share len ++ (numberFieldOf versionKey 1 ++ quorumOf q))
 
-unfoldable pub shardOf : List ℕ → List ℕ → List ℕ → List ℕ → List ℕ → ℕ → Quorum → List ℕ
+unfoldable pub shardOf : (public sig hash kind share : List ℕ) (len : ℕ) (q : Quorum) → List ℕ
 shardOf public sig hash kind share len q =
     (0xAA ∷ []) ++ (stringFieldOf pubKey 2 public ++ (stringFieldOf sigKey 2 sig ++ restOf hash kind share len q))
 
 -- ---- what a writer judges, in the order of the keys
 
 unfoldable pub contentFits : List ℕ → List ℕ → ℕ → Bool
-contentFits kind share len = known kind && (leb (length share) 224 && (leb 1 len && eqb (length share) (padded len)))
+contentFits kind share len = known kind && (leb (length share) mostShare && (leb 1 len && eqb (length share) (padded len)))
 
 -- 1 to 255
 unfoldable pub small : ℕ → Bool
@@ -111,26 +111,25 @@ unfoldable pub quorumFits : Quorum → Bool
 quorumFits q =
     small (q .threshold) && (small (q .count) && (leb (q .threshold) (q .count) && (small (q .index) && leb (q .index) (q .count))))
 
-unfoldable pub restFits : List ℕ → List ℕ → List ℕ → ℕ → Quorum → Bool
+unfoldable pub restFits : (hash kind share : List ℕ) (len : ℕ) (q : Quorum) → Bool
 restFits hash kind share len q = eqb (length hash) 32 && (contentFits kind share len && quorumFits q)
 
 -- a value outside its range is 19. There is no 9: the payload of values in their ranges has at most 456 bytes (`shard-most`: proofs/Lengths; 02, Ticket 11)
-unfoldable pub shardVerdict : List ℕ → List ℕ → List ℕ → List ℕ → List ℕ → ℕ → Quorum → Answer (List ℕ)
+unfoldable pub shardVerdict : (public sig hash kind share : List ℕ) (len : ℕ) (q : Quorum) → Answer (List ℕ)
 shardVerdict public sig hash kind share len q =
     choose (eqb (length public) 32 && (eqb (length sig) 64 && restFits hash kind share len q)) (done (shardOf public sig hash kind share len q)) (refused 19)
 
 -- ---- the bytes that get signed
 
--- `ETHERNITY-SHARD-V1`
 abbrev pub shardDomain : List ℕ
-shardDomain = 69 ∷ 84 ∷ 72 ∷ 69 ∷ 82 ∷ 78 ∷ 73 ∷ 84 ∷ 89 ∷ 45 ∷ 83 ∷ 72 ∷ 65 ∷ 82 ∷ 68 ∷ 45 ∷ 86 ∷ 49 ∷ []
+shardDomain = ascii "ETHERNITY-SHARD-V1"
 
 -- the domain, then the map without `sig`, head A9
-unfoldable pub signedOf : List ℕ → List ℕ → List ℕ → List ℕ → ℕ → Quorum → List ℕ
+unfoldable pub signedOf : (public hash kind share : List ℕ) (len : ℕ) (q : Quorum) → List ℕ
 signedOf public hash kind share len q =
     shardDomain ++ ((0xA9 ∷ []) ++ (stringFieldOf pubKey 2 public ++ restOf hash kind share len q))
 
 -- the values are judged as by the writer, sig apart
-unfoldable pub signedVerdict : List ℕ → List ℕ → List ℕ → List ℕ → ℕ → Quorum → Answer (List ℕ)
+unfoldable pub signedVerdict : (public hash kind share : List ℕ) (len : ℕ) (q : Quorum) → Answer (List ℕ)
 signedVerdict public hash kind share len q =
     choose (eqb (length public) 32 && restFits hash kind share len q) (done (signedOf public hash kind share len q)) (refused 19)

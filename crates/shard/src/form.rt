@@ -2,6 +2,7 @@
 ghost use mathlib.Core.Path.{_≡_};
 ghost use Prim.Native.Nat.{_+_, _≤_};
 ghost use lib.ListN.{length};
+ghost use Rattle.wire.specs.Sizes.{mostShare};
 ghost use Rattle.wire.specs.Over.{over};
 ghost use Rattle.cbor.specs.Form.{headSize};
 ghost use Rattle.cbor.specs.Put.{Put};
@@ -25,7 +26,7 @@ fn size(n: u64) -> usize
 
 // How long the form is from `hash` on. All its keys, `hash`, `version` and the head of `type` make 101 bytes.
 pub(super) fn rest_size(hash: &[u8], kind: &[u8], share: &[u8], len: u64, q: Quorum) -> usize
-    requires { ⌜ (length (now hash) ≡ 32) × (length (now kind) ≤ 12) × (length (now share) ≤ 224) ⌝ }
+    requires { ⌜ (length (now hash) ≡ 32) × (length (now kind) ≤ 12) × (length (now share) ≤ mostShare) ⌝ }
     ensures { λ r. ⌜ (r ≡ length (restOf (now (hash .entry)) (now (kind .entry)) (now (share .entry)) len q)) × (r ≤ 400) ⌝ }
 {
     let numbers = size(len) + size(q.threshold) + size(q.count) + size(q.index);

@@ -86,7 +86,15 @@ pub(super) fn content(s: &[u8], at: usize) -> ContentRead
     let StringRead::Value { start, len, next } = k else {
         return ContentRead::Refused { no: string_no(k) };
     };
-    let h = cbor::read::string_field(s, next, b"share", BYTES, 0, rule::MOST_SHARE, OUT_OF_RANGE);
+    let h = cbor::read::string_field(
+        s,
+        next,
+        b"share",
+        BYTES,
+        0,
+        wire::MOST_SHARE as u64,
+        OUT_OF_RANGE,
+    );
     let StringRead::Value {
         start: share,
         len: size,
@@ -95,7 +103,7 @@ pub(super) fn content(s: &[u8], at: usize) -> ContentRead
     else {
         return ContentRead::Refused { no: string_no(h) };
     };
-    let n = cbor::read::number_field(s, b, b"length", 1, 0xFFFFFFFFFFFFFFFF);
+    let n = cbor::read::number_field(s, b, b"length", 1, u64::MAX);
     let NumberRead::Value { n: length, next } = n else {
         return ContentRead::Refused { no: number_no(n) };
     };

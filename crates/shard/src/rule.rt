@@ -4,9 +4,6 @@ ghost use lib.Dec.{eqb};
 ghost use Rattle.shard.specs.Shard.{known, padded, contentFits, quorumFits, restFits};
 use super::Quorum;
 
-// House size of a share.
-pub(super) const MOST_SHARE: u64 = 224;
-
 // What is shared is a passphrase or a seed to sign with.
 pub(super) fn is_known(kind: &[u8]) -> bool
     ensures { λ r. ⌜ r ≡ known (now (kind .entry)) ⌝ }
@@ -38,7 +35,7 @@ fn content_fits(kind: &[u8], share: &[u8], len: u64) -> bool
     if !is_known(kind) {
         return false;
     }
-    if MOST_SHARE < size {
+    if (wire::MOST_SHARE as u64) < size {
         return false;
     }
     if len < 1 {

@@ -5,6 +5,7 @@ use mathlib.Core.List.{List, _++_}
 use lib.ListN.{length}
 use Rattle.wire.specs.Over.{over}
 use Rattle.wire.specs.Answer.{Answer, done}
+use Rattle.wire.specs.Sizes.{mostData}
 use Rattle.text.specs.Text as text
 use Rattle.page.specs.Page.{pageCount, countOf, joined}
 use Rattle.sheet.specs.Sheet.{idLine, scanLine, typedLines, printed}
@@ -13,8 +14,8 @@ use Rattle.sheet.specs.declared.Form.the-variants.{Square, Below}
 
 -- the document can be printed, and has a page k
 pub record There (c : List ℕ) (k : ℕ) : Type 0 where
-  pub counted : done (pageCount (length c) 480) ≡ countOf (length c) 480
-  pub below : k < pageCount (length c) 480
+  pub counted : done (pageCount (length c) mostData) ≡ countOf (length c) mostData
+  pub below : k < pageCount (length c) mostData
 
 abbrev pub textForm : Form → text.Form
 textForm Square = text.base64
@@ -26,10 +27,10 @@ linesOf Square = scanLine
 linesOf Below = typedLines
 
 unfoldable pub sheetOf : Form → List ℕ → List ℕ
-sheetOf f c = idLine c ++ joined (pageCount (length c) 480) (linesOf f c)
+sheetOf f c = idLine c ++ joined (pageCount (length c) mostData) (linesOf f c)
 
 unfoldable pub sheetVerdict : Form → List ℕ → Answer (List ℕ)
-sheetVerdict f c = printed (sheetOf f c) (countOf (length c) 480)
+sheetVerdict f c = printed (sheetOf f c) (countOf (length c) mostData)
 
 -- bytes, at most so many, were written from index at on up to index r: l became x
 pub record Laid (at most : ℕ) (bs l x : List ℕ) (r : ℕ) : Type 0 where

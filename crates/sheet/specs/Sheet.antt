@@ -1,9 +1,11 @@
--- A document as it is printed: document 01, "Frames", the paragraph "Printing". The page size is 480.
+-- A document as it is printed: document 01, "Frames", the paragraph "Printing". Every page but the last is as long as a page may be.
 use Prim.Native.Nat.{ℕ, _+_, _/_, _%_}
 use mathlib.Core.List.{List, [], _∷_, _++_}
 use lib.Dec.{ltb}
 use lib.ListN.{length}
 use Rattle.wire.specs.Answer.{choose, Answer, done, then, demand}
+use Rattle.wire.specs.Ascii.{ascii}
+use Rattle.wire.specs.Sizes.{mostData}
 use Rattle.text.specs.Text.{Form, base64, zbase32, textOf}
 use Rattle.page.specs.Page.{documentId, pageCount, pageFrame, countOf, joined}
 use Rattle.status.specs.Line.{decimal, lineFeed}
@@ -23,7 +25,7 @@ idLine c = hexOf (documentId c) ++ lineFeed
 
 -- page k through a text form: "Writers insert no spaces"
 unfoldable pub textLine : Form → List ℕ → ℕ → List ℕ
-textLine f c k = textOf f (pageFrame c 480 k) ++ lineFeed
+textLine f c k = textOf f (pageFrame c mostData k) ++ lineFeed
 
 -- "each further line is one base64 scan"
 unfoldable pub scanLine : List ℕ → ℕ → List ℕ
@@ -31,10 +33,10 @@ scanLine c k = textLine base64 c k
 
 -- `page `, ` of `: the words, with their spaces
 abbrev pub pageWord : List ℕ
-pageWord = 112 ∷ 97 ∷ 103 ∷ 101 ∷ 32 ∷ []
+pageWord = ascii "page "
 
 abbrev pub ofWord : List ℕ
-ofWord = 32 ∷ 111 ∷ 102 ∷ 32 ∷ []
+ofWord = ascii " of "
 
 -- `page K of N`: "Places count from 0"
 unfoldable pub placeLine : ℕ → ℕ → List ℕ
@@ -42,28 +44,28 @@ placeLine k n = pageWord ++ decimal k ++ ofWord ++ decimal n ++ lineFeed
 
 -- the place, and the text to be typed
 unfoldable pub typedLines : List ℕ → ℕ → List ℕ
-typedLines c k = placeLine k (pageCount (length c) 480) ++ textLine zbase32 c k
+typedLines c k = placeLine k (pageCount (length c) mostData) ++ textLine zbase32 c k
 
 -- what is printed: the id and every page's line in order
 unfoldable pub scanSheet : List ℕ → List ℕ
-scanSheet c = idLine c ++ joined (pageCount (length c) 480) (scanLine c)
+scanSheet c = idLine c ++ joined (pageCount (length c) mostData) (scanLine c)
 
 unfoldable pub typedSheet : List ℕ → List ℕ
-typedSheet c = idLine c ++ joined (pageCount (length c) 480) (typedLines c)
+typedSheet c = idLine c ++ joined (pageCount (length c) mostData) (typedLines c)
 
 -- "Order: page size or empty ciphertext 19, more than 96 pages 9"
 abbrev pub printed : List ℕ → Answer ℕ → Answer (List ℕ)
 printed sheet counted = then counted (λ _. done sheet)
 
 unfoldable pub scanVerdict : List ℕ → Answer (List ℕ)
-scanVerdict c = printed (scanSheet c) (countOf (length c) 480)
+scanVerdict c = printed (scanSheet c) (countOf (length c) mostData)
 
 unfoldable pub typedVerdict : List ℕ → Answer (List ℕ)
-typedVerdict c = printed (typedSheet c) (countOf (length c) 480)
+typedVerdict c = printed (typedSheet c) (countOf (length c) mostData)
 
 -- of one page, "page number not below the total 8"
 unfoldable pub placeVerdict : List ℕ → ℕ → Answer (List ℕ)
 placeVerdict c k =
-    then (countOf (length c) 480) (λ n.
+    then (countOf (length c) mostData) (λ n.
     demand (ltb k n) 8
     (done (typedLines c k)))

@@ -5,13 +5,14 @@ use mathlib.Core.List.{List, [], _∷_}
 use lib.Dec.{leb, eqb}
 use lib.ListN.{length}
 use Rattle.wire.specs.Answer.{choose}
+use Rattle.wire.specs.Sizes.{mostPages}
 use Rattle.sheet.specs.declared.Asked.{Asked}
 use Rattle.sheet.specs.declared.Asked.the-variants.{Page, Nothing}
 
--- the digits after those that said k. A number above 96 counts as 96: no document has a page 96, so that it is refused alike
+-- the digits after those that said k. A number above the most pages counts as that: no document has such a page, so that it is refused alike
 unfoldable pub saidFrom : ℕ → List ℕ → Asked
 saidFrom k [] = Page k
-saidFrom k (b ∷ bs) = choose (leb 0x30 b && leb b 0x39) (saidFrom (min (k * 10 + (b - 0x30)) 96) bs) Nothing
+saidFrom k (b ∷ bs) = choose (leb 0x30 b && leb b 0x39) (saidFrom (min (k * 10 + (b - 0x30)) mostPages) bs) Nothing
 
 unfoldable pub askedOf : List ℕ → Asked
 askedOf word = choose (eqb (length word) 0) Nothing (saidFrom 0 word)

@@ -6,6 +6,7 @@ ghost use lib.Dec.{ltb};
 ghost use lib.ListN.{length};
 ghost use Rattle.wire.specs.Over.{over};
 ghost use Rattle.wire.specs.Answer.{done, demand};
+ghost use Rattle.wire.specs.Sizes.{mostPages, mostData};
 ghost use Rattle.wire.specs.Writing.{Written};
 ghost use Rattle.status.specs.Line.{decimal};
 ghost use Rattle.text.specs.Text.{textOf};
@@ -17,8 +18,6 @@ ghost use Rattle.sheet.specs.Word.{askedOf};
 use page::PageCount;
 use wire::Wrote;
 
-const PAGE_SIZE: usize = 480;
-
 // The line of the document id: 16 digits and the line feed.
 const ID_LINE: usize = 17;
 
@@ -28,8 +27,8 @@ const TEXT_ROOM: usize = 800;
 // No page's lines have more bytes: `page 95 of 96`, the text, and two line feeds.
 const PAGE_ROOM: usize = TEXT_ROOM + 15;
 
-// Room for every sheet, of 96 pages too.
-pub const ROOM: usize = ID_LINE + 96 * PAGE_ROOM;
+// Room for every sheet.
+pub const ROOM: usize = ID_LINE + wire::MOST_PAGES * PAGE_ROOM;
 
 // What is printed of a page.
 enum Form {
@@ -41,7 +40,7 @@ enum Form {
 
 // The number of a page, as a word says it.
 pub enum Asked {
-    // It is 96 where the word says more: no document has such a page.
+    // It is the most pages where the word says more: no document has such a page.
     Page { k: usize },
     // The word is no decimal number.
     Nothing,
@@ -110,18 +109,18 @@ fn place(out: &mut [u8], at: usize, k: u8, n: u8) -> usize
 // ---- the lines of a page
 
 fn encode(form: Form, c: &[u8], k: usize, out: &mut [u8]) -> Wrote
-    ensures { λ r. ⌜ Written 0 (textVerdict (textForm form) (pageVerdict (now (c .entry)) 480 k)) (now (out .entry)) (now (out .exit)) r ⌝ }
+    ensures { λ r. ⌜ Written 0 (textVerdict (textForm form) (pageVerdict (now (c .entry)) mostData k)) (now (out .entry)) (now (out .exit)) r ⌝ }
 {
     match form {
-        Form::Square => page::write_base64(c, PAGE_SIZE, k, out),
-        Form::Below => page::write_zbase32(c, PAGE_SIZE, k, out),
+        Form::Square => page::write_base64(c, wire::MOST_DATA, k, out),
+        Form::Below => page::write_zbase32(c, wire::MOST_DATA, k, out),
     }
 }
 
 // The text of a page that there is, at the front of out, where there is room: so it is not refused.
 fn text(form: Form, c: &[u8], k: usize, out: &mut [u8]) -> usize
     requires { ⌜ There (now c) k × (800 ≤ length (now out)) ⌝ }
-    ensures { λ r. ⌜ Laid 0 800 (textOf (textForm form) (pageFrame (now (c .entry)) 480 k)) (now (out .entry)) (now (out .exit)) r ⌝ }
+    ensures { λ r. ⌜ Laid 0 800 (textOf (textForm form) (pageFrame (now (c .entry)) mostData k)) (now (out .entry)) (now (out .exit)) r ⌝ }
 {
     let made = encode(form, c, k, out);
     let Wrote::Done { len } = made else {
@@ -142,7 +141,7 @@ fn text_line(form: Form, c: &[u8], k: usize, out: &mut [u8], at: usize) -> usize
 }
 
 fn lines(form: Form, c: &[u8], k: usize, n: usize, out: &mut [u8], at: usize) -> usize
-    requires { ⌜ (done n ≡ countOf (length (now c)) 480) × (k < n) × (at + 815 ≤ length (now out)) ⌝ }
+    requires { ⌜ (done n ≡ countOf (length (now c)) mostData) × (k < n) × (at + 815 ≤ length (now out)) ⌝ }
     ensures { λ r. ⌜ Laid at 815 (linesOf form (now (c .entry)) k) (now (out .entry)) (now (out .exit)) r ⌝ }
 {
     match form {
@@ -158,8 +157,8 @@ fn lines(form: Form, c: &[u8], k: usize, n: usize, out: &mut [u8], at: usize) ->
 
 // The id and all pages, from the front of out on. Answers how many bytes they are.
 fn lay(form: Form, c: &[u8], n: usize, out: &mut [u8]) -> usize
-    requires { ⌜ (done n ≡ countOf (length (now c)) 480) × (78257 ≤ length (now out)) ⌝ }
-    ensures { λ r. ⌜ Laid 0 78257 (sheetOf form (now (c .entry))) (now (out .entry)) (now (out .exit)) r ⌝ }
+    requires { ⌜ (done n ≡ countOf (length (now c)) mostData) × (17 + mostPages * 815 ≤ length (now out)) ⌝ }
+    ensures { λ r. ⌜ Laid 0 (17 + mostPages * 815) (sheetOf form (now (c .entry))) (now (out .entry)) (now (out .exit)) r ⌝ }
 {
     id_line(c, out);
     let mut at = ID_LINE;
@@ -172,7 +171,7 @@ fn lay(form: Form, c: &[u8], n: usize, out: &mut [u8]) -> usize
 }
 
 fn all(form: Form, c: &[u8], n: usize, out: &mut [u8]) -> Wrote
-    requires { ⌜ done n ≡ countOf (length (now c)) 480 ⌝ }
+    requires { ⌜ done n ≡ countOf (length (now c)) mostData ⌝ }
     ensures { λ r. ⌜ Written 0 (done (sheetOf form (now (c .entry)))) (now (out .entry)) (now (out .exit)) r ⌝ }
 {
     let mut aside = [0u8; ROOM];
@@ -183,14 +182,14 @@ fn all(form: Form, c: &[u8], n: usize, out: &mut [u8]) -> Wrote
 fn sheet(form: Form, c: &[u8], out: &mut [u8]) -> Wrote
     ensures { λ r. ⌜ Written 0 (sheetVerdict form (now (c .entry))) (now (out .entry)) (now (out .exit)) r ⌝ }
 {
-    match page::count(c.len(), PAGE_SIZE) {
+    match page::count(c.len(), wire::MOST_DATA) {
         PageCount::Refused { no } => Wrote::Refused { no },
         PageCount::Pages { n } => all(form, c, n, out),
     }
 }
 
 fn one(c: &[u8], k: usize, n: usize, out: &mut [u8]) -> Wrote
-    requires { ⌜ done n ≡ countOf (length (now c)) 480 ⌝ }
+    requires { ⌜ done n ≡ countOf (length (now c)) mostData ⌝ }
     ensures { λ r. ⌜ Written 0 (demand (ltb k n) 8 (done (typedLines (now (c .entry)) k))) (now (out .entry)) (now (out .exit)) r ⌝ }
 {
     if n <= k {
@@ -221,19 +220,19 @@ pub fn typed(c: &[u8], out: &mut [u8]) -> Wrote
 pub fn typed_page(c: &[u8], k: usize, out: &mut [u8]) -> Wrote
     ensures { λ r. ⌜ Written 0 (placeVerdict (now (c .entry)) k) (now (out .entry)) (now (out .exit)) r ⌝ }
 {
-    match page::count(c.len(), PAGE_SIZE) {
+    match page::count(c.len(), wire::MOST_DATA) {
         PageCount::Refused { no } => Wrote::Refused { no },
         PageCount::Pages { n } => one(c, k, n, out),
     }
 }
 
-fn at_most_96(n: usize) -> usize
-    ensures { λ r. ⌜ r ≡ min n 96 ⌝ }
+fn at_most_pages(n: usize) -> usize
+    ensures { λ r. ⌜ r ≡ min n mostPages ⌝ }
 {
-    if n < 96 {
+    if n < wire::MOST_PAGES {
         return n;
     }
-    96
+    wire::MOST_PAGES
 }
 
 // What a word of decimal digits says.
@@ -253,7 +252,7 @@ pub fn page_asked(word: &[u8]) -> Asked
         if b'9' < b {
             return Asked::Nothing;
         }
-        k = at_most_96(k * 10 + (b - b'0') as usize);
+        k = at_most_pages(k * 10 + (b - b'0') as usize);
         i += 1;
     }
     Asked::Page { k }

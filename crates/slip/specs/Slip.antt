@@ -4,6 +4,7 @@ use mathlib.Core.List.{List}
 use lib.Dec.{eqb, leb}
 use lib.ListN.{length}
 use Rattle.wire.specs.Answer.{Answer, done, then, demand, Got}
+use Rattle.wire.specs.Sizes.{mostData, idSize}
 use Rattle.frame.specs.Layout.{layout}
 use Rattle.auth.specs.Auth.{authAt}
 use Rattle.shard.specs.Shard.{shardAt}
@@ -11,8 +12,8 @@ use Rattle.shard.specs.Shard.{shardAt}
 -- an id that is not of 8 bytes is 19, data above 480 bytes 9; then what the payload's reader refuses of the data; else the frame, the first of one
 unfoldable pub slip : {A : Type 0} → (kind : ℕ) (id contents : List ℕ) (read : Got A) → Answer (List ℕ)
 slip kind id contents read =
-    demand (eqb (length id) 8) 19
-    (demand (leb (length contents) 480) 9
+    demand (eqb (length id) idSize) 19
+    (demand (leb (length contents) mostData) 9
     (then read (λ _.
     done (layout kind id 0 1 contents))))
 

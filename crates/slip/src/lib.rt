@@ -2,6 +2,7 @@
 ghost use mathlib.Core.Path.{_≡_};
 ghost use lib.ListN.{length};
 ghost use Rattle.wire.specs.Answer.{done};
+ghost use Rattle.wire.specs.Sizes.{idSize};
 ghost use Rattle.wire.specs.Writing.{Written};
 ghost use Rattle.frame.specs.Layout.{layout};
 ghost use Rattle.slip.specs.Slip.{keyFrame, authFrame};
@@ -11,10 +12,10 @@ use wire::Wrote;
 
 // The frame, once its payload is accepted: such a frame is the first of one.
 fn lay(kind: u8, id: &[u8], contents: &[u8], out: &mut [u8]) -> Wrote
-    requires { ⌜ length (now id) ≡ 8 ⌝ }
+    requires { ⌜ length (now id) ≡ idSize ⌝ }
     ensures { λ r. ⌜ Written 0 (done (layout kind (now (id .entry)) 0 1 (now (contents .entry)))) (now (out .entry)) (now (out .exit)) r ⌝ }
 {
-    let mut eight = [0u8; 8];
+    let mut eight = [0u8; wire::ID_SIZE];
     lend::copy(&mut eight, 0, id);
     frame::lay(kind, &eight, 0, 1, contents, out)
 }
@@ -23,12 +24,12 @@ fn lay(kind: u8, id: &[u8], contents: &[u8], out: &mut [u8]) -> Wrote
 pub fn key(id: &[u8], contents: &[u8], out: &mut [u8]) -> Wrote
     ensures { λ r. ⌜ Written 0 (keyFrame (now (id .entry)) (now (contents .entry))) (now (out .entry)) (now (out .exit)) r ⌝ }
 {
-    if id.len() != 8 {
+    if id.len() != wire::ID_SIZE {
         return Wrote::Refused {
             no: wire::OUT_OF_RANGE,
         };
     }
-    if frame::MOST_DATA < contents.len() as u64 {
+    if wire::MOST_DATA < contents.len() {
         return Wrote::Refused {
             no: wire::TOO_LARGE,
         };
@@ -54,12 +55,12 @@ pub fn key(id: &[u8], contents: &[u8], out: &mut [u8]) -> Wrote
 pub fn auth(id: &[u8], contents: &[u8], out: &mut [u8]) -> Wrote
     ensures { λ r. ⌜ Written 0 (authFrame (now (id .entry)) (now (contents .entry))) (now (out .entry)) (now (out .exit)) r ⌝ }
 {
-    if id.len() != 8 {
+    if id.len() != wire::ID_SIZE {
         return Wrote::Refused {
             no: wire::OUT_OF_RANGE,
         };
     }
-    if frame::MOST_DATA < contents.len() as u64 {
+    if wire::MOST_DATA < contents.len() {
         return Wrote::Refused {
             no: wire::TOO_LARGE,
         };

@@ -1,4 +1,5 @@
-// What every crate of Stiltbasket shares: the numbers that a call may answer, the answer of a call that writes, and where bytes stand.
+// What every crate of Stiltbasket shares: the numbers that a call may answer, the house sizes, the answer of a call that writes, and where
+// bytes stand.
 // The definitions that contracts cite are in specs/, their laws in proofs/.
 
 // Document 01, "Numbers a call may answer". Each refusal is its number, named here and nowhere else.
@@ -43,6 +44,31 @@ pub const OUT_OF_RANGE: u8 = 19;
 pub const BAD_PATH: u8 = 20;
 
 pub const BAD_CONTENTS: u8 = 21;
+
+// Document 01, "House sizes", and what follows from them: specs/Sizes.antt has a line on each.
+pub const MOST_PAGES: usize = 96;
+
+pub const MOST_DATA: usize = 480;
+
+pub const MOST_MANIFEST: usize = 16384;
+
+pub const MOST_FILES: usize = 64;
+
+pub const MOST_PATH: usize = 200;
+
+pub const MOST_FILE_SIZE: u64 = 0xFFFFFFFF;
+
+pub const MOST_SHARE: usize = 224;
+
+pub const ID_SIZE: usize = 8;
+
+pub const BLOCK_SIZE: usize = 512;
+
+pub const SUMMED_SIZE: usize = BLOCK_SIZE - 4;
+
+pub const COLLECTION_SIZE: usize = (1 + MOST_PAGES) * BLOCK_SIZE;
+
+pub const MOST_CIPHERTEXT: usize = MOST_PAGES * MOST_DATA;
 
 // The answer of a call that writes into lent output: how many bytes it wrote, or the refusal, which wrote none.
 pub enum Wrote {

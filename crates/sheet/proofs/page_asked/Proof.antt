@@ -27,17 +27,17 @@ returns-2 c = below-digits _ _ _ (c .before .before .before .loop .inv) (c .befo
 returns-3 : tie.Need-returns-3 Inv-loop μ-loop
 returns-3 c = above-digits _ _ _ (c .before .before .before .before .loop .inv) (c .before .before .before .loop-test .taken) (c .before .if2 .left) (c .if3 .taken)
 
-mul-at-most-96 : tie.Need-mul-at-most-96 Inv-loop μ-loop
-mul-at-most-96 c = search needs
+mul-at-most-pages : tie.Need-mul-at-most-pages Inv-loop μ-loop
+mul-at-most-pages c = search needs
 
-cast-at-most-96 : tie.Need-cast-at-most-96 Inv-loop μ-loop
-cast-at-most-96 c = search needs
+cast-at-most-pages : tie.Need-cast-at-most-pages Inv-loop μ-loop
+cast-at-most-pages c = search needs
 
-add-at-most-96 : tie.Need-add-at-most-96 Inv-loop μ-loop
-add-at-most-96 c = search needs
+add-at-most-pages : tie.Need-add-at-most-pages Inv-loop μ-loop
+add-at-most-pages c = search needs
 
-at-most-96-requires : tie.Need-at-most-96-requires Inv-loop μ-loop
-at-most-96-requires c κs = search needs
+at-most-pages-requires : tie.Need-at-most-pages-requires Inv-loop μ-loop
+at-most-pages-requires c κs = search needs
 
 add-i : tie.Need-add-i Inv-loop μ-loop
 add-i c = search needs
@@ -46,7 +46,7 @@ loop-less : tie.Need-loop-less Inv-loop μ-loop
 loop-less c = search needs
 
 loop-again : tie.Need-loop-again Inv-loop μ-loop
-loop-again c = saying-on _ _ _ (c .before .before .before .before .before .loop .inv) _ (c .before .before .before .before .loop-test .taken) (c .before .before .if2 .left) (c .before .if3 .left) (c .at-most-96 .ensures)
+loop-again c = saying-on _ _ _ (c .before .before .before .before .before .loop .inv) _ (c .before .before .before .before .loop-test .taken) (c .before .before .if2 .left) (c .before .if3 .left) (c .at-most-pages .ensures)
 
 returns-4 : tie.Need-returns-4 Inv-loop μ-loop
 returns-4 c = saying-end _ _ _ (c .before .loop .inv) (c .loop-test .left)
@@ -62,10 +62,10 @@ page-asked-spec =
     shared-slice-read-b
     returns-2
     returns-3
-    mul-at-most-96
-    cast-at-most-96
-    add-at-most-96
-    at-most-96-requires
+    mul-at-most-pages
+    cast-at-most-pages
+    add-at-most-pages
+    at-most-pages-requires
     add-i
     loop-less
     loop-again
