@@ -34,7 +34,7 @@ extern "C" {
 /* What became of an offered page: stilt_place of a stilt_offer that is done. */
 #define STILT_HELD 1     /* the page is held */
 #define STILT_DISPUTED 2 /* two scans of this page differ: neither is kept, for good */
-#define STILT_TOTALS 3   /* two scans name two totals: no page is kept, for good */
+#define STILT_DISAGREE 3 /* two scans name two totals: no page is kept, for good */
 
 /* Why a call was refused. */
 #define STILT_CUT 3              /* a frame ends inside a field, or has bytes left over */
@@ -49,7 +49,7 @@ extern "C" {
 #define STILT_OTHER_DOCUMENT 12  /* not a page of this document; for stilt_join: two documents */
 #define STILT_BAD_COLLECTION 13  /* not a collection: another size, or a byte of it is damaged */
 #define STILT_TOTALS_DISAGREE 14 /* two scans named two totals */
-#define STILT_PAGE_DISPUTED 15   /* a page was scanned in two versions: stilt_place is the lowest */
+#define STILT_PAGE_DISPUTED 15   /* two scans of a page differ: stilt_place is the lowest such page */
 #define STILT_PAGE_MISSING 16    /* a page is missing: stilt_place is the lowest */
 #define STILT_OTHER_CIPHERTEXT 17 /* all pages are there, but they are not the document of this id */
 #define STILT_BAD_ID 19          /* the id is not 8 bytes */
@@ -64,7 +64,7 @@ uint64_t stilt_open(const uint8_t *id, size_t id_len, uint8_t *collection, size_
  * Takes one scanned frame, as its raw bytes (the base64 of the code square, decoded), into the collection.
  * Offer every scan: one that was seen before changes nothing, and one that is refused changes nothing.
  * Refused with 13 where `collection` is none, then with 3 to 10 for the frame's own faults, then with 12 where it is no main frame
- * of this document. Done: stilt_place is STILT_HELD, STILT_DISPUTED or STILT_TOTALS. Only blocks that change are written.
+ * of this document. Done: stilt_place is STILT_HELD, STILT_DISPUTED or STILT_DISAGREE. Only blocks that change are written.
  */
 uint64_t stilt_offer(uint8_t *collection, size_t len, const uint8_t *frame, size_t frame_len);
 

@@ -153,7 +153,7 @@ static void disputes(void)
     open_ok(&other);
     offer_page(&other, 1);
     answer = stilt_offer(other.bytes, sizeof other.bytes, PAGE_OF_OTHER_TOTAL, sizeof PAGE_OF_OTHER_TOTAL);
-    EXPECT(answer == ((uint64_t)STILT_TOTALS << 8));
+    EXPECT(answer == ((uint64_t)STILT_DISAGREE << 8));
     finish_lacks(&other, STILT_TOTALS_DISAGREE, 0);
     EXPECT(stilt_join(c.bytes, sizeof c.bytes, other.bytes, sizeof other.bytes) == 0);
     EXPECT(memcmp(c.bytes, other.bytes, sizeof c.bytes) == 0);

@@ -14,7 +14,7 @@ use Rattle.wire.specs.declared.Span.{Span}
 use Rattle.wire.specs.Span.{partAt}
 use Rattle.cbor.specs.Form.{stringFieldOf, numberFieldOf}
 use Rattle.cbor.specs.Item.{oneAt, stringFieldAt, numberFieldAt}
-use Rattle.cbor.specs.Names.{pubKey, sigKey, hashKey, versionKey}
+use Rattle.wire.specs.Ascii.{ascii}
 use Rattle.cbor.proofs.Within.{string-field-within, number-field-within}
 use Rattle.cbor.proofs.Written.{kind-bytes, one-back, string-field-back, number-field-back}
 use Rattle.cbor.proofs.Only.{one-only, string-field-only, number-field-only}
@@ -39,13 +39,13 @@ field-back {s} k name bs b c e h =
 
 module _ {s : List ℕ} (public sig hash : List ℕ) (p : length public ≡ 32) (g : length sig ≡ 64) (h : length hash ≡ 32) where
   -- the three fields, one after the other
-  pub claim-back : {at a b next : ℕ} → Stands s at (stringFieldOf pubKey 2 public) a → Stands s a (stringFieldOf sigKey 2 sig) b → Stands s b (stringFieldOf hashKey 2 hash) next
+  pub claim-back : {at a b next : ℕ} → Stands s at (stringFieldOf (ascii "pub") 2 public) a → Stands s a (stringFieldOf (ascii "sig") 2 sig) b → Stands s b (stringFieldOf (ascii "hash") 2 hash) next
       → (v : Claim) × (claimAt s at ≡ got v next) × Claimed s public sig hash v
   unfolding claimAt
   claim-back h₁ h₂ h₃ =
-      let r₁ = field-back 32 pubKey public (omega arith) (omega arith) p h₁ in
-      let r₂ = field-back 64 sigKey sig (omega arith) (omega arith) g h₂ in
-      let r₃ = field-back 32 hashKey hash (omega arith) (omega arith) h h₃ in (
+      let r₁ = field-back 32 (ascii "pub") public (omega arith) (omega arith) p h₁ in
+      let r₂ = field-back 64 (ascii "sig") sig (omega arith) (omega arith) g h₂ in
+      let r₃ = field-back 32 (ascii "hash") hash (omega arith) (omega arith) h h₃ in (
         record { public = r₁ .0 .start; sig = r₂ .0 .start; hash = r₃ .0 .start },
         rw (r₁ .1, r₂ .1, r₃ .1),
         record { public-is = r₁ .2; sig-is = r₂ .2; hash-is = r₃ .2 },
@@ -58,16 +58,16 @@ unfolding authAt authOf
 auth-back public sig hash p g h = go (authOf public sig hash) (stands-whole (authOf public sig hash))
   where
     P : List ℕ
-    P = stringFieldOf pubKey 2 public
+    P = stringFieldOf (ascii "pub") 2 public
 
     G : List ℕ
-    G = stringFieldOf sigKey 2 sig
+    G = stringFieldOf (ascii "sig") 2 sig
 
     H : List ℕ
-    H = stringFieldOf hashKey 2 hash
+    H = stringFieldOf (ascii "hash") 2 hash
 
     N : List ℕ
-    N = numberFieldOf versionKey 1
+    N = numberFieldOf (ascii "version") 1
 
     go : (s : List ℕ) → Stands s 0 ((0xA4 ∷ []) ++ (P ++ (G ++ (H ++ N)))) (length s) → (v : Claim) × (authAt s ≡ got v (length s)) × Claimed s public sig hash v
     go s t₀ =
@@ -75,7 +75,7 @@ auth-back public sig hash p g h = go (authOf public sig hash) (stands-whole (aut
         let t₂ = stands-second P (G ++ (H ++ N)) t₁ in
         let t₃ = stands-second G (H ++ N) t₂ in
         let c = claim-back public sig hash p g h (stands-first P (G ++ (H ++ N)) t₁) (stands-first G (H ++ N) t₂) (stands-first H N t₃) in
-        let n = number-field-back versionKey 1 1 1 (omega arith) (omega arith) (omega arith) (omega arith) (stands-second H N t₃) in (
+        let n = number-field-back (ascii "version") 1 1 1 (omega arith) (omega arith) (omega arith) (omega arith) (stands-second H N t₃) in (
           c .0,
           rw (one-back 0xA4 (stands-first (0xA4 ∷ []) (P ++ (G ++ (H ++ N))) t₀), c .1, n, eq-eqb (length s) (length s) refl),
           c .2,
@@ -121,21 +121,21 @@ module _ (s : List ℕ) (v : Claim) where
 pub record Three (s : List ℕ) (at : ℕ) (v : Claim) (next : ℕ) : Type 0 where
   pub after-public : ℕ
   pub after-sig : ℕ
-  pub public-stands : Stands s at (stringFieldOf pubKey 2 (publicIn s v)) after-public
-  pub sig-stands : Stands s after-public (stringFieldOf sigKey 2 (sigIn s v)) after-sig
-  pub hash-stands : Stands s after-sig (stringFieldOf hashKey 2 (hashIn s v)) next
+  pub public-stands : Stands s at (stringFieldOf (ascii "pub") 2 (publicIn s v)) after-public
+  pub sig-stands : Stands s after-public (stringFieldOf (ascii "sig") 2 (sigIn s v)) after-sig
+  pub hash-stands : Stands s after-sig (stringFieldOf (ascii "hash") 2 (hashIn s v)) next
 
 pub claim-only : {s : List ℕ} {at next : ℕ} {v : Claim} → Bytes s → claimAt s at ≡ got v next → Three s at v next × Long s v
 unfolding claimAt
 claim-only {s} {at} {next} {v} y e =
-    let t₁ = then-passed (stringFieldAt s at pubKey 2 32 32 19) _ e in
-    let t₂ = then-passed (stringFieldAt s (t₁ .1) sigKey 2 64 64 19) _ (t₁ .3) in
-    let t₃ = then-passed (stringFieldAt s (t₂ .1) hashKey 2 32 32 19) _ (t₂ .3) in
+    let t₁ = then-passed (stringFieldAt s at (ascii "pub") 2 32 32 19) _ e in
+    let t₂ = then-passed (stringFieldAt s (t₁ .1) (ascii "sig") 2 64 64 19) _ (t₁ .3) in
+    let t₃ = then-passed (stringFieldAt s (t₂ .1) (ascii "hash") 2 32 32 19) _ (t₂ .3) in
     let f : _≡_ {A = Claim} (record { public = t₁ .0 .start; sig = t₂ .0 .start; hash = t₃ .0 .start }) v = got-value (t₃ .3) in
     let n : t₃ .1 ≡ next = got-next (t₃ .3) in
-    let r₁ = field-only 32 pubKey y (t₁ .2) in
-    let r₂ = field-only 64 sigKey y (t₂ .2) in
-    let r₃ = field-only 32 hashKey y (t₃ .2) in
+    let r₁ = field-only 32 (ascii "pub") y (t₁ .2) in
+    let r₂ = field-only 64 (ascii "sig") y (t₂ .2) in
+    let r₃ = field-only 32 (ascii "hash") y (t₃ .2) in
     subst (λ (w : Claim). Three s at w next × Long s w) f (
       record { after-public = t₁ .1; after-sig = t₂ .1; public-stands = r₁ .0; sig-stands = r₂ .0; hash-stands = stands-as refl n (r₃ .0) },
       record { public-long = r₁ .1; sig-long = r₂ .1; hash-long = r₃ .1 },
@@ -147,16 +147,16 @@ unfolding authAt authOf
 auth-only {s} {v} {next} y e =
     let t₁ = then-passed (oneAt s 0 0xA4) _ e in
     let t₂ = then-passed (claimAt s (t₁ .1)) _ (t₁ .3) in
-    let t₃ = then-passed (numberFieldAt s (t₂ .1) versionKey 1 1) _ (t₂ .3) in
+    let t₃ = then-passed (numberFieldAt s (t₂ .1) (ascii "version") 1 1) _ (t₂ .3) in
     let u = passed (eqb (t₃ .1) (length s)) (got (t₂ .0) (t₃ .1)) 3 (t₃ .3) in
     let f : t₂ .0 ≡ v = got-value (u .1) in
     let n : t₃ .1 ≡ next = got-next (u .1) in
     let l : t₃ .1 ≡ length s = eqb-true (t₃ .1) (length s) (u .0) in
     let c = claim-only y (t₂ .2) in
     let r = c .0 in
-    let w = number-field-within s (t₂ .1) versionKey 1 1 (t₃ .2) in
+    let w = number-field-within s (t₂ .1) (ascii "version") 1 1 (t₃ .2) in
     let k : t₃ .0 ≡ 1 = omega (arith, w .0, w .1) in
-    let d : Stands s (t₂ .1) (numberFieldOf versionKey 1) (length s) = stands-as (ap (numberFieldOf versionKey) k) l (number-field-only versionKey 1 1 y (t₃ .2)) in
+    let d : Stands s (t₂ .1) (numberFieldOf (ascii "version") 1) (length s) = stands-as (ap (numberFieldOf (ascii "version")) k) l (number-field-only (ascii "version") 1 1 y (t₃ .2)) in
     subst (λ (w : Claim). (s ≡ authOf (publicIn s w) (sigIn s w) (hashIn s w)) × (next ≡ length s) × Long s w) f (
       stands-all (stands-join (one-only 0xA4 (t₁ .2)) (stands-join (r .public-stands) (stands-join (r .sig-stands) (stands-join (r .hash-stands) d)))),
       sym n ∙ l,

@@ -10,7 +10,7 @@ use Rattle.wire.specs.Writing.{Written}
 use Rattle.wire.specs.declared.Wrote.the-variants.{Done, Refused}
 use Rattle.wire.proofs.Writes.{written, no-room, denied}
 use Rattle.cbor.specs.Form.{stringFieldOf, numberFieldOf}
-use Rattle.cbor.specs.Names.{pubKey, sigKey, hashKey, versionKey}
+use Rattle.wire.specs.Ascii.{ascii}
 use Rattle.cbor.specs.Put.{Put}
 use Rattle.cbor.proofs.Runs.{left-all, left-on, left-last}
 use Rattle.auth.specs.Auth.{authOf, authVerdict, authDomain, signedOf, signedVerdict}
@@ -45,8 +45,8 @@ module _ (public sig hash x : List ℕ) where
             rw (auth-accepted public sig hash p g h) (written 0 x (authOf public sig hash) z 157 (omega arith) (sym n) o)
 
   pub auth-run : length (authOf public sig hash) ≤ length x → (a b c d e : ℕ) (x₁ x₂ x₃ x₄ z : List ℕ) → Put 0 (0xA4 ∷ []) x x₁ a
-      → Put a (stringFieldOf pubKey 2 public) x₁ x₂ b → Put b (stringFieldOf sigKey 2 sig) x₂ x₃ c → Put c (stringFieldOf hashKey 2 hash) x₃ x₄ d
-      → Put d (numberFieldOf versionKey 1) x₄ z e → z ≡ over 0 (authOf public sig hash) x
+      → Put a (stringFieldOf (ascii "pub") 2 public) x₁ x₂ b → Put b (stringFieldOf (ascii "sig") 2 sig) x₂ x₃ c → Put c (stringFieldOf (ascii "hash") 2 hash) x₃ x₄ d
+      → Put d (numberFieldOf (ascii "version") 1) x₄ z e → z ≡ over 0 (authOf public sig hash) x
   unfolding authOf
   auth-run l a b c d e x₁ x₂ x₃ x₄ z w₁ w₂ w₃ w₄ w₅ =
       let k : 0 + length (authOf public sig hash) ≤ length x = omega arith in
@@ -75,7 +75,7 @@ module _ (public hash x : List ℕ) where
           rw (signed-accepted public hash p h) (written 0 x (signedOf public hash) z 104 (omega arith) (sym n) o)
 
   pub signed-run : length (signedOf public hash) ≤ length x → (a b c d e : ℕ) (x₁ x₂ x₃ x₄ z : List ℕ) → Put 0 authDomain x x₁ a → Put a (0xA3 ∷ []) x₁ x₂ b
-      → Put b (stringFieldOf pubKey 2 public) x₂ x₃ c → Put c (stringFieldOf hashKey 2 hash) x₃ x₄ d → Put d (numberFieldOf versionKey 1) x₄ z e
+      → Put b (stringFieldOf (ascii "pub") 2 public) x₂ x₃ c → Put c (stringFieldOf (ascii "hash") 2 hash) x₃ x₄ d → Put d (numberFieldOf (ascii "version") 1) x₄ z e
       → z ≡ over 0 (signedOf public hash) x
   unfolding signedOf
   signed-run l a b c d e x₁ x₂ x₃ x₄ z w₁ w₂ w₃ w₄ w₅ =

@@ -7,7 +7,6 @@ use Rattle.wire.specs.Answer.{Answer, done, then, demand, Got, got}
 use Rattle.wire.specs.Ascii.{ascii}
 use Rattle.cbor.specs.Form.{stringFieldOf, numberFieldOf}
 use Rattle.cbor.specs.Item.{oneAt, stringFieldAt, numberFieldAt}
-use Rattle.cbor.specs.Names.{pubKey, sigKey, hashKey, versionKey}
 
 -- who signed what: where pub, sig and hash start. They are 32, 64 and 32 bytes
 pub record Claim : Type 0 where
@@ -18,9 +17,9 @@ pub record Claim : Type 0 where
 -- `pub`, `sig`, `hash`: a shard has them too
 unfoldable pub claimAt : List ℕ → ℕ → Got Claim
 claimAt s at =
-    then (stringFieldAt s at pubKey 2 32 32 19) (λ (public, a).
-    then (stringFieldAt s a sigKey 2 64 64 19) (λ (sig, b).
-    then (stringFieldAt s b hashKey 2 32 32 19) (λ (hash, next).
+    then (stringFieldAt s at (ascii "pub") 2 32 32 19) (λ (public, a).
+    then (stringFieldAt s a (ascii "sig") 2 64 64 19) (λ (sig, b).
+    then (stringFieldAt s b (ascii "hash") 2 32 32 19) (λ (hash, next).
     got (record { public = public .start; sig = sig .start; hash = hash .start }) next)))
 
 -- head A4: the three and `version`, which is 1, and nothing after
@@ -28,14 +27,14 @@ unfoldable pub authAt : List ℕ → Got Claim
 authAt s =
     then (oneAt s 0 0xA4) (λ (_, a).
     then (claimAt s a) (λ (claim, b).
-    then (numberFieldAt s b versionKey 1 1) (λ (_, next).
+    then (numberFieldAt s b (ascii "version") 1 1) (λ (_, next).
     demand (eqb next (length s)) 3 (got claim next))))
 
 -- the same, written
 unfoldable pub authOf : List ℕ → List ℕ → List ℕ → List ℕ
 authOf public sig hash =
     (0xA4 ∷ [])
-    ++ (stringFieldOf pubKey 2 public ++ (stringFieldOf sigKey 2 sig ++ (stringFieldOf hashKey 2 hash ++ numberFieldOf versionKey 1)))
+    ++ (stringFieldOf (ascii "pub") 2 public ++ (stringFieldOf (ascii "sig") 2 sig ++ (stringFieldOf (ascii "hash") 2 hash ++ numberFieldOf (ascii "version") 1)))
 
 -- a value of another length is 19, in the order of the keys. There is no 9: the payload has 157 bytes (`auth-length`: proofs/Lengths; 02, Ticket 11)
 unfoldable pub authVerdict : List ℕ → List ℕ → List ℕ → Answer (List ℕ)
@@ -51,7 +50,7 @@ authDomain = ascii "ETHERNITY-AUTH-V1"
 -- signed bytes: the domain, then the map without `sig`, head A3
 unfoldable pub signedOf : List ℕ → List ℕ → List ℕ
 signedOf public hash =
-    authDomain ++ ((0xA3 ∷ []) ++ (stringFieldOf pubKey 2 public ++ (stringFieldOf hashKey 2 hash ++ numberFieldOf versionKey 1)))
+    authDomain ++ ((0xA3 ∷ []) ++ (stringFieldOf (ascii "pub") 2 public ++ (stringFieldOf (ascii "hash") 2 hash ++ numberFieldOf (ascii "version") 1)))
 
 -- the values are judged as by the writer, sig apart
 unfoldable pub signedVerdict : List ℕ → List ℕ → Answer (List ℕ)

@@ -11,9 +11,6 @@ use cbor::BYTES;
 use cbor::NumberRead;
 use cbor::StepRead;
 use cbor::StringRead;
-use cbor::number_no;
-use cbor::step_no;
-use cbor::string_no;
 use wire::OUT_OF_RANGE;
 use wire::Wrote;
 
@@ -31,18 +28,15 @@ pub enum ClaimRead {
     },
 }
 
-// The number of a refusal, for a caller's `else`.
-pub fn claim_no(r: ClaimRead) -> u8
-    ensures { λ n. ⌜ n ≡ numberOf (claimTold r) ⌝ }
-{
-    match r {
-        ClaimRead::Value {
-            public: _,
-            sig: _,
-            hash: _,
-            next: _,
-        } => 0,
-        ClaimRead::Refused { no } => no,
+impl ClaimRead {
+    // The number of a refusal, for a caller's `else`.
+    pub fn no(self) -> u8
+        ensures { λ n. ⌜ n ≡ numberOf (claimTold self) ⌝ }
+    {
+        match self {
+            ClaimRead::Refused { no } => no,
+            _ => 0,
+        }
     }
 }
 
@@ -57,7 +51,7 @@ pub fn claim(s: &[u8], at: usize) -> ClaimRead
         next: a,
     } = p
     else {
-        return ClaimRead::Refused { no: string_no(p) };
+        return ClaimRead::Refused { no: p.no() };
     };
     let g = cbor::read::string_field(s, a, b"sig", BYTES, 64, 64, OUT_OF_RANGE);
     let StringRead::Value {
@@ -66,7 +60,7 @@ pub fn claim(s: &[u8], at: usize) -> ClaimRead
         next: b,
     } = g
     else {
-        return ClaimRead::Refused { no: string_no(g) };
+        return ClaimRead::Refused { no: g.no() };
     };
     let h = cbor::read::string_field(s, b, b"hash", BYTES, 32, 32, OUT_OF_RANGE);
     let StringRead::Value {
@@ -75,7 +69,7 @@ pub fn claim(s: &[u8], at: usize) -> ClaimRead
         next,
     } = h
     else {
-        return ClaimRead::Refused { no: string_no(h) };
+        return ClaimRead::Refused { no: h.no() };
     };
     ClaimRead::Value {
         public,
@@ -91,7 +85,7 @@ pub fn read(s: &[u8]) -> ClaimRead
 {
     let m = cbor::read::one_byte(s, 0, 0xA4);
     let StepRead::Past { next: a } = m else {
-        return ClaimRead::Refused { no: step_no(m) };
+        return ClaimRead::Refused { no: m.no() };
     };
     let c = claim(s, a);
     let ClaimRead::Value {
@@ -101,11 +95,11 @@ pub fn read(s: &[u8]) -> ClaimRead
         next: b,
     } = c
     else {
-        return ClaimRead::Refused { no: claim_no(c) };
+        return ClaimRead::Refused { no: c.no() };
     };
     let v = cbor::read::number_field(s, b, b"version", 1, 1);
     let NumberRead::Value { n: _, next } = v else {
-        return ClaimRead::Refused { no: number_no(v) };
+        return ClaimRead::Refused { no: v.no() };
     };
     if next != s.len() {
         return ClaimRead::Refused {

@@ -15,17 +15,18 @@ use Rattle.blake2b.specs.Blake2b.{vector, wordAt, words, F, blocks, dd, 
 use Rattle.blake2b.proofs.Vector.{vector-same, take-vector}
 
 -- ---- a word
-pub wordAt-sum : (b : List ℕ) (i : ℕ) → i + 8 ≤ length b
-    → wordAt b i
-    ≡ getD b i 0 + getD b (i + 1) 0 * 0x100 + getD b (i + 2) 0 * 0x10000 + getD b (i + 3) 0 * 0x1000000
-    + getD b (i + 4) 0 * 0x100000000 + getD b (i + 5) 0 * 0x10000000000 + getD b (i + 6) 0 * 0x1000000000000
-    + getD b (i + 7) 0 * 0x100000000000000
+pub word-sum : (b : List ℕ) (i x0 x1 x2 x3 x4 x5 x6 x7 : ℕ) → i + 8 ≤ length b
+    → x0 ≡ getD b i 0 → x1 ≡ getD b (i + 1) 0 → x2 ≡ getD b (i + 2) 0 → x3 ≡ getD b (i + 3) 0
+    → x4 ≡ getD b (i + 4) 0 → x5 ≡ getD b (i + 5) 0 → x6 ≡ getD b (i + 6) 0 → x7 ≡ getD b (i + 7) 0
+    → x0 + x1 * 0x100 + x2 * 0x10000 + x3 * 0x1000000 + x4 * 0x100000000 + x5 * 0x10000000000 + x6 * 0x1000000000000 + x7 * 0x100000000000000
+    ≡ wordAt b i
 unfolding wordAt vector numberFrom
-wordAt-sum b i h =
+word-sum b i x0 x1 x2 x3 x4 x5 x6 x7 h e0 e1 e2 e3 e4 e5 e6 e7 =
     let l : 8 ≤ length (drop i b) = simp length-drop (omega arith) in
     let at : (j : ℕ) → getD (drop i b) j 0 ≡ getD b (i + j) 0 = λ j. getD-drop i b j 0 in
-    ap (λ (x : List ℕ). number 256 (reverse x)) (take-vector 8 (drop i b) l)
-    ∙ omega (arith, rw add-zero at (at 0), at 1, at 2, at 3, at 4, at 5, at 6, at 7)
+    sym
+    (ap (λ (x : List ℕ). number 256 (reverse x)) (take-vector 8 (drop i b) l)
+    ∙ omega (arith, rw add-zero at (at 0), at 1, at 2, at 3, at 4, at 5, at 6, at 7))
 
 wordAt-append : (b r : List ℕ) (i : ℕ) → i + 8 ≤ length b → wordAt (b ++ r) i ≡ wordAt b i
 unfolding wordAt

@@ -46,15 +46,15 @@ sigma =
     (14 ∷ 10 ∷ 4 ∷ 8 ∷ 9 ∷ 15 ∷ 13 ∷ 6 ∷ 1 ∷ 12 ∷ 0 ∷ 2 ∷ 11 ∷ 7 ∷ 5 ∷ 3 ∷ []) ∷ []
 
 -- 3.1: v[i] := (v[i] + v[j] + x) mod 2**64, where x is 0 in the lines that add two words
-unfoldable pub add : List ℕ → ℕ → ℕ → ℕ → List ℕ
+unfoldable pub add : (v : List ℕ) (i j x : ℕ) → List ℕ
 add v i j x = set v i (plus 64 (plus 64 (getD v i 0) (getD v j 0)) x)
 
 -- 3.1: v[i] := (v[i] ^ v[j]) >>> n
-unfoldable pub turn : List ℕ → ℕ → ℕ → ℕ → List ℕ
+unfoldable pub turn : (v : List ℕ) (i j n : ℕ) → List ℕ
 turn v i j n = set v i (rotr 64 n (bitXor (getD v i 0) (getD v j 0)))
 
 -- 3.1: the mixing function G, with the rotations of 2.1
-unfoldable pub G : List ℕ → ℕ → ℕ → ℕ → ℕ → ℕ → ℕ → List ℕ
+unfoldable pub G : (v : List ℕ) (a b c d x y : ℕ) → List ℕ
 G v a b c d x y =
     let v : List ℕ = add v a b x in
     let v : List ℕ = turn v d a 32 in
@@ -99,7 +99,7 @@ unfoldable pub fold : List ℕ → List ℕ → List ℕ
 fold h v = vector 8 (λ i. bitXor (bitXor (getD h i 0) (getD v i 0)) (getD v (i + 8) 0))
 
 -- 3.2: the compression function F
-unfoldable pub F : List ℕ → List ℕ → ℕ → Bool → List ℕ
+unfoldable pub F : (h m : List ℕ) (t : ℕ) (f : Bool) → List ℕ
 F h m t f = fold h (rounds 12 m (begin h t f))
 
 -- 3.3: the number of blocks of ll bytes; an empty message still has one

@@ -7,7 +7,7 @@ use lib.ListN.{length, length-append, length-replicate}
 use Rattle.wire.specs.Number.{bigEndian}
 use Rattle.wire.proofs.Digits.{length-digits}
 use Rattle.crc.specs.Crc.{crc32}
-use Rattle.state.specs.State.{Slot, dataOf}
+use Rattle.model.specs.Book.{Slot, dataOf}
 use Rattle.block.specs.Block.{stateOf, sealed, pageBody, pageBlock}
 
 pub length-body : (id : List ℕ) (i s : ℕ) (d : List ℕ) → length id ≡ 8 → length d ≤ 480 → length (pageBody id i s d) ≡ 508

@@ -13,8 +13,8 @@ use Rattle.wire.specs.Answer.{choose}
 use Rattle.wire.proofs.Cases.{lt-or-le}
 use Rattle.wire.proofs.Overs.{over-all}
 use Rattle.lend.specs.Same.{same}
-use Rattle.state.specs.State.{Slot, absent, held, disputed, dataOf}
-use Rattle.state.specs.Finish.{isHeld}
+use Rattle.model.specs.Book.{Slot, absent, held, disputed, dataOf}
+use Rattle.model.specs.Finish.{isHeld}
 use Rattle.block.specs.Block.{stateOf, sealed, pageBody, pageBlock}
 use Rattle.block.specs.Read.{blockAt, lengthIn, slotFor, readSlot, okPage, holding}
 use Rattle.block.proofs.Lengths.{length-whole}

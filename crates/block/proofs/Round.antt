@@ -13,7 +13,7 @@ use Rattle.wire.proofs.Cases.{both-hold}
 use Rattle.lend.specs.Same.{same}
 use Rattle.lend.proofs.Sames.{same-eq, same-refl}
 use Rattle.crc.specs.Crc.{crc32}
-use Rattle.state.specs.State.{Slot, absent, held, disputed, dataOf}
+use Rattle.model.specs.Book.{Slot, absent, held, disputed, dataOf}
 use Rattle.block.specs.Block.{stateOf, sealed, pageBody, pageBlock}
 use Rattle.block.specs.Read.{lengthIn, slotFor, readSlot, okPage}
 use Rattle.block.proofs.Lengths.{length-block}
@@ -85,11 +85,3 @@ module _ (id : List ℕ) (i : ℕ) (b : List ℕ) (ok : okPage id i b ≡ true) 
 
   pub page-length : length b ≡ 512
   page-length = ap length page-ok ∙ length-block id i (readSlot b) page-id (read-fits b)
-
--- no bytes are no block
-pub not-empty : (id : List ℕ) (i : ℕ) → okPage id i [] ≡ false
-not-empty id i = go (okPage id i []) refl
-  where
-    go : (w : Bool) → okPage id i [] ≡ w → okPage id i [] ≡ false
-    go true e = absurd (omega (arith, page-length id i [] e))
-    go false e = e

@@ -6,8 +6,8 @@ use Prim.Native.Nat.{ℕ, _≤_}
 use native.Mathlib.Omega.{arith}
 use Rattle.lend.specs.Same.{same}
 use Rattle.lend.proofs.Sames.{same-eq}
-use Rattle.state.specs.State.{Slot, absent, held, disputed, dataOf}
-use Rattle.state.specs.Finish.{isAbsent, isHeld}
+use Rattle.model.specs.Book.{Slot, absent, held, disputed, dataOf}
+use Rattle.model.specs.Finish.{isAbsent, isHeld}
 use Rattle.block.specs.Block.{stateOf}
 use Rattle.block.specs.Read.{holding}
 

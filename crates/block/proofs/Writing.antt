@@ -13,7 +13,7 @@ use Rattle.wire.specs.Over.{over}
 use Rattle.wire.proofs.Digits.{length-digits}
 use Rattle.wire.proofs.Overs.{over-out, over-run, over-then, read-over}
 use Rattle.crc.specs.Crc.{crc32}
-use Rattle.state.specs.State.{Slot, dataOf}
+use Rattle.model.specs.Book.{Slot, dataOf}
 use Rattle.block.specs.Block.{sealed, pageBody, pageBlock, hasBlock, withPage, withSum}
 use Rattle.block.proofs.Lengths.{length-body, length-whole}
 

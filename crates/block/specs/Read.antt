@@ -5,14 +5,15 @@ use mathlib.Core.List.{List, []}
 use lib.Dec.{eqb, leb}
 use lib.ListN.{length, take, drop, getD}
 use Rattle.wire.specs.Answer.{choose}
+use Rattle.wire.specs.Sizes.{mostData, idSize, blockSize}
 use Rattle.lend.specs.Same.{same}
-use Rattle.state.specs.State.{Slot, absent, held, disputed, dataOf}
-use Rattle.state.specs.Finish.{isHeld}
+use Rattle.model.specs.Book.{Slot, absent, held, disputed, dataOf}
+use Rattle.model.specs.Finish.{isHeld}
 use Rattle.block.specs.Block.{pageBlock}
 
 -- the block from index at on; no bytes where fewer than 512 stand there
 unfoldable pub blockAt : ℕ → List ℕ → List ℕ
-blockAt at c = choose (leb (at + 512) (length c)) (take 512 (drop at c)) []
+blockAt at c = choose (leb (at + blockSize) (length c)) (take blockSize (drop at c)) []
 
 -- "length (two bytes, big-endian)"
 unfoldable pub lengthIn : List ℕ → ℕ
@@ -23,11 +24,11 @@ slotFor s d = choose (eqb s 0) absent (choose (eqb s 1) (held d) disputed)
 
 -- of any bytes: what the state, and the length and the 480 bytes of data, say
 unfoldable pub readSlot : List ℕ → Slot
-readSlot b = slotFor (getD b 2 0) (take (lengthIn b) (take 480 (drop 14 b)))
+readSlot b = slotFor (getD b 2 0) (take (lengthIn b) (take mostData (drop 14 b)))
 
 -- "Well formed means exactly this, for every byte": b is the block of what b says
 unfoldable pub okPage : List ℕ → ℕ → List ℕ → Bool
-okPage id i b = eqb (length id) 8 && same b (pageBlock id i (readSlot b))
+okPage id i b = eqb (length id) idSize && same b (pageBlock id i (readSlot b))
 
 -- whether a slot is held, with the data d: no data is data too, and not absence
 unfoldable pub holding : Slot → List ℕ → Bool

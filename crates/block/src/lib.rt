@@ -8,11 +8,10 @@ ghost use lib.ListN.{length};
 ghost use Rattle.wire.specs.Answer.{choose};
 ghost use Rattle.wire.specs.Over.{over};
 ghost use Rattle.wire.specs.Number.{bigEndian};
-ghost use Rattle.state.specs.State.{absent, held, disputed, dataOf};
+ghost use Rattle.wire.specs.Sizes.{mostData, idSize, summedSize};
+ghost use Rattle.model.specs.Book.{absent, held, disputed, dataOf};
 ghost use Rattle.block.specs.Block.{stateOf, pageBody, sealed, withPage, withSum};
 ghost use Rattle.block.specs.Read.{blockAt, readSlot, okPage, holding};
-
-pub const SIZE: usize = 512;
 
 // The states of a page.
 pub const ABSENT: u8 = 0;
@@ -21,22 +20,24 @@ pub const HELD: u8 = 1;
 
 pub const DISPUTED: u8 = 2;
 
-const ID: usize = 8;
+// Where the data begin, and how many bytes stand from there to the checksum: the data and zeros behind them.
+const DATA_AT: usize = 14;
 
-// The most data that a page has.
-const MOST: usize = 480;
+const DATA_ROOM: usize = wire::SUMMED_SIZE - DATA_AT;
 
-// The checksum of the 508 bytes from index at on, behind them.
+const DATA_END: usize = DATA_AT + wire::MOST_DATA;
+
+// The checksum of a block from index at on, behind its other bytes.
 pub fn seal(out: &mut [u8], at: usize)
     ensures { λ _. ⌜ now (out .exit) ≡ withSum at (now (out .entry)) ⌝ }
 {
-    if out.len() < SIZE {
+    if out.len() < wire::BLOCK_SIZE {
         return;
     }
-    if out.len() - SIZE < at {
+    if out.len() - wire::BLOCK_SIZE < at {
         return;
     }
-    let end = at + 508;
+    let end = at + wire::SUMMED_SIZE;
     let sum = crc::sum(&out[at..end]);
     lend::copy(out, end, &sum);
 }
@@ -54,7 +55,7 @@ fn front(out: &mut [u8], at: usize, index: u8, state: u8)
 
 // The two bytes of a length.
 fn put_length(out: &mut [u8], at: usize, n: usize)
-    requires { ⌜ (at + 2 ≤ length (now out)) × (n ≤ 480) ⌝ }
+    requires { ⌜ (at + 2 ≤ length (now out)) × (n ≤ mostData) ⌝ }
     ensures { λ _. ⌜ now (out .exit) ≡ over at (bigEndian 2 n) (now (out .entry)) ⌝ }
 {
     lend::put(out, at, (n / 256) as u8);
@@ -63,31 +64,31 @@ fn put_length(out: &mut [u8], at: usize, n: usize)
 
 // All before the checksum.
 fn body(out: &mut [u8], at: usize, id: &[u8], index: u8, state: u8, bytes: &[u8])
-    requires { ⌜ (at + 508 ≤ length (now out)) × (length (now id) ≡ 8) × (length (now bytes) ≤ 480) ⌝ }
+    requires { ⌜ (at + summedSize ≤ length (now out)) × (length (now id) ≡ idSize) × (length (now bytes) ≤ mostData) ⌝ }
     ensures { λ _. ⌜ now (out .exit) ≡ over at (pageBody (now (id .entry)) index state (now (bytes .entry))) (now (out .entry)) ⌝ }
 {
     let n = bytes.len();
     front(out, at, index, state);
     lend::copy(out, at + 4, id);
     put_length(out, at + 12, n);
-    lend::copy(out, at + 14, bytes);
-    lend::clear(out, at + 14 + n, 494 - n);
+    lend::copy(out, at + DATA_AT, bytes);
+    lend::clear(out, at + DATA_AT + n, DATA_ROOM - n);
 }
 
 // The whole block, where there is one with this id and this data.
 fn write(out: &mut [u8], at: usize, id: &[u8], index: u8, state: u8, bytes: &[u8])
-    ensures { λ _. ⌜ now (out .exit) ≡ choose (eqb (length (now (id .entry))) 8 && leb (length (now (bytes .entry))) 480) (over at (sealed (pageBody (now (id .entry)) index state (now (bytes .entry)))) (now (out .entry))) (now (out .entry)) ⌝ }
+    ensures { λ _. ⌜ now (out .exit) ≡ choose (eqb (length (now (id .entry))) idSize && leb (length (now (bytes .entry))) mostData) (over at (sealed (pageBody (now (id .entry)) index state (now (bytes .entry)))) (now (out .entry))) (now (out .entry)) ⌝ }
 {
-    if id.len() != ID {
+    if id.len() != wire::ID_SIZE {
         return;
     }
-    if MOST < bytes.len() {
+    if wire::MOST_DATA < bytes.len() {
         return;
     }
-    if out.len() < SIZE {
+    if out.len() < wire::BLOCK_SIZE {
         return;
     }
-    if out.len() - SIZE < at {
+    if out.len() - wire::BLOCK_SIZE < at {
         return;
     }
     body(out, at, id, index, state, bytes);
@@ -101,7 +102,7 @@ pub fn hold(out: &mut [u8], at: usize, id: &[u8], index: u8, bytes: &[u8])
     write(out, at, id, index, HELD, bytes);
 }
 
-// The block of a page in two versions.
+// The block of a disputed page.
 pub fn dispute(out: &mut [u8], at: usize, id: &[u8], index: u8)
     ensures { λ _. ⌜ now (out .exit) ≡ withPage at (now (id .entry)) index disputed (now (out .entry)) ⌝ }
 {
@@ -119,13 +120,13 @@ pub fn vacate(out: &mut [u8], at: usize, id: &[u8], index: u8)
 fn block(c: &[u8], at: usize) -> &[u8]
     ensures { λ r. ⌜ now r ≡ blockAt at (now (c .entry)) ⌝ }
 {
-    if c.len() < SIZE {
+    if c.len() < wire::BLOCK_SIZE {
         return &c[0..0];
     }
-    if c.len() - SIZE < at {
+    if c.len() - wire::BLOCK_SIZE < at {
         return &c[0..0];
     }
-    let end = at + SIZE;
+    let end = at + wire::BLOCK_SIZE;
     &c[at..end]
 }
 
@@ -134,7 +135,7 @@ pub fn state(c: &[u8], at: usize) -> u8
     ensures { λ r. ⌜ r ≡ stateOf (readSlot (blockAt at (now (c .entry)))) ⌝ }
 {
     let b = block(c, at);
-    if b.len() < SIZE {
+    if b.len() < wire::BLOCK_SIZE {
         return ABSENT;
     }
     let s = b[2];
@@ -155,18 +156,18 @@ pub fn contents(c: &[u8], at: usize) -> &[u8]
     ensures { λ r. ⌜ now r ≡ dataOf (readSlot (blockAt at (now (c .entry)))) ⌝ }
 {
     let b = block(c, at);
-    if b.len() < SIZE {
+    if b.len() < wire::BLOCK_SIZE {
         return &b[0..0];
     }
     if b[2] != HELD {
         return &b[0..0];
     }
     let n = wide(b[12]) * 256 + wide(b[13]);
-    if MOST < n {
-        return &b[14..494];
+    if wire::MOST_DATA < n {
+        return &b[DATA_AT..DATA_END];
     }
-    let end = 14 + n;
-    &b[14..end]
+    let end = DATA_AT + n;
+    &b[DATA_AT..end]
 }
 
 // Whether the block is held, with these bytes as its data.
@@ -183,10 +184,10 @@ pub fn holds(c: &[u8], at: usize, bytes: &[u8]) -> bool
 pub fn well_formed(c: &[u8], at: usize, id: &[u8], index: u8) -> bool
     ensures { λ r. ⌜ r ≡ okPage (now (id .entry)) index (blockAt at (now (c .entry))) ⌝ }
 {
-    if id.len() != ID {
+    if id.len() != wire::ID_SIZE {
         return false;
     }
-    let mut again = [0u8; 512];
+    let mut again = [0u8; wire::BLOCK_SIZE];
     write(&mut again, 0, id, index, state(c, at), contents(c, at));
     lend::equal(block(c, at), &again)
 }

@@ -7,7 +7,7 @@ use native.Mathlib.Omega.{arith}
 use lib.ListN.{length, set, length-append}
 use Rattle.wire.specs.Over.{over}
 use Rattle.wire.proofs.Overs.{over-append, over-all, over-same, over-front, over-skip}
-use Rattle.state.specs.State.{Slot, dataOf, empty, noPages, totalOf, slotsOf}
+use Rattle.model.specs.Book.{Slot, dataOf, empty, noPages, totalOf, slotsOf}
 use Rattle.block.specs.Block.{pageBlock, withPage}
 use Rattle.block.specs.Read.{blockAt, readSlot, okPage}
 use Rattle.block.proofs.Writing.{with-page}
@@ -15,8 +15,8 @@ use Rattle.block.proofs.Reading.{block-here, block-length, read-fits}
 use Rattle.block.proofs.Round.{page-ok, page-id}
 use Rattle.book.specs.Head.{Head, headFor, headBlock, withHead}
 use Rattle.book.specs.Encode.{stateNo, headOf, pages, encode, withBlank}
-use Rattle.state.proofs.Slots.{length-none}
-use Rattle.state.proofs.Valid.{EachData, Short, short-none, data-none}
+use Rattle.model.proofs.Slots.{length-none}
+use Rattle.model.proofs.Valid.{EachData, Short, short-none, data-none}
 use Rattle.book.proofs.Heads.{length-headblock, with-head}
 use Rattle.book.proofs.Pages.{length-pages, pages-set, with-blank}
 

@@ -6,35 +6,38 @@ use Prim.Native.Nat.{ℕ, zero, suc, _+_, _*_, _≤_, _<_}
 use native.Mathlib.Omega.{arith}
 use borrow.Author.Tests.{le-ltb, eqb-true, leb-true}
 use lib.Dec.{eqb, leb, ltb}
-use lib.ListN.{length, take, drop, getD, length-take, length-drop, take-append-drop, drop-of-length-le}
+use lib.ListN.{length, take, drop, getD, replicate, length-take, length-drop, length-replicate, take-append-drop, drop-of-length-le}
 use lib.Seq.{drop-drop}
+use Rattle.wire.specs.Over.{over}
 use Rattle.wire.proofs.Cases.{both-hold}
+use Rattle.wire.proofs.Overs.{over-all}
 use Rattle.lend.specs.Same.{same}
 use Rattle.lend.proofs.Sames.{same-eq}
-use Rattle.state.specs.State.{Slot, absent, dataOf, empty, collecting, disagree, noPages, totalOf, slotsOf}
-use Rattle.state.specs.Finish.{isAbsent}
+use Rattle.model.specs.Book.{Slot, absent, dataOf, empty, collecting, disagree, noPages, totalOf, slotsOf}
+use Rattle.model.specs.Finish.{isAbsent}
 use Rattle.block.specs.Read.{blockAt, readSlot, okPage}
 use Rattle.block.proofs.Reading.{block-here, read-fits}
 use Rattle.block.proofs.Round.{page-ok}
 use Rattle.block.proofs.Slots.{said-absent}
 use Rattle.book.specs.Head.{Head, headFor, headBlock, readHead, okTotal, okHead, hasHead}
 use Rattle.book.specs.Encode.{stateNo, headOf, pages, encode}
-use Rattle.book.specs.Read.{idOf, totalIn, pageAt, readPages, bookFor, readBook, okAt, okPages, okBook}
-use Rattle.state.proofs.Slots.{none-is}
-use Rattle.state.proofs.Valid.{EachData, Short, short-none, Valid}
+use Rattle.book.specs.Read.{idOf, pageAt, readPages, bookFor, readBook, okAt, okPages, okBook}
+use Rattle.model.proofs.Slots.{none-is}
+use Rattle.model.proofs.Valid.{EachData, Short, short-none, Valid}
+use Rattle.book.proofs.Judging.{ok-is}
 
 -- ---- one block
 
-module _ (id : List ℕ) (t k : ℕ) (b : List ℕ) (ok : okAt id t k b ≡ true) where
-  pub at-page : okPage id k b ≡ true
+module _ (h : Head) (k : ℕ) (b : List ℕ) (ok : okAt h k b ≡ true) where
+  pub at-page : okPage (h .id) k b ≡ true
   unfolding okAt
-  at-page = both-hold (ltb k t || isAbsent (readSlot b)) (okPage id k b) ok .1
+  at-page = both-hold (ltb k (h .total) || isAbsent (readSlot b)) (okPage (h .id) k b) ok .1
 
-  pub at-beyond : t ≤ k → readSlot b ≡ absent
+  pub at-beyond : h .total ≤ k → readSlot b ≡ absent
   unfolding okAt
-  at-beyond h =
-      let f : (isAbsent (readSlot b) && okPage id k b) ≡ true = rw (le-ltb k t h) at ok in
-      said-absent (readSlot b) (both-hold (isAbsent (readSlot b)) (okPage id k b) f .0)
+  at-beyond past =
+      let f : (isAbsent (readSlot b) && okPage (h .id) k b) ≡ true = rw (le-ltb k (h .total) past) at ok in
+      said-absent (readSlot b) (both-hold (isAbsent (readSlot b)) (okPage (h .id) k b) f .0)
 
 -- ---- what n blocks say
 
@@ -59,41 +62,41 @@ read-short k (suc n) c (suc j) = read-short (suc k) n c j
 
 -- ---- n well-formed blocks
 
-module _ (id : List ℕ) (t : ℕ) (c : List ℕ) where
+module _ (g : Head) (c : List ℕ) where
   -- all are well formed where each is
-  pub pages-each : (k n i j : ℕ) → okPages id t k n c ≡ true → i < n → j ≡ k + i → okAt id t j (pageAt j c) ≡ true
+  pub pages-each : (k n i j : ℕ) → okPages g k n c ≡ true → i < n → j ≡ k + i → okAt g j (pageAt j c) ≡ true
   unfolding okPages
   pages-each k zero i j ok h e = absurd (omega arith)
   pages-each k (suc n) zero j ok h e =
       let x : j ≡ k = omega arith in
-      rw x (both-hold (okAt id t k (pageAt k c)) (okPages id t (suc k) n c) ok .0)
+      rw x (both-hold (okAt g k (pageAt k c)) (okPages g (suc k) n c) ok .0)
   pages-each k (suc n) (suc i) j ok h e =
-      pages-each (suc k) n i j (both-hold (okAt id t k (pageAt k c)) (okPages id t (suc k) n c) ok .1) (omega arith) (omega arith)
+      pages-each (suc k) n i j (both-hold (okAt g k (pageAt k c)) (okPages g (suc k) n c) ok .1) (omega arith) (omega arith)
 
-  pub pages-all : (k n : ℕ) → ((j : ℕ) → k ≤ j → j < k + n → okAt id t j (pageAt j c) ≡ true) → okPages id t k n c ≡ true
+  pub pages-all : (k n : ℕ) → ((j : ℕ) → k ≤ j → j < k + n → okAt g j (pageAt j c) ≡ true) → okPages g k n c ≡ true
   unfolding okPages
   pages-all k zero f = refl
   pages-all k (suc n) f = rw (f k (omega arith) (omega arith), pages-all (suc k) n (λ j h g. f j (omega arith) (omega arith)))
 
-  pub pages-beyond : (k n j : ℕ) → okPages id t k n c ≡ true → t ≤ k + j → getD (readPages k n c) j absent ≡ absent
+  pub pages-beyond : (k n j : ℕ) → okPages g k n c ≡ true → g .total ≤ k + j → getD (readPages k n c) j absent ≡ absent
   unfolding readPages okPages
   pages-beyond k zero j ok h = refl
   pages-beyond k (suc n) zero ok h =
-      at-beyond id t k (pageAt k c) (both-hold (okAt id t k (pageAt k c)) (okPages id t (suc k) n c) ok .0) (omega arith)
+      at-beyond g k (pageAt k c) (both-hold (okAt g k (pageAt k c)) (okPages g (suc k) n c) ok .0) (omega arith)
   pages-beyond k (suc n) (suc j) ok h =
-      pages-beyond (suc k) n j (both-hold (okAt id t k (pageAt k c)) (okPages id t (suc k) n c) ok .1) (omega arith)
+      pages-beyond (suc k) n j (both-hold (okAt g k (pageAt k c)) (okPages g (suc k) n c) ok .1) (omega arith)
 
   -- the bytes of n blocks up to the end are those of what they say
-  pub pages-are : (k n a : ℕ) → okPages id t k n c ≡ true → a ≡ 512 + 512 * k → length c ≡ a + 512 * n → drop a c ≡ pages id k (readPages k n c)
+  pub pages-are : (k n a : ℕ) → okPages g k n c ≡ true → a ≡ 512 + 512 * k → length c ≡ a + 512 * n → drop a c ≡ pages (g .id) k (readPages k n c)
   unfolding readPages pages okPages
   pages-are k zero a ok e l = drop-of-length-le c {i = a} (omega arith)
   pages-are k (suc n) a ok e l =
-      let both = both-hold (okAt id t k (pageAt k c)) (okPages id t (suc k) n c) ok in
+      let both = both-hold (okAt g k (pageAt k c)) (okPages g (suc k) n c) ok in
       let here : take 512 (drop a c) ≡ pageAt k c = rw e (sym (block-here (512 + 512 * k) c (omega arith))) in
-      let rest : drop 512 (drop a c) ≡ pages id (suc k) (readPages (suc k) n c) =
+      let rest : drop 512 (drop a c) ≡ pages (g .id) (suc k) (readPages (suc k) n c) =
       drop-drop 512 a c ∙ pages-are (suc k) n (a + 512) (both .1) (omega arith) (omega arith) in
       sym (take-append-drop 512 (drop a c))
-      ∙ ap₂ _++_ (here ∙ page-ok id k (pageAt k c) (at-page id t k (pageAt k c) (both .0))) rest
+      ∙ ap₂ _++_ (here ∙ page-ok (g .id) k (pageAt k c) (at-page g k (pageAt k c) (both .0))) rest
 
 -- ---- the head
 
@@ -116,8 +119,12 @@ module _ (c : List ℕ) (ok : hasHead c ≡ true) where
   head-stands = sym (block-here 0 c (omega (arith, head-size))) ∙ same-eq (blockAt 0 c) (headBlock (readHead c)) (parts .1)
 
   pub head-eight : length (idOf c) ≡ 8
-  unfolding idOf readHead
+  unfolding readHead
   head-eight = simp (length-take, length-drop) (omega (arith, head-size))
+
+  -- the copy of its id is whole
+  pub head-copy : (id : List ℕ) → id ≡ over 0 (idOf c) (replicate 8 0) → id ≡ idOf c
+  head-copy id e = e ∙ over-all (idOf c) (replicate 8 0) (head-eight ∙ sym (length-replicate {A = ℕ} 8 0))
 
 -- ---- the state, the total and the slots of what is read
 
@@ -179,12 +186,10 @@ module _ (id : List ℕ) (t : ℕ) (ss : List Slot) (l : length ss ≡ 96) (shor
 
 module _ (c : List ℕ) (ok : okBook c ≡ true) where
   pub ok-head : hasHead c ≡ true
-  unfolding okBook
-  ok-head = both-hold (hasHead c) (okPages (idOf c) (totalIn c) 0 96 c) ok .0
+  ok-head = both-hold (hasHead c) (okPages (readHead c) 0 96 c) (sym (ok-is c) ∙ ok) .0
 
-  pub ok-pages : okPages (idOf c) (totalIn c) 0 96 c ≡ true
-  unfolding okBook
-  ok-pages = both-hold (hasHead c) (okPages (idOf c) (totalIn c) 0 96 c) ok .1
+  pub ok-pages : okPages (readHead c) 0 96 c ≡ true
+  ok-pages = both-hold (hasHead c) (okPages (readHead c) 0 96 c) (sym (ok-is c) ∙ ok) .1
 
   pub ok-size : length c ≡ 49664
   ok-size = head-size c ok-head
@@ -193,14 +198,13 @@ module _ (c : List ℕ) (ok : okBook c ≡ true) where
   ok-id = head-eight c ok-head
 
   -- block k of the collection
-  pub ok-at : (k : ℕ) → k < 96 → okAt (idOf c) (totalIn c) k (pageAt k c) ≡ true
-  ok-at k h = pages-each (idOf c) (totalIn c) c 0 96 k k ok-pages h (omega arith)
+  pub ok-at : (k : ℕ) → k < 96 → okAt (readHead c) k (pageAt k c) ≡ true
+  ok-at k h = pages-each (readHead c) c 0 96 k k ok-pages h (omega arith)
 
   ok-says : Says (readHead c) (readPages 0 96 c)
-  unfolding readHead
   ok-says =
       says (readHead c .id) (readHead c .total) (readPages 0 96 c) (length-read 0 96 c) (read-short 0 96 c)
-      (λ k h. pages-beyond (idOf c) (totalIn c) c 0 96 k ok-pages (unfold totalIn in omega arith)) (readHead c .state) (head-allowed c ok-head)
+      (λ k h. pages-beyond (readHead c) c 0 96 k ok-pages (omega arith)) (readHead c .state) (head-allowed c ok-head)
 
   -- what is well formed says a valid collection
   pub decoded-valid : Valid (readBook c)
@@ -209,31 +213,30 @@ module _ (c : List ℕ) (ok : okBook c ≡ true) where
 
   -- and is the bytes of it
   pub decoded : c ≡ encode (idOf c) (readBook c)
-  unfolding encode headOf readBook idOf
+  unfolding encode headOf readBook
   decoded =
       let s = ok-says in
       sym (take-append-drop 512 c)
-      ∙ ap₂ _++_ (head-stands c ok-head) (pages-are (idOf c) (totalIn c) c 0 96 512 ok-pages refl ok-size)
+      ∙ ap₂ _++_ (head-stands c ok-head) (pages-are (readHead c) c 0 96 512 ok-pages refl ok-size)
       ∙ rw (s .state-is, s .total-is, s .slots-are)
 
-  pub ok-state : getD c 3 0 ≤ 2
-  unfolding readHead
-  ok-state = state-range (getD c 3 0) (getD c 12 0) (head-allowed c ok-head)
+  pub ok-state : readHead c .state ≤ 2
+  ok-state = state-range (readHead c .state) (readHead c .total) (head-allowed c ok-head)
 
 -- slot k of what is read
 pub read-block : (c : List ℕ) (k : ℕ) → k < 96 → getD (readPages 0 96 c) k absent ≡ readSlot (pageAt k c)
 read-block c k h = read-at 0 96 k k c h (omega arith)
 
--- what is read, by the state byte
+-- what is read, by the state of the head
 module _ (c : List ℕ) where
-  pub book-0 : getD c 3 0 ≡ 0 → readBook c ≡ empty
-  unfolding readBook bookFor readHead
+  pub book-0 : readHead c .state ≡ 0 → readBook c ≡ empty
+  unfolding readBook bookFor
   book-0 e = rw e
 
-  pub book-1 : getD c 3 0 ≡ 1 → readBook c ≡ collecting (getD c 12 0) (readPages 0 96 c)
-  unfolding readBook bookFor readHead
+  pub book-1 : readHead c .state ≡ 1 → readBook c ≡ collecting (readHead c .total) (readPages 0 96 c)
+  unfolding readBook bookFor
   book-1 e = rw e
 
-  pub book-2 : getD c 3 0 ≡ 2 → readBook c ≡ disagree
-  unfolding readBook bookFor readHead
+  pub book-2 : readHead c .state ≡ 2 → readBook c ≡ disagree
+  unfolding readBook bookFor
   book-2 e = rw e

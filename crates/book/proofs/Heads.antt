@@ -1,12 +1,14 @@
 -- The head block: its length, the writes that make it, and the tests that judge it. Assumes nothing.
-use mathlib.Core.Path.{_≡_, refl, sym, _∙_}
+use mathlib.Core.Path.{_≡_, refl, sym, ap, _∙_}
 use mathlib.Core.Bool.{Bool, true, false, _&&_}
 use mathlib.Core.List.{List, [], _∷_, _++_}
-use Prim.Native.Nat.{ℕ, _+_, _≤_, _<_}
+use Prim.Native.Nat.{ℕ, _+_, _-_, _≤_, _<_}
 use native.Mathlib.Omega.{arith}
 use borrow.Author.Tests.{eq-eqb, ne-eqb, le-leb, lt-leb}
 use lib.Dec.{eqb, leb}
-use lib.ListN.{length, take, drop, getD, replicate, length-append, length-replicate, length-take, length-drop}
+use lib.ListN.{length, take, drop, getD, replicate, length-append, length-replicate, length-take, length-drop, drop-of-length-le, List·getD-eq-default}
+use lib.Seq.{take-all}
+use Rattle.wire.specs.Answer.{numberOf}
 use Rattle.wire.specs.Over.{over}
 use Rattle.wire.proofs.Overs.{over-out, over-run, over-all}
 use Rattle.lend.specs.Same.{same}
@@ -15,7 +17,7 @@ use Rattle.block.specs.Read.{blockAt}
 use Rattle.block.proofs.Lengths.{length-sealed}
 use Rattle.block.proofs.Writing.{sealing}
 use Rattle.block.proofs.Reading.{block-here}
-use Rattle.book.specs.Head.{Head, headFor, headBody, headBlock, withHead, readHead, okTotal, okHead, hasHead}
+use Rattle.book.specs.Head.{Head, headFor, headBody, headBlock, withHead, readHead, okTotal, okHead, hasHead, headIn}
 
 module _ (h : Head) (eight : length (h .id) ≡ 8) where
   pub length-head : length (headBody h) ≡ 508
@@ -84,19 +86,55 @@ module _ (c : List ℕ) where
   unfolding hasHead
   size-no n = rw (ne-eqb (length c) 49664 n)
 
-  module _ (q : Bool) (e : q ≡ okTotal (getD c 3 0) (getD c 12 0)) where
+  -- s and t are what the head says
+  module _ (s t : ℕ) (es : s ≡ readHead c .state) (et : t ≡ readHead c .total) (q : Bool) (e : q ≡ okTotal s t) where
     pub total-no : q ≡ false → false ≡ hasHead c
-    unfolding hasHead okHead readHead
-    total-no f = rw (← e, f) (both-no (eqb (length c) 49664))
+    unfolding hasHead okHead
+    total-no f = rw (← es, ← et, ← e, f) (both-no (eqb (length c) 49664))
 
     -- the head block is written anew from what it says, over 512 zeros, and compared
-    pub head-again : (y : List ℕ) (r : Bool) → length c ≡ 49664 → q ≡ true
-        → y ≡ withHead (headFor (take 8 (drop 4 c)) (getD c 3 0) (getD c 12 0)) (replicate 512 0) → r ≡ same (take 512 c) y → r ≡ hasHead c
+    pub head-again : (i y : List ℕ) (r : Bool) → length c ≡ 49664 → q ≡ true → i ≡ readHead c .id
+        → y ≡ withHead (headFor i s t) (replicate 512 0) → r ≡ same (take 512 c) y → r ≡ hasHead c
     unfolding hasHead okHead readHead
-    head-again y r size f ey er =
-        let h : Head = headFor (take 8 (drop 4 c)) (getD c 3 0) (getD c 12 0) in
+    head-again i y r size f ei ey er =
+        let h : Head = readHead c in
         let eight : length (h .id) ≡ 8 = simp (length-take, length-drop) (omega arith) in
         let z : y ≡ headBlock h =
-        ey ∙ with-head h (replicate 512 0) eight ∙ over-all (headBlock h) (replicate 512 0) (length-headblock h eight ∙ sym (length-replicate {A = ℕ} 512 0)) in
+        ey ∙ rw (ei, es, et) (with-head h (replicate 512 0) eight ∙ over-all (headBlock h) (replicate 512 0) (length-headblock h eight ∙ sym (length-replicate {A = ℕ} 512 0))) in
         let b : blockAt 0 c ≡ take 512 c = block-here 0 c (omega arith) in
-        er ∙ rw (z, eq-eqb (length c) 49664 size, ← e, f, b)
+        er ∙ rw (z, eq-eqb (length c) 49664 size, ← es, ← et, ← e, f, b)
+
+-- ---- what the head says, of bytes that end before
+
+module _ (c : List ℕ) where
+  pub no-state : length c ≤ 3 → 0 ≡ readHead c .state
+  unfolding readHead
+  no-state h = sym (List·getD-eq-default c 0 h)
+
+  pub no-total : length c ≤ 12 → 0 ≡ readHead c .total
+  unfolding readHead
+  no-total h = sym (List·getD-eq-default c 0 h)
+
+  pub no-id : length c < 4 → [] ≡ readHead c .id
+  unfolding readHead
+  no-id h = sym (ap (take 8) (drop-of-length-le c {i = 4} (omega arith)))
+
+  pub cut-id : (n : ℕ) → n ≡ length c → n < 12 → take (n - 4) (drop 4 c) ≡ readHead c .id
+  unfolding readHead
+  cut-id n e h =
+      take-all (n - 4) (drop 4 c) (omega (arith, length-drop 4 c)) ∙ sym (take-all 8 (drop 4 c) (omega (arith, length-drop 4 c)))
+
+  pub whole-id : take 8 (drop 4 c) ≡ readHead c .id
+  unfolding readHead
+  whole-id = refl
+
+-- ---- the number of a refusal of the head
+
+module _ (c : List ℕ) (q : Bool) (e : q ≡ hasHead c) where
+  pub head-fine : q ≡ true → 0 ≡ numberOf (headIn c)
+  unfolding headIn
+  head-fine f = rw (← e, f)
+
+  pub head-bad : q ≡ false → 13 ≡ numberOf (headIn c)
+  unfolding headIn
+  head-bad f = rw (← e, f)

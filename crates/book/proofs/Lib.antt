@@ -5,3 +5,5 @@ pub mod Decode
 pub mod Round
 pub mod Places
 pub mod Changes
+pub mod Below
+pub mod Turns

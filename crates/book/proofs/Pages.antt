@@ -8,13 +8,13 @@ use lib.ListN.{length, take, drop, getD, set, replicate, length-append, length-r
 use lib.Seq.{take-at, drop-append-add}
 use Rattle.wire.specs.Over.{over}
 use Rattle.wire.proofs.Overs.{over-out, over-append, over-none, length-over, over-front, over-skip}
-use Rattle.state.specs.State.{Slot, absent, dataOf, noPages}
+use Rattle.model.specs.Book.{Slot, absent, dataOf, noPages}
 use Rattle.block.specs.Block.{pageBlock, withPage}
 use Rattle.block.proofs.Lengths.{length-block}
 use Rattle.block.proofs.Writing.{with-page}
 use Rattle.book.specs.Encode.{pages, withBlank}
-use Rattle.state.proofs.Slots.{length-none}
-use Rattle.state.proofs.Valid.{EachData, Short, short-none, data-none}
+use Rattle.model.proofs.Slots.{length-none}
+use Rattle.model.proofs.Valid.{EachData, Short, short-none, data-none}
 
 pub short-absent : Short (dataOf absent)
 unfolding dataOf

@@ -8,23 +8,25 @@ use native.Mathlib.Omega.{arith}
 use borrow.Author.Tests.{eq-eqb, le-leb, lt-ltb, le-ltb}
 use lib.ListN.{length, take, drop, getD, replicate, length-append}
 use lib.Seq.{take-at, drop-at, drop-drop, getD-at, ext-getD}
+use Rattle.wire.specs.Answer.{done}
 use Rattle.wire.specs.Number.{bigEndian}
 use Rattle.wire.proofs.Cases.{lt-or-le}
 use Rattle.lend.proofs.Sames.{same-refl}
 use Rattle.crc.specs.Crc.{crc32}
-use Rattle.state.specs.State.{Slot, absent, Book, empty, collecting, disagree, noPages, totalOf, slotsOf}
-use Rattle.state.specs.Finish.{isAbsent}
+use Rattle.model.specs.Book.{Slot, absent, Book, empty, collecting, disagree, noPages, totalOf, slotsOf}
+use Rattle.model.specs.Finish.{isAbsent}
 use Rattle.block.specs.Block.{sealed, pageBlock}
 use Rattle.block.specs.Read.{blockAt, readSlot, okPage}
 use Rattle.block.proofs.Reading.{block-here}
 use Rattle.block.proofs.Round.{slot-page, ok-page}
 use Rattle.book.specs.Head.{Head, headFor, headBody, headBlock, readHead, okTotal, okHead, hasHead}
 use Rattle.book.specs.Encode.{stateNo, headOf, pages, encode}
-use Rattle.book.specs.Read.{idOf, totalIn, pageAt, readPages, bookFor, readBook, okAt, okPages, okBook}
-use Rattle.state.proofs.Slots.{getD-none, length-none}
-use Rattle.state.proofs.Valid.{EachData, Short, short-none, data-none, Valid}
+use Rattle.book.specs.Read.{idOf, pageAt, readPages, bookFor, readBook, okAt, okPages, bookIn, okBook}
+use Rattle.model.proofs.Slots.{getD-none, length-none}
+use Rattle.model.proofs.Valid.{EachData, Short, short-none, data-none, Valid}
 use Rattle.book.proofs.Heads.{length-headblock}
 use Rattle.book.proofs.Pages.{length-pages, pages-at}
+use Rattle.book.proofs.Judging.{ok-is, judged-done}
 use Rattle.book.proofs.Decode.{length-read, read-block, pages-all, decoded}
 
 -- ---- a head block, with anything behind it
@@ -101,21 +103,16 @@ module _ (id : List ℕ) (eight : length id ≡ 8) (b : Book) (f : Fits b) where
   encode-head = head-read (headFor id (stateNo b) (totalOf b)) (pages id 0 (slotsOf b)) eight
 
   pub encode-id : idOf (encode id b) ≡ id
-  unfolding idOf headOf
+  unfolding headOf
   encode-id = ap (λ (h : Head). h .id) encode-head
 
-  pub encode-total : totalIn (encode id b) ≡ totalOf b
-  unfolding totalIn headOf
+  pub encode-total : readHead (encode id b) .total ≡ totalOf b
+  unfolding headOf
   encode-total = ap (λ (h : Head). h .total) encode-head
 
-  -- the bytes that the code looks at
-  pub encode-state-byte : getD (encode id b) 3 0 ≡ stateNo b
-  unfolding readHead headOf
-  encode-state-byte = ap (λ (h : Head). h .state) encode-head
-
-  pub encode-total-byte : getD (encode id b) 12 0 ≡ totalOf b
-  unfolding readHead headOf
-  encode-total-byte = ap (λ (h : Head). h .total) encode-head
+  pub encode-state : readHead (encode id b) .state ≡ stateNo b
+  unfolding headOf
+  encode-state = ap (λ (h : Head). h .state) encode-head
 
   pub encode-front : take 512 (encode id b) ≡ headBlock (headOf id b)
   unfolding encode
@@ -153,8 +150,8 @@ module _ (id : List ℕ) (eight : length id ≡ 8) (b : Book) (v : Valid b) wher
   f : Fits b
   f = valid-fits b v
 
-  at-ok : (k : ℕ) → k < 96 → okAt id (totalOf b) k (pageBlock id k (getD (slotsOf b) k absent)) ≡ true
-  unfolding okAt
+  at-ok : (k : ℕ) → k < 96 → okAt (headOf id b) k (pageBlock id k (getD (slotsOf b) k absent)) ≡ true
+  unfolding okAt headOf
   at-ok k h =
       let p : Slot = getD (slotsOf b) k absent in
       let fine : okPage id k (pageBlock id k p) ≡ true = ok-page id k eight p (f .short k) in
@@ -164,8 +161,8 @@ module _ (id : List ℕ) (eight : length id ≡ 8) (b : Book) (v : Valid b) wher
       rw (le-ltb k (totalOf b) past, e, fine) (unfold isAbsent in refl))
       (lt-or-le k (totalOf b))
 
-  pages-ok : okPages id (totalOf b) 0 96 (encode id b) ≡ true
-  pages-ok = pages-all id (totalOf b) (encode id b) 0 96 (λ k g h. rw (encode-page id eight b f k (omega arith)) (at-ok k (omega arith)))
+  pages-ok : okPages (headOf id b) 0 96 (encode id b) ≡ true
+  pages-ok = pages-all (headOf id b) (encode id b) 0 96 (λ k g h. rw (encode-page id eight b f k (omega arith)) (at-ok k (omega arith)))
 
   pub encode-has-head : hasHead (encode id b) ≡ true
   unfolding hasHead okHead headOf
@@ -175,8 +172,11 @@ module _ (id : List ℕ) (eight : length id ≡ 8) (b : Book) (v : Valid b) wher
 
   -- it is well formed
   pub encode-ok : okBook (encode id b) ≡ true
-  unfolding okBook
-  encode-ok = rw (encode-has-head, encode-id id eight b f, encode-total id eight b f, pages-ok)
+  encode-ok = ok-is (encode id b) ∙ rw (encode-has-head, encode-head id eight b f, pages-ok)
+
+  -- so the judge lets it through, as the collection that it is
+  pub encode-judged : bookIn (encode id b) ≡ done b
+  encode-judged = judged-done (encode id b) encode-ok ∙ ap done (encode-read id eight b f)
 
 -- ---- one collection for well-formed bytes, and one sequence of bytes for a collection
 

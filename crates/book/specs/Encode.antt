@@ -5,7 +5,8 @@ use lib.Dec.{eqb}
 use lib.ListN.{length}
 use Rattle.wire.specs.Answer.{choose}
 use Rattle.wire.specs.Over.{over}
-use Rattle.state.specs.State.{Slot, Book, empty, collecting, disagree, noPages, totalOf, slotsOf}
+use Rattle.wire.specs.Sizes.{idSize, blockSize}
+use Rattle.model.specs.Book.{Slot, Book, empty, collecting, disagree, noPages, totalOf, slotsOf}
 use Rattle.block.specs.Block.{pageBlock}
 use Rattle.book.specs.Head.{Head, headFor, headBlock}
 
@@ -30,4 +31,4 @@ encode id b = headBlock (headOf id b) ++ pages id 0 (slotsOf b)
 
 -- a buffer with every page absent behind the head; as it was where the id has not 8 bytes, or the pages have no room
 unfoldable pub withBlank : List ℕ → List ℕ → List ℕ
-withBlank id out = choose (eqb (length id) 8) (over 512 (pages id 0 noPages) out) out
+withBlank id out = choose (eqb (length id) idSize) (over blockSize (pages id 0 noPages) out) out

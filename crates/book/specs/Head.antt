@@ -1,16 +1,18 @@
 -- The head block: document 01, "The collection".
-use Prim.Native.Nat.{ℕ}
+use Prim.Native.Nat.{ℕ, _-_}
 use mathlib.Core.Bool.{Bool, _&&_}
 use mathlib.Core.List.{List, [], _∷_, _++_}
 use lib.Dec.{eqb, leb}
 use lib.ListN.{length, take, drop, getD, replicate}
-use Rattle.wire.specs.Answer.{choose}
+use Rattle.wire.specs.Answer.{choose, Answer, done, demand}
+use Rattle.wire.specs.Ascii.{ascii}
 use Rattle.wire.specs.Over.{over}
+use Rattle.wire.specs.Sizes.{mostPages, idSize, summedSize, collectionSize}
 use Rattle.lend.specs.Same.{same}
 use Rattle.block.specs.Block.{sealed}
 use Rattle.block.specs.Read.{blockAt}
 
--- what a head says
+-- what a head says: a part that is added to it is added here
 pub record Head : Type 0 where
   pub id : List ℕ
   pub state : ℕ
@@ -19,29 +21,33 @@ pub record Head : Type 0 where
 abbrev pub headFor : List ℕ → ℕ → ℕ → Head
 headFor id s t = record { id = id; state = s; total = t }
 
--- "`49 4D`, version 1, state, 8 bytes id, total (one byte), zeros"
+-- the magic, version 1, the state, the id, the total in one byte, and zeros up to the checksum
 unfoldable pub headBody : Head → List ℕ
-headBody h = (0x49 ∷ 0x4D ∷ 1 ∷ h .state ∷ []) ++ h .id ++ (h .total ∷ []) ++ replicate 495 0
+headBody h = (ascii "IM" ++ (1 ∷ h .state ∷ [])) ++ h .id ++ (h .total ∷ []) ++ replicate (summedSize - 13) 0
 
 unfoldable pub headBlock : Head → List ℕ
 headBlock h = sealed (headBody h)
 
 -- a buffer with this head block in front; as it was where the id has not 8 bytes, or the block has no room
 unfoldable pub withHead : Head → List ℕ → List ℕ
-withHead h out = choose (eqb (length (h .id)) 8) (over 0 (headBlock h) out) out
+withHead h out = choose (eqb (length (h .id)) idSize) (over 0 (headBlock h) out) out
 
 -- of any bytes: what the head says
 unfoldable pub readHead : List ℕ → Head
-readHead c = headFor (take 8 (drop 4 c)) (getD c 3 0) (getD c 12 0)
+readHead c = headFor (take idSize (drop 4 c)) (getD c 3 0) (getD c 12 0)
 
--- "state (0 empty, 1 collecting, 2 totals disagree)", "total (one byte, 1 to 96 in state 1, else 0)"
+-- a total goes with state 1, collecting, alone: 0, empty, and 2, totals that disagree, have none
 unfoldable pub okTotal : ℕ → ℕ → Bool
-okTotal s t = choose (eqb s 1) (leb 1 t && leb t 96) (leb s 2 && eqb t 0)
+okTotal s t = choose (eqb s 1) (leb 1 t && leb t mostPages) (leb s 2 && eqb t 0)
 
 -- the first block of c is the head block of what it says, and that is allowed
 unfoldable pub okHead : List ℕ → Bool
 okHead c = okTotal (readHead c .state) (readHead c .total) && same (blockAt 0 c) (headBlock (readHead c))
 
--- "Wrong size or a bad head": neither
+-- the size is right, and the head is not bad
 unfoldable pub hasHead : List ℕ → Bool
-hasHead c = eqb (length c) 49664 && okHead c
+hasHead c = eqb (length c) collectionSize && okHead c
+
+-- what the head of a file says, or its refusal: nothing else judges a head
+unfoldable pub headIn : List ℕ → Answer Head
+headIn c = demand (hasHead c) 13 (done (readHead c))

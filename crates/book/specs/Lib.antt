@@ -1,3 +1,4 @@
 pub mod Head
 pub mod Encode
 pub mod Read
+pub mod Tally

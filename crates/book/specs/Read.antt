@@ -3,22 +3,20 @@ use Prim.Native.Nat.{ℕ, zero, suc, _+_, _*_}
 use mathlib.Core.Bool.{Bool, true, _&&_, _||_}
 use mathlib.Core.List.{List, [], _∷_}
 use lib.Dec.{eqb, ltb}
-use Rattle.wire.specs.Answer.{choose}
-use Rattle.state.specs.State.{Slot, Book, empty, collecting, disagree}
-use Rattle.state.specs.Finish.{isAbsent}
+use Rattle.wire.specs.Answer.{choose, Answer, done, numberOf, then, demand}
+use Rattle.wire.specs.Sizes.{mostPages, blockSize}
+use Rattle.model.specs.Book.{Slot, Book, empty, collecting, disagree}
+use Rattle.model.specs.Finish.{isAbsent}
 use Rattle.block.specs.Read.{blockAt, readSlot, okPage}
-use Rattle.book.specs.Head.{Head, readHead, hasHead}
+use Rattle.book.specs.Head.{Head, readHead, headIn}
 
--- the document, and the total
-unfoldable pub idOf : List ℕ → List ℕ
+-- the document
+abbrev pub idOf : List ℕ → List ℕ
 idOf c = readHead c .id
-
-unfoldable pub totalIn : List ℕ → ℕ
-totalIn c = readHead c .total
 
 -- the page block of index k: the head is the block before that of index 0
 abbrev pub pageAt : ℕ → List ℕ → List ℕ
-pageAt k c = blockAt (512 + 512 * k) c
+pageAt k c = blockAt (blockSize + blockSize * k) c
 
 -- what n page blocks say, from index k on
 unfoldable pub readPages : ℕ → ℕ → List ℕ → List Slot
@@ -30,18 +28,22 @@ bookFor h ss = choose (eqb (h .state) 0) empty (choose (eqb (h .state) 1) (colle
 
 -- of any bytes: what they say
 unfoldable pub readBook : List ℕ → Book
-readBook c = bookFor (readHead c) (readPages 0 96 c)
+readBook c = bookFor (readHead c) (readPages 0 mostPages c)
 
--- the block of index k in a collection of this id and total. "A page is absent unless the head is in state 1 and its index is below
--- the total": in the other states the total is 0
-unfoldable pub okAt : List ℕ → ℕ → ℕ → List ℕ → Bool
-okAt id t k b = (ltb k t || isAbsent (readSlot b)) && okPage id k b
+-- the block of index k under a head: a page from the total on is absent, and so is every page where the total is 0, in the states
+-- other than collecting
+unfoldable pub okAt : Head → ℕ → List ℕ → Bool
+okAt h k b = (ltb k (h .total) || isAbsent (readSlot b)) && okPage (h .id) k b
 
 -- n page blocks, from index k on
-unfoldable pub okPages : List ℕ → ℕ → ℕ → ℕ → List ℕ → Bool
-okPages id t k zero c = true
-okPages id t k (suc n) c = okAt id t k (pageAt k c) && okPages id t (suc k) n c
+unfoldable pub okPages : (h : Head) (k n : ℕ) (c : List ℕ) → Bool
+okPages h k zero c = true
+okPages h k (suc n) c = okAt h k (pageAt k c) && okPages h (suc k) n c
 
--- "Well formed means exactly this, for every byte"
+-- what a file says, or its refusal: nothing else judges a whole collection
+unfoldable pub bookIn : List ℕ → Answer Book
+bookIn c = then (headIn c) (λ h. demand (okPages h 0 mostPages c) 13 (done (readBook c)))
+
+-- well formed, for every byte
 unfoldable pub okBook : List ℕ → Bool
-okBook c = hasHead c && okPages (idOf c) (totalIn c) 0 96 c
+okBook c = eqb (numberOf (bookIn c)) 0

@@ -1,15 +1,18 @@
-// A collection as a whole: its head block, and 96 page blocks behind it. Each public function takes any arguments.
+// A collection as a whole: its head block, and 96 page blocks behind it. Each public function takes any arguments. Nobody else knows where
+// in the head its parts stand, or decides that a collection is refused.
+pub mod tally;
+
 ghost use mathlib.Core.Path.{_≡_};
 ghost use Prim.Native.Nat.{_+_, _*_, _≤_};
-ghost use lib.ListN.{length};
+ghost use lib.ListN.{length, replicate};
+ghost use Rattle.wire.specs.Answer.{numberOf};
 ghost use Rattle.wire.specs.Over.{over};
-ghost use Rattle.book.specs.Head.{headFor, headBody, withHead, okTotal, hasHead};
+ghost use Rattle.wire.specs.Sizes.{idSize, blockSize, summedSize};
+ghost use Rattle.book.specs.Head.{headFor, headBody, withHead, readHead, okTotal, hasHead, headIn};
 ghost use Rattle.book.specs.Encode.{withBlank};
-ghost use Rattle.book.specs.Read.{idOf, totalIn, pageAt, okAt, okBook};
+ghost use Rattle.book.specs.Read.{pageAt, okAt, bookIn};
 
-// The size of a collection in bytes, and in pages.
-pub const SIZE: usize = 49664;
-
+// The pages of a collection, by index.
 pub const PAGES: u8 = 96;
 
 // The states of a head.
@@ -19,35 +22,44 @@ pub const COLLECTING: u8 = 1;
 
 pub const DISAGREE: u8 = 2;
 
-const ID: usize = 8;
+// Where the parts of the head stand, behind its magic and its version.
+const STATE_AT: usize = 3;
+
+const ID_AT: usize = 4;
+
+const TOTAL_AT: usize = 12;
+
+const ZEROS_AT: usize = 13;
+
+const ZEROS: usize = wire::SUMMED_SIZE - ZEROS_AT;
 
 // Where the page block of index k begins.
 pub fn place(k: u8) -> usize
-    ensures { λ r. ⌜ r ≡ 512 + 512 * k ⌝ }
+    ensures { λ r. ⌜ r ≡ blockSize + blockSize * k ⌝ }
 {
-    512 + 512 * (k as usize)
+    wire::BLOCK_SIZE + wire::BLOCK_SIZE * (k as usize)
 }
 
 // All of the head block before its checksum.
 fn head_body(c: &mut [u8], id: &[u8], state: u8, total: u8)
-    requires { ⌜ (508 ≤ length (now c)) × (length (now id) ≡ 8) ⌝ }
+    requires { ⌜ (summedSize ≤ length (now c)) × (length (now id) ≡ idSize) ⌝ }
     ensures { λ _. ⌜ now (c .exit) ≡ over 0 (headBody (headFor (now (id .entry)) state total)) (now (c .entry)) ⌝ }
 {
     lend::copy(c, 0, b"IM\x01");
-    lend::put(c, 3, state);
-    lend::copy(c, 4, id);
-    lend::put(c, 12, total);
-    lend::clear(c, 13, 495);
+    lend::put(c, STATE_AT, state);
+    lend::copy(c, ID_AT, id);
+    lend::put(c, TOTAL_AT, total);
+    lend::clear(c, ZEROS_AT, ZEROS);
 }
 
 // The head block in front of c.
 pub fn write_head(c: &mut [u8], id: &[u8], state: u8, total: u8)
     ensures { λ _. ⌜ now (c .exit) ≡ withHead (headFor (now (id .entry)) state total) (now (c .entry)) ⌝ }
 {
-    if id.len() != ID {
+    if id.len() != wire::ID_SIZE {
         return;
     }
-    if c.len() < block::SIZE {
+    if c.len() < wire::BLOCK_SIZE {
         return;
     }
     head_body(c, id, state, total);
@@ -70,64 +82,117 @@ fn total_ok(state: u8, total: u8) -> bool
     false
 }
 
+// ---- what the head says, of any bytes
+
+pub fn state(c: &[u8]) -> u8
+    ensures { λ r. ⌜ r ≡ readHead (now (c .entry)) .state ⌝ }
+{
+    if c.len() <= STATE_AT {
+        return 0;
+    }
+    c[STATE_AT]
+}
+
+pub fn total(c: &[u8]) -> u8
+    ensures { λ r. ⌜ r ≡ readHead (now (c .entry)) .total ⌝ }
+{
+    if c.len() <= TOTAL_AT {
+        return 0;
+    }
+    c[TOTAL_AT]
+}
+
+// The document's id: fewer than 8 bytes where c ends before.
+pub fn id(c: &[u8]) -> &[u8]
+    ensures { λ r. ⌜ now r ≡ readHead (now (c .entry)) .id ⌝ }
+{
+    let n = c.len();
+    if n < ID_AT {
+        return &c[0..0];
+    }
+    if n < TOTAL_AT {
+        return &c[ID_AT..n];
+    }
+    &c[ID_AT..TOTAL_AT]
+}
+
+// The same as a copy, for a caller that is about to write c: zeros stand where c ends before.
+pub fn id_copy(c: &[u8]) -> [u8; 8]
+    ensures { λ r. ⌜ r ≡ over 0 (readHead (now (c .entry)) .id) (replicate idSize 0) ⌝ }
+{
+    let mut copy = [0u8; wire::ID_SIZE];
+    lend::copy(&mut copy, 0, id(c));
+    copy
+}
+
+// ---- the judge
+
 // Whether c has a collection's size and a well-formed head: it is the head block of what it says.
-pub fn head_ok(c: &[u8]) -> bool
+fn head_ok(c: &[u8]) -> bool
     ensures { λ r. ⌜ r ≡ hasHead (now (c .entry)) ⌝ }
 {
-    if c.len() != SIZE {
+    if c.len() != wire::COLLECTION_SIZE {
         return false;
     }
-    let state = c[3];
-    let total = c[12];
+    let state = state(c);
+    let total = total(c);
     if !total_ok(state, total) {
         return false;
     }
-    let mut again = [0u8; 512];
-    write_head(&mut again, &c[4..12], state, total);
-    lend::equal(&c[0..512], &again)
+    let mut again = [0u8; wire::BLOCK_SIZE];
+    write_head(&mut again, id(c), state, total);
+    lend::equal(&c[0..wire::BLOCK_SIZE], &again)
+}
+
+// Why c is refused for its head, the number; 0 where it is not.
+pub fn judge_head(c: &[u8]) -> u8
+    ensures { λ r. ⌜ r ≡ numberOf (headIn (now (c .entry))) ⌝ }
+{
+    if head_ok(c) {
+        return wire::DONE;
+    }
+    wire::BAD_COLLECTION
 }
 
 // Whether the page block of index k is well formed under the head of c.
 pub fn page_ok(c: &[u8], k: u8) -> bool
-    ensures { λ r. ⌜ r ≡ okAt (idOf (now (c .entry))) (totalIn (now (c .entry))) k (pageAt k (now (c .entry))) ⌝ }
+    ensures { λ r. ⌜ r ≡ okAt (readHead (now (c .entry))) k (pageAt k (now (c .entry))) ⌝ }
 {
-    if c.len() < block::SIZE {
-        return false;
-    }
     let at = place(k);
-    if c[12] <= k {
+    if total(c) <= k {
         if block::state(c, at) != block::ABSENT {
             return false;
         }
     }
-    block::well_formed(c, at, &c[4..12], k)
+    block::well_formed(c, at, id(c), k)
 }
 
-// Whether c is well formed, for every byte.
-pub fn well_formed(c: &[u8]) -> bool
-    ensures { λ r. ⌜ r ≡ okBook (now (c .entry)) ⌝ }
+// Why c is refused as a whole, the number; 0 where every byte is well formed.
+pub fn judge(c: &[u8]) -> u8
+    ensures { λ r. ⌜ r ≡ numberOf (bookIn (now (c .entry))) ⌝ }
 {
-    if !head_ok(c) {
-        return false;
+    let no = judge_head(c);
+    if no != wire::DONE {
+        return no;
     }
     let mut k: u8 = 0;
     while k < PAGES {
         if !page_ok(c, k) {
-            return false;
+            return wire::BAD_COLLECTION;
         }
         k += 1;
     }
-    true
+    wire::DONE
 }
 
 // Every page absent.
 pub fn blank(c: &mut [u8], id: &[u8])
     ensures { λ _. ⌜ now (c .exit) ≡ withBlank (now (id .entry)) (now (c .entry)) ⌝ }
 {
-    if id.len() != ID {
+    if id.len() != wire::ID_SIZE {
         return;
     }
-    if c.len() < SIZE {
+    if c.len() < wire::COLLECTION_SIZE {
         return;
     }
     let mut i: u8 = 0;

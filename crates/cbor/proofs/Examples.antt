@@ -6,7 +6,7 @@ use Rattle.wire.specs.Number.{digits, numberFrom}
 use Rattle.lend.specs.Same.{same}
 use Rattle.cbor.specs.Form.{infoOf, widthOf, headOf, stringOf, doubleOf}
 use Rattle.cbor.specs.Item.{oneAt, bigEndianAt, argumentAt, kindOf, headAt, numberAt, contentsAt, stringAt, nameAt, keyAt}
-use Rattle.cbor.specs.Names.{pubKey}
+use Rattle.wire.specs.Ascii.{ascii}
 
 -- ---- the written forms
 
@@ -53,9 +53,9 @@ unfolding numberAt headAt infoOf widthOf kindOf argumentAt bigEndianAt numberFro
 numbers-read = (refl, refl, refl, refl, refl, refl)
 
 -- For the reader: `pub` as a key: another length of text is 18 at once, a cut name 3, another name 18
-keys : (keyAt (0x63 ∷ 0x70 ∷ 0x75 ∷ 0x62 ∷ []) 0 pubKey ≡ got tt 4)
-    × (keyAt (0x64 ∷ []) 0 pubKey ≡ refused 18)
-    × (keyAt (0x63 ∷ 0x78 ∷ []) 0 pubKey ≡ refused 3)
-    × (keyAt (0x63 ∷ 0x70 ∷ 0x75 ∷ 0x63 ∷ []) 0 pubKey ≡ refused 18)
+keys : (keyAt (0x63 ∷ 0x70 ∷ 0x75 ∷ 0x62 ∷ []) 0 (ascii "pub") ≡ got tt 4)
+    × (keyAt (0x64 ∷ []) 0 (ascii "pub") ≡ refused 18)
+    × (keyAt (0x63 ∷ 0x78 ∷ []) 0 (ascii "pub") ≡ refused 3)
+    × (keyAt (0x63 ∷ 0x70 ∷ 0x75 ∷ 0x63 ∷ []) 0 (ascii "pub") ≡ refused 18)
 unfolding keyAt oneAt nameAt same
 keys = (refl, refl, refl, refl)

@@ -2,4 +2,3 @@ pub mod Form
 pub mod Item
 pub mod Answer
 pub mod Put
-pub mod Names

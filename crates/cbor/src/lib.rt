@@ -24,15 +24,49 @@ pub enum StepRead {
     Refused { no: u8 },
 }
 
+impl StepRead {
+    // The number of a refusal, for a caller's `else`.
+    pub fn no(self) -> u8
+        ensures { λ n. ⌜ n ≡ numberOf (stepTold self) ⌝ }
+    {
+        match self {
+            StepRead::Refused { no } => no,
+            _ => 0,
+        }
+    }
+}
+
 pub enum NumberRead {
     Value { n: u64, next: usize },
     Refused { no: u8 },
+}
+
+impl NumberRead {
+    pub fn no(self) -> u8
+        ensures { λ n. ⌜ n ≡ numberOf (numberTold self) ⌝ }
+    {
+        match self {
+            NumberRead::Refused { no } => no,
+            _ => 0,
+        }
+    }
 }
 
 // A head's major type and number. Of major type 0 the number is n, of 1 it is -1 - n.
 pub enum HeadRead {
     Value { major: u8, n: u64, next: usize },
     Refused { no: u8 },
+}
+
+impl HeadRead {
+    pub fn no(self) -> u8
+        ensures { λ n. ⌜ n ≡ numberOf (headTold self) ⌝ }
+    {
+        match self {
+            HeadRead::Refused { no } => no,
+            _ => 0,
+        }
+    }
 }
 
 // Where a string's contents start, and how long they are.
@@ -47,47 +81,13 @@ pub enum StringRead {
     },
 }
 
-// The number of a refusal, for a caller's `else`.
-pub fn step_no(r: StepRead) -> u8
-    ensures { λ n. ⌜ n ≡ numberOf (stepTold r) ⌝ }
-{
-    match r {
-        StepRead::Past { next: _ } => 0,
-        StepRead::Refused { no } => no,
-    }
-}
-
-pub fn number_no(r: NumberRead) -> u8
-    ensures { λ n. ⌜ n ≡ numberOf (numberTold r) ⌝ }
-{
-    match r {
-        NumberRead::Value { n: _, next: _ } => 0,
-        NumberRead::Refused { no } => no,
-    }
-}
-
-pub fn head_no(r: HeadRead) -> u8
-    ensures { λ n. ⌜ n ≡ numberOf (headTold r) ⌝ }
-{
-    match r {
-        HeadRead::Value {
-            major: _,
-            n: _,
-            next: _,
-        } => 0,
-        HeadRead::Refused { no } => no,
-    }
-}
-
-pub fn string_no(r: StringRead) -> u8
-    ensures { λ n. ⌜ n ≡ numberOf (stringTold r) ⌝ }
-{
-    match r {
-        StringRead::Value {
-            start: _,
-            len: _,
-            next: _,
-        } => 0,
-        StringRead::Refused { no } => no,
+impl StringRead {
+    pub fn no(self) -> u8
+        ensures { λ n. ⌜ n ≡ numberOf (stringTold self) ⌝ }
+    {
+        match self {
+            StringRead::Refused { no } => no,
+            _ => 0,
+        }
     }
 }

@@ -9,10 +9,7 @@ use super::HeadRead;
 use super::NumberRead;
 use super::StepRead;
 use super::StringRead;
-use super::head_no;
-use super::number_no;
 use super::short;
-use super::step_no;
 
 fn wide(x: u8) -> u64
     ensures { λ r. ⌜ (r ≡ x) × (r < 256) ⌝ }
@@ -133,7 +130,7 @@ pub fn head(s: &[u8], at: usize, kind: u8) -> HeadRead
     }
     let a = argument(s, at + 1, low);
     let NumberRead::Value { n, next } = a else {
-        return HeadRead::Refused { no: number_no(a) };
+        return HeadRead::Refused { no: a.no() };
     };
     if short::info(n) != low {
         return HeadRead::Refused {
@@ -149,7 +146,7 @@ pub fn number(s: &[u8], at: usize, kind: u8, least: u64, most: u64, fault: u8) -
 {
     let h = head(s, at, kind);
     let HeadRead::Value { major, n, next } = h else {
-        return NumberRead::Refused { no: head_no(h) };
+        return NumberRead::Refused { no: h.no() };
     };
     if major != kind {
         return NumberRead::Refused { no: fault };
@@ -191,7 +188,7 @@ pub fn string(s: &[u8], at: usize, kind: u8, least: u64, most: u64, fault: u8) -
 {
     let h = number(s, at, kind, least, most, fault);
     let NumberRead::Value { n, next } = h else {
-        return StringRead::Refused { no: number_no(h) };
+        return StringRead::Refused { no: h.no() };
     };
     contents(s, next, n)
 }
@@ -232,7 +229,7 @@ pub fn key(s: &[u8], at: usize, wanted: &[u8]) -> StepRead
     }
     let h = one_byte(s, at, 96 + len as u8);
     let StepRead::Past { next } = h else {
-        return StepRead::Refused { no: step_no(h) };
+        return StepRead::Refused { no: h.no() };
     };
     name(s, next, wanted)
 }
@@ -243,7 +240,7 @@ pub fn double(s: &[u8], at: usize) -> NumberRead
 {
     let h = one_byte(s, at, 0xFB);
     let StepRead::Past { next } = h else {
-        return NumberRead::Refused { no: step_no(h) };
+        return NumberRead::Refused { no: h.no() };
     };
     big_endian_at(s, next, 8)
 }
@@ -262,7 +259,7 @@ pub fn string_field(
 {
     let k = key(s, at, name);
     let StepRead::Past { next } = k else {
-        return StringRead::Refused { no: step_no(k) };
+        return StringRead::Refused { no: k.no() };
     };
     string(s, next, kind, least, most, fault)
 }
@@ -273,7 +270,7 @@ pub fn number_field(s: &[u8], at: usize, name: &[u8], least: u64, most: u64) -> 
 {
     let k = key(s, at, name);
     let StepRead::Past { next } = k else {
-        return NumberRead::Refused { no: step_no(k) };
+        return NumberRead::Refused { no: k.no() };
     };
     number(s, next, super::INTEGER, least, most, wire::OUT_OF_RANGE)
 }

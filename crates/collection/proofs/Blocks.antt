@@ -8,16 +8,16 @@ use native.Mathlib.Omega.{arith}
 use lib.ListN.{length}
 use Rattle.wire.proofs.Cases.{lt-or-le}
 use Rattle.lend.proofs.Sames.{same-false}
-use Rattle.state.specs.State.{Slot, absent, held, disputed, dataOf}
-use Rattle.state.specs.Take.{joinSlot, kindOfSlot}
-use Rattle.state.proofs.Slots.{join-absent, join-disputed, join-stays, join-first, join-again, join-other}
+use Rattle.model.specs.Book.{Slot, absent, held, disputed, dataOf}
+use Rattle.model.specs.Take.{joinSlot, kindOfSlot}
+use Rattle.model.proofs.Slots.{join-absent, join-disputed, join-stays, join-first, join-again, join-other}
 use Rattle.block.specs.Block.{stateOf, withPage}
 use Rattle.block.specs.Read.{blockAt, holding}
 use Rattle.block.proofs.Reading.{block-none, read-fits}
 use Rattle.block.proofs.Round.{page-length}
 use Rattle.block.proofs.Slots.{state-most, is-absent, is-held, is-disputed, holding-yes, holding-no}
 use Rattle.book.proofs.Changes.{block-again}
-use Rattle.collection.specs.Parts.{BlockOf, slotAt, Slotted}
+use Rattle.collection.specs.Private.{BlockOf, slotAt, Slotted}
 
 -- the data of a block are short
 pub data-short : (at : ℕ) (o d : List ℕ) → d ≡ dataOf (slotAt at o) → length d ≤ 480

@@ -1,21 +1,21 @@
 -- The third demand, for open, offer and join: what a collection saves is fixed by the SET of good pages that were offered to it.
 -- The words are those of Built.antt and of state's Meaning: no order, no grouping and no count stands in them. Assumes nothing.
 use mathlib.Core.Path.{_≡_, refl, sym, ap, _∙_, subst}
-use mathlib.Core.Bool.{Bool, true, false}
+use mathlib.Core.Bool.{true}
 use mathlib.Core.Logic.{_⊎_, inl, inr, ⊎-elim}
 use mathlib.Core.List.{List, [], _∷_, _++_}
 use Prim.Native.Nat.{ℕ}
 use lib.ListN.{length}
-use Rattle.wire.specs.Answer.{choose, done, refused, Got, got, Change, bytesAfter, answerOf}
-use Rattle.state.specs.State.{Book}
-use Rattle.state.specs.Take.{Page, takePage, kindOf}
-use Rattle.state.specs.Meaning.{BookIs}
-use Rattle.state.proofs.Sets.{book-one, book-iff}
-use Rattle.state.proofs.Histories as H
+use Rattle.wire.specs.Answer.{Answer, done, refusedAt, refused, then, Got, got, bytesAfter, answerOf}
+use Rattle.model.specs.Book.{Book}
+use Rattle.model.specs.Take.{Page, takePage, kindOf}
+use Rattle.model.specs.Meaning.{BookIs}
+use Rattle.model.proofs.Sets.{book-one, book-iff}
+use Rattle.model.proofs.Histories as H
 use Rattle.book.specs.Encode.{encode}
-use Rattle.book.specs.Read.{idOf, readBook, okBook}
+use Rattle.book.specs.Read.{idOf, readBook, bookIn, okBook}
 use Rattle.book.proofs.Round.{valid-fits, encode-ok, encode-id, encode-read}
-use Rattle.collection.specs.Collection.{goodPage, offering}
+use Rattle.collection.specs.Collection.{goodPage, taking, offering}
 use Rattle.collection.specs.Built.{Built, opened, offered, joined, bytesOf, Says, In, Lent, offeredAll, Among, PageAmong, AllBytes}
 use Rattle.collection.proofs.Replay.{taken, history, offer-encode, run-valid, bytes-run, run-means}
 
@@ -56,16 +56,16 @@ module _ (id : List ℕ) (eight : length id ≡ 8) where
       let e : takePage p d ≡ b =
       sym (ap (λ (x : Got Page). H.run (taken x (history id h))) g)
       ∙ book-one (In id (offered raw h)) (H.run (history id (offered raw h))) b (run-means id eight (offered raw h) l) m in
-      rw (bytes-run id eight h (l .1), offer-encode id eight d v raw, g, encode-read id eight d (valid-fits d v), e)
+      rw (bytes-run id eight h (l .1), offer-encode id eight d v raw, g, e)
 
 -- a bad scan or a stranger's page changes nothing, in any bytes
 pub strangers : (c raw : List ℕ) (e : ℕ) → goodPage (idOf c) raw ≡ refused e → bytesAfter c (offering c raw) ≡ c
 unfolding offering
-strangers c raw e h = rw h (go (okBook c))
+strangers c raw e h = go (bookIn c)
   where
-    go : (w : Bool) → bytesAfter c (choose {A = Change ℕ} w (refused e) (refused 13)) ≡ c
-    go true = refl
-    go false = refl
+    go : (a : Answer Book) → bytesAfter c (then a (λ b. taking (idOf c) b (goodPage (idOf c) raw))) ≡ c
+    go (done b) = rw h
+    go (refusedAt n place) = refl
 
 -- ---- the same, of lists of raw frames
 

@@ -9,6 +9,8 @@ use lib.Dec.{eqb}
 use lib.ListN.{length, take, drop}
 use Rattle.wire.specs.Answer.{refused, numberOf, got}
 use Rattle.wire.specs.Number.{Bytes}
+use Rattle.wire.specs.declared.Span.{Span}
+use Rattle.wire.specs.Span.{partAt}
 use Rattle.wire.proofs.Cases.{passed, then-passed, got-value, got-next}
 use Rattle.wire.proofs.Digits.{small-take, small-drop}
 use Rattle.lend.specs.Same.{same}
@@ -17,18 +19,18 @@ use Rattle.frame.specs.Answer.{told}
 use Rattle.frame.specs.declared.FrameRead.{FrameRead}
 use Rattle.frame.specs.declared.FrameRead.the-variants as R
 use Rattle.frame.proofs.OnlyLayouts.{Sound, only-layouts, told-sound}
-use Rattle.state.specs.Take.{Page}
-use Rattle.state.proofs.Valid.{Good}
+use Rattle.model.specs.Take.{Page}
+use Rattle.model.proofs.Valid.{Good}
 use Rattle.collection.specs.Collection.{pageOf, goodPage}
-use Rattle.collection.specs.Parts.{page, pageTold, Fits}
+use Rattle.collection.specs.Private.{page, pageTold, Fits}
 use Rattle.collection.specs.declared.take.PageRead.{PageRead}
 use Rattle.collection.specs.declared.take.PageRead.the-variants as P
 
 -- ---- what the casts and the slices of the code ask of a frame that was read
 
-module _ (s : List ℕ) (r : FrameRead) (e : told r ≡ F.frameOf s) (kind index total at len : ℕ) (k : r ≡ R.Frame kind index total at len) (y : Bytes s) where
-  sound : Sound s (record { kind = kind; index = index; total = total; at = at; len = len }) (at + len + 4)
-  sound = told-sound s r kind index total at len y e k
+module _ (s : List ℕ) (r : FrameRead) (e : told r ≡ F.frameOf s) (kind index total : ℕ) (at : Span) (k : r ≡ R.Frame kind index total at) (y : Bytes s) where
+  sound : Sound s (record { kind = kind; index = index; total = total; at = at }) (at .start + at .len + 4)
+  sound = told-sound s r kind index total at y e k
 
   pub frame-total : total < 256
   frame-total = omega (arith, sound .allowed .pages)
@@ -46,7 +48,7 @@ module _ (id s : List ℕ) (r : FrameRead) (e : told r ≡ F.frameOf s) where
   unfolding goodPage
   good-refused x n k q = rw (q, ← e, k)
 
-  module _ (kind index total at len : ℕ) (k : r ≡ R.Frame kind index total at len) where
+  module _ (kind index total : ℕ) (at : Span) (k : r ≡ R.Frame kind index total at) where
     pub good-kind : (kind ≡ 0x44 → ⊥) → refused 12 ≡ goodPage id s
     unfolding goodPage
     good-kind n = rw (← e, k, ne-eqb kind 0x44 n)
@@ -55,7 +57,7 @@ module _ (id s : List ℕ) (r : FrameRead) (e : told r ≡ F.frameOf s) where
     unfolding goodPage
     good-id w m f g = rw (← e, k, eq-eqb kind 0x44 m, ← f, g)
 
-    pub good-yes : (w : Bool) → kind ≡ 0x44 → w ≡ same id (F.idOf s) → w ≡ true → got (page index total (take len (drop at s))) (at + len + 4) ≡ goodPage id s
+    pub good-yes : (w : Bool) → kind ≡ 0x44 → w ≡ same id (F.idOf s) → w ≡ true → got (page index total (partAt s at)) (at .start + at .len + 4) ≡ goodPage id s
     unfolding goodPage
     good-yes w m f g = rw (← e, k, eq-eqb kind 0x44 m, ← f, g)
 
@@ -70,7 +72,7 @@ frame-good : (s : List ℕ) (f : F.Frame) (next : ℕ) → Bytes s → Sound s f
 frame-good s f next y w =
     record {
       good = record { below = w .allowed .below; most = w .allowed .pages; short = w .allowed .short };
-      bytes = small-take 256 (f .len) (drop (f .at) s) (small-drop 256 (f .at) s y);
+      bytes = small-take 256 (f .at .len) (drop (f .at .start) s) (small-drop 256 (f .at .start) s y);
       whole = w .past;
     }
 
@@ -88,12 +90,12 @@ good-page id s p next y h =
 pub cut : (at len : ℕ) (s : List ℕ) → take (at + len - at) (drop at s) ≡ take len (drop at s)
 cut at len s = let n : at + len - at ≡ len = omega arith in rw n
 
-module _ (id s : List ℕ) (r : PageRead) (g : pageTold s r ≡ goodPage id s) (index total at len : ℕ) (k : r ≡ P.Page index total at len) (y : Bytes s) where
-  whole : GoodPage s (page index total (take len (drop at s))) (at + len + 4)
-  whole = good-page id s (page index total (take len (drop at s))) (at + len + 4) y (sym g ∙ ap (pageTold s) k)
+module _ (id s : List ℕ) (r : PageRead) (g : pageTold s r ≡ goodPage id s) (index total : ℕ) (at : Span) (k : r ≡ P.Page index total at) (y : Bytes s) where
+  whole : GoodPage s (page index total (partAt s at)) (at .start + at .len + 4)
+  whole = good-page id s (page index total (partAt s at)) (at .start + at .len + 4) y (sym g ∙ ap (pageTold s) k)
 
-  pub page-ends : at + len + 4 ≡ length s
+  pub page-ends : at .start + at .len + 4 ≡ length s
   page-ends = whole .whole
 
-  pub page-fits : Fits index total (take (at + len - at) (drop at s))
-  page-fits = (whole .good .below, whole .good .most, rw (cut at len s) (whole .good .short))
+  pub page-fits : Fits index total (take (at .start + at .len - at .start) (drop (at .start) s))
+  page-fits = (whole .good .below, whole .good .most, rw (cut (at .start) (at .len) s) (whole .good .short))

@@ -5,18 +5,19 @@ use mathlib.Core.List.{List}
 use Prim.Native.Nat.{ℕ}
 use borrow.Author.Tests.{eq-eqb}
 use lib.ListN.{length}
-use Rattle.wire.specs.Answer.{choose, done, refusedAt, refused, Got, Change, leaves, bytesAfter}
+use Rattle.wire.specs.Answer.{choose, Answer, done, refusedAt, refused, then, Got, Change, leaves, bytesAfter}
 use Rattle.wire.specs.Number.{Bytes}
 use Rattle.lend.specs.Same.{same}
-use Rattle.state.specs.State.{Book, empty}
-use Rattle.state.specs.Take.{Page, takePage, joinBook}
-use Rattle.state.proofs.Valid.{Valid, valid-empty, valid-take, valid-join}
+use Rattle.model.specs.Book.{Book, empty}
+use Rattle.model.specs.Take.{Page, takePage, joinBook}
+use Rattle.model.proofs.Valid.{Valid, valid-empty, valid-take, valid-join}
 use Rattle.book.specs.Encode.{encode}
-use Rattle.book.specs.Read.{idOf, readBook, okBook}
+use Rattle.book.specs.Read.{idOf, readBook, bookIn}
+use Rattle.book.proofs.Judging.{judged-done, judged-only}
 use Rattle.book.proofs.Decode.{ok-id, decoded-valid}
 use Rattle.book.proofs.Round.{valid-fits, encode-ok, encode-id}
 use Rattle.collection.specs.Collection.{goodPage, opening, taking, offering, joining}
-use Rattle.collection.specs.Parts.{Of}
+use Rattle.collection.specs.Built.{Of}
 use Rattle.collection.proofs.Good.{good-page}
 
 encoded : (id : List ℕ) (b : Book) → length id ≡ 8 → Valid b → Of id (encode id b)
@@ -34,9 +35,9 @@ module _ (id c : List ℕ) (o : Of id c) where
   -- an offer of any bytes keeps it so
   pub offer-keeps : (raw : List ℕ) → Bytes raw → Of id (bytesAfter c (offering c raw))
   unfolding offering
-  offer-keeps raw y = rw (o .0) (go (goodPage (idOf c) raw) (ap (λ (i : List ℕ). goodPage i raw) (o .1)))
+  offer-keeps raw y = rw (judged-done c (o .0)) (go (goodPage (idOf c) raw) (ap (λ (i : List ℕ). goodPage i raw) (o .1)))
     where
-      go : (g : Got Page) → goodPage id raw ≡ g → Of id (bytesAfter c (taking c g))
+      go : (g : Got Page) → goodPage id raw ≡ g → Of id (bytesAfter c (taking (idOf c) (readBook c) g))
       go (done (p, next)) e =
           rw (← o .1) (encoded id (takePage p (readBook c)) eight (valid-take p (readBook c) (good-page id raw p next y e .good) (decoded-valid c (o .0))))
       go (refusedAt e place) q = o
@@ -44,11 +45,12 @@ module _ (id c : List ℕ) (o : Of id c) where
   -- For the reader: a join of anything keeps it so too
   pub join-keeps : (other : List ℕ) → Of id (bytesAfter c (joining c other))
   unfolding joining
-  join-keeps other = rw (o .0) (go (okBook other) (same (idOf c) (idOf other)) refl)
+  join-keeps other = rw (judged-done c (o .0)) (go (bookIn other) (same (idOf c) (idOf other)) refl)
     where
-      go : (v w : Bool) → okBook other ≡ v
-          → Of id (bytesAfter c (choose {A = Change Unit} v (choose w (leaves (encode (idOf c) (joinBook (readBook c) (readBook other))) tt) (refused 12)) (refused 13)))
-      go true true e =
-          rw (← o .1) (encoded id (joinBook (readBook c) (readBook other)) eight (valid-join (readBook c) (readBook other) (decoded-valid c (o .0)) (decoded-valid other e)))
-      go true false e = o
-      go false w e = o
+      go : (a : Answer Book) (w : Bool) → bookIn other ≡ a
+          → Of id (bytesAfter c (then a (λ b. choose {A = Change Unit} w (leaves (encode (idOf c) (joinBook (readBook c) b)) tt) (refused 12))))
+      go (done b) true e =
+          let j = judged-only other b e in
+          rw (← o .1) (encoded id (joinBook (readBook c) b) eight (valid-join (readBook c) b (decoded-valid c (o .0)) (rw (j .1) (decoded-valid other (j .0)))))
+      go (done b) false e = o
+      go (refusedAt n place) w e = o

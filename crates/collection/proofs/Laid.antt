@@ -6,20 +6,21 @@ use Prim.Native.Nat.{ℕ, _+_, _*_, _<_}
 use native.Mathlib.Omega.{arith}
 use lib.ListN.{length, take, drop, getD, set, length-append, length-set, take-append-drop}
 use lib.Seq.{drop-append-add}
-use Rattle.state.specs.State.{Slot, absent, dataOf, collecting, disagree, noPages, totalOf, slotsOf}
-use Rattle.state.proofs.Valid.{EachData, Short, short-none, data-set}
+use Rattle.model.specs.Book.{Slot, absent, dataOf, collecting, disagree, noPages, totalOf, slotsOf}
+use Rattle.model.proofs.Valid.{EachData, Short, short-none, data-set}
 use Rattle.block.specs.Block.{pageBlock, withPage}
 use Rattle.block.specs.Read.{blockAt, readSlot}
 use Rattle.block.proofs.Reading.{block-here}
 use Rattle.block.proofs.Round.{slot-page, ok-page}
 use Rattle.book.specs.Head.{headFor, headBlock, withHead, readHead}
 use Rattle.book.specs.Encode.{stateNo, headOf, pages, encode}
-use Rattle.book.specs.Read.{idOf, totalIn, readPages}
+use Rattle.book.specs.Read.{idOf, readPages}
 use Rattle.book.proofs.Heads.{length-headblock}
 use Rattle.book.proofs.Pages.{length-pages, pages-at}
 use Rattle.book.proofs.Changes.{head-anew, page-anew}
 use Rattle.book.proofs.Decode.{length-read, read-short, pages-are, head-stands, ok-head, ok-pages, ok-size, ok-id}
-use Rattle.collection.specs.Parts.{Of, BlockOf, slotAt}
+use Rattle.collection.specs.Private.{BlockOf, slotAt}
+use Rattle.collection.specs.Built.{Of}
 
 -- c is the head block of a state and a total, and the blocks of the slots ss
 pub record Laid (id : List ℕ) (s t : ℕ) (ss : List Slot) (c : List ℕ) : Type 0 where
@@ -80,8 +81,7 @@ module _ {id : List ℕ} {s t : ℕ} {ss : List Slot} {c : List ℕ} (l : Laid i
       }
 
 -- a well-formed collection is laid out as what it says
-pub of-laid : (id c : List ℕ) → Of id c → Laid id (getD c 3 0) (getD c 12 0) (readPages 0 96 c) c
-unfolding idOf readHead
+pub of-laid : (id c : List ℕ) → Of id c → Laid id (readHead c .state) (readHead c .total) (readPages 0 96 c) c
 of-laid id c (ok, e) =
     record {
       eight = ap length e ∙ ok-id c ok;
@@ -89,7 +89,7 @@ of-laid id c (ok, e) =
       short = read-short 0 96 c;
       bytes = rw e
           (sym (take-append-drop 512 c)
-          ∙ ap₂ _++_ (head-stands c (ok-head c ok)) (pages-are (idOf c) (totalIn c) c 0 96 512 (ok-pages c ok) refl (ok-size c ok)));
+          ∙ ap₂ _++_ (head-stands c (ok-head c ok)) (pages-are (readHead c) c 0 96 512 (ok-pages c ok) refl (ok-size c ok)));
     }
 
 -- the bytes of each kind of collection

@@ -5,17 +5,18 @@ use Prim.Native.Nat.{ℕ, zero, suc, _+_, _*_, _≤_, _<_}
 use native.Mathlib.Omega.{arith}
 use native.Mathlib.Numerals.{add-one}
 use lib.ListN.{length, getD, set, replicate}
-use Rattle.state.specs.State.{Slot, absent, dataOf, disagree, noPages}
-use Rattle.state.specs.Take.{joinSlot, joinSlots, joinBook}
-use Rattle.state.proofs.Valid.{Short, short-none, data-join}
-use Rattle.state.proofs.Changes.{join-one-total}
-use Rattle.state.proofs.UpTo.{upTo, upTo-none, upTo-all, upTo-get, upTo-set}
+use Rattle.model.specs.Book.{Slot, absent, dataOf, disagree, noPages}
+use Rattle.model.specs.Take.{joinSlot, joinSlots, joinBook}
+use Rattle.model.proofs.Valid.{Short, short-none, data-join}
+use Rattle.model.proofs.Changes.{join-one-total}
+use Rattle.model.proofs.UpTo.{upTo, upTo-none, upTo-all, upTo-get, upTo-set}
 use Rattle.block.specs.Block.{withPage}
-use Rattle.book.specs.Head.{headFor, withHead}
+use Rattle.book.specs.Head.{headFor, withHead, readHead}
 use Rattle.book.specs.Encode.{encode}
 use Rattle.book.specs.Read.{readPages, readBook}
 use Rattle.book.proofs.Decode.{length-read, book-1}
-use Rattle.collection.specs.Parts.{Of, OneTotal, BlockOf, slotAt}
+use Rattle.collection.specs.Private.{OneTotal, BlockOf, slotAt}
+use Rattle.collection.specs.Built.{Of}
 use Rattle.collection.proofs.Laid.{Laid, laid-ok, laid-slot, laid-set, laid-head, laid-disagree, laid-collecting, of-laid}
 
 -- ---- the first k slots absent, and the rest as it was
@@ -41,7 +42,7 @@ clear-all (x ∷ ss) = ap (λ (r : List Slot). absent ∷ r) (clear-all ss)
 pub record Clearing (id c₀ : List ℕ) (k : ℕ) (c : List ℕ) : Type 0 where
   pub most : k ≤ 96
   pub size : length c ≡ length c₀
-  pub laid : Laid id (getD c₀ 3 0) (getD c₀ 12 0) (cleared k (readPages 0 96 c₀)) c
+  pub laid : Laid id (readHead c₀ .state) (readHead c₀ .total) (cleared k (readPages 0 96 c₀)) c
 
 short-absent : Short (dataOf absent)
 unfolding dataOf
@@ -78,7 +79,7 @@ module _ (id c₀ : List ℕ) where
 pub record Joining (id o c₀ : List ℕ) (k : ℕ) (c : List ℕ) : Type 0 where
   pub most : k ≤ 96
   pub size : length c ≡ length c₀
-  pub laid : Laid id (getD c₀ 3 0) (getD c₀ 12 0) (upTo k (readPages 0 96 c₀) (readPages 0 96 o)) c
+  pub laid : Laid id (readHead c₀ .state) (readHead c₀ .total) (upTo k (readPages 0 96 c₀) (readPages 0 96 o)) c
 
 module _ (id o c₀ : List ℕ) where
   pub join-start : Of id c₀ → Joining id o c₀ 0 c₀
@@ -103,7 +104,7 @@ module _ (id o c₀ : List ℕ) where
           most = omega arith;
           size = l ∙ w .size;
           laid =
-              subst (λ (vs : List Slot). Laid id (getD c₀ 3 0) (getD c₀ 12 0) vs x)
+              subst (λ (vs : List Slot). Laid id (readHead c₀ .state) (readHead c₀ .total) vs x)
               (upTo-set k ss us (ours .slots ∙ sym (theirs .slots)) (omega (arith, ours .slots)))
               (laid-set (w .laid) k at h place p x g f);
         }
@@ -112,8 +113,8 @@ module _ (id o c₀ : List ℕ) where
   join-end k c h w (a, b, e) =
       let ss : List Slot = readPages 0 96 c₀ in
       let us : List Slot = readPages 0 96 o in
-      let t : ℕ = getD c₀ 12 0 in
+      let t : ℕ = readHead c₀ .total in
       let n : k ≡ length ss = omega (arith, w .most, length-read 0 96 c₀) in
       let z : upTo k ss us ≡ joinSlots ss us = ap (λ (m : ℕ). upTo m ss us) n ∙ upTo-all ss us in
       let l : Laid id 1 t (joinSlots ss us) c = rw (← a, ← z) (w .laid) in
-      laid-collecting l ∙ ap (encode id) (sym (ap₂ joinBook (book-1 c₀ a) (book-1 o b) ∙ join-one-total t (getD o 12 0) ss us e))
+      laid-collecting l ∙ ap (encode id) (sym (ap₂ joinBook (book-1 c₀ a) (book-1 o b) ∙ join-one-total t (readHead o .total) ss us e))

@@ -4,17 +4,18 @@ use mathlib.Core.List.{List}
 use Prim.Native.Nat.{ℕ}
 use lib.ListN.{length, getD}
 use lib.Seq.{ext-getD}
-use Rattle.state.specs.State.{Slot, absent, collecting, disagree, noPages, totalOf}
-use Rattle.state.specs.Take.{joinSlot, joinSlots, joinBook}
-use Rattle.state.proofs.Slots.{getD-none, length-none, getD-joins, length-joins, join-first}
-use Rattle.state.proofs.Valid.{Short, short-none, data-none, Valid}
-use Rattle.state.proofs.Changes.{join-empty, join-to-empty, join-disagree, join-to-disagree, join-one-total, join-two-totals}
-use Rattle.book.specs.Head.{headFor, withHead}
+use Rattle.model.specs.Book.{Slot, absent, collecting, disagree, noPages, totalOf}
+use Rattle.model.specs.Take.{joinSlot, joinSlots, joinBook}
+use Rattle.model.proofs.Slots.{getD-none, length-none, getD-joins, length-joins, join-first}
+use Rattle.model.proofs.Valid.{Short, short-none, data-none, Valid}
+use Rattle.model.proofs.Changes.{join-empty, join-to-empty, join-disagree, join-to-disagree, join-one-total, join-two-totals}
+use Rattle.book.specs.Head.{headFor, withHead, readHead}
 use Rattle.book.specs.Encode.{stateNo, encode}
 use Rattle.book.specs.Read.{readPages, readBook}
 use Rattle.book.proofs.Decode.{decoded-valid, length-read, book-0, book-1, book-2}
-use Rattle.book.proofs.Round.{Fits, fits-pages, encode-ok, encode-id, encode-read, encode-state-byte, encode-total-byte}
-use Rattle.collection.specs.Parts.{Of, OneTotal}
+use Rattle.book.proofs.Round.{Fits, fits-pages, encode-ok, encode-id, encode-read, encode-state, encode-total}
+use Rattle.collection.specs.Private.{OneTotal}
+use Rattle.collection.specs.Built.{Of}
 use Rattle.collection.proofs.Laid.{laid-collecting}
 use Rattle.collection.proofs.Taking.{of-bytes, of-eight, of-state, totalled}
 
@@ -28,61 +29,63 @@ none-joined us l =
 abbrev pub Merged : List ℕ → List ℕ → List ℕ → List ℕ → Type 0
 Merged id c o x = x ≡ encode id (joinBook (readBook c) (readBook o))
 
-module _ (id c o : List ℕ) (q : Of id c) (r : Of id o) where
-  pub ours-disagree : getD c 3 0 ≡ 2 → Merged id c o c
-  ours-disagree e = of-bytes id c q ∙ ap (encode id) (rw (book-2 c e) (sym (join-to-disagree (readBook o))))
+module _ (id c o : List ℕ) (q : Of id c) (r : Of id o) (b : ℕ) (eb : b ≡ readHead o .state) where
+  pub theirs-empty : b ≡ 0 → Merged id c o c
+  theirs-empty e = of-bytes id c q ∙ ap (encode id) (rw (book-0 o (sym eb ∙ e)) (sym (join-empty (readBook c))))
 
-  pub theirs-empty : getD o 3 0 ≡ 0 → Merged id c o c
-  theirs-empty e = of-bytes id c q ∙ ap (encode id) (rw (book-0 o e) (sym (join-empty (readBook c))))
+  pub theirs-disagree : (x : List ℕ) → b ≡ 2 → x ≡ encode id disagree → Merged id c o x
+  theirs-disagree x e f = f ∙ ap (encode id) (rw (book-2 o (sym eb ∙ e)) (sym (join-disagree (readBook c))))
 
-  pub theirs-disagree : (x : List ℕ) → getD o 3 0 ≡ 2 → x ≡ encode id disagree → Merged id c o x
-  theirs-disagree x e f = f ∙ ap (encode id) (rw (book-2 o e) (sym (join-disagree (readBook c))))
+-- the other is collecting, with the total t; a is the state of ours
+module _ (id c o : List ℕ) (q : Of id c) (r : Of id o) (s : readHead o .state ≡ 1) (a : ℕ) (ea : a ≡ readHead c .state) where
+  pub ours-disagree : a ≡ 2 → Merged id c o c
+  ours-disagree e = of-bytes id c q ∙ ap (encode id) (rw (book-2 c (sym ea ∙ e)) (sym (join-to-disagree (readBook o))))
 
-  module _ (n : getD o 3 0 ≡ 0 → ⊥) (m : getD o 3 0 ≡ 2 → ⊥) where
-    theirs : readBook o ≡ collecting (getD o 12 0) (readPages 0 96 o)
-    theirs = book-1 o (of-state id o r n m)
+  module _ (t : ℕ) (et : t ≡ readHead o .total) where
+    us : List Slot
+    us = readPages 0 96 o
+
+    theirs : readBook o ≡ collecting t us
+    unfolding us
+    theirs = rw et (book-1 o s)
 
     -- the empty one: x has the total of o already
-    module _ (x : List ℕ) (e : getD c 3 0 ≡ 0) (f : x ≡ withHead (headFor id 1 (getD o 12 0)) c) where
-      total-valid : Valid (collecting (getD o 12 0) noPages)
+    module _ (x : List ℕ) (e : a ≡ 0) (f : x ≡ withHead (headFor id 1 t) c) where
+      total-valid : Valid (collecting t noPages)
       total-valid =
-          let v : Valid (collecting (getD o 12 0) (readPages 0 96 o)) = subst Valid theirs (decoded-valid o (r .0)) in
+          let v : Valid (collecting t us) = subst Valid theirs (decoded-valid o (r .0)) in
           record { least = v .least; most = v .most; slots = length-none; short = data-none Short short-none; beyond = λ k h. getD-none k }
 
-      total-fits : Fits (collecting (getD o 12 0) noPages)
-      total-fits = fits-pages (getD o 12 0) noPages length-none (data-none Short short-none)
+      total-fits : Fits (collecting t noPages)
+      total-fits = fits-pages t noPages length-none (data-none Short short-none)
 
-      as-bytes : x ≡ encode id (collecting (getD o 12 0) noPages)
-      as-bytes = laid-collecting (totalled id c (getD o 12 0) x q e f)
+      as-bytes : x ≡ encode id (collecting t noPages)
+      as-bytes = laid-collecting (totalled id c t x q (sym ea ∙ e) f)
 
       pub totalled-of : Of id x
       totalled-of =
-          rw as-bytes (encode-ok id (of-eight id c q) (collecting (getD o 12 0) noPages) total-valid, sym (encode-id id (of-eight id c q) (collecting (getD o 12 0) noPages) total-fits))
+          rw as-bytes (encode-ok id (of-eight id c q) (collecting t noPages) total-valid, sym (encode-id id (of-eight id c q) (collecting t noPages) total-fits))
 
       pub totalled-one : OneTotal x o
       unfolding stateNo totalOf
       totalled-one = (
-        rw as-bytes (encode-state-byte id (of-eight id c q) (collecting (getD o 12 0) noPages) total-fits),
-        of-state id o r n m,
-        rw as-bytes (encode-total-byte id (of-eight id c q) (collecting (getD o 12 0) noPages) total-fits),
+        rw as-bytes (encode-state id (of-eight id c q) (collecting t noPages) total-fits),
+        s,
+        rw as-bytes (encode-total id (of-eight id c q) (collecting t noPages) total-fits) ∙ et,
       )
 
       pub totalled-merged : (y : List ℕ) → Merged id x o y → Merged id c o y
+      unfolding us
       totalled-merged y h =
-          let t : ℕ = getD o 12 0 in
-          let us : List Slot = readPages 0 96 o in
           let b : readBook x ≡ collecting t noPages = rw as-bytes (encode-read id (of-eight id c q) (collecting t noPages) total-fits) in
           let z : joinBook (readBook x) (readBook o) ≡ joinBook (readBook c) (readBook o) =
           ap₂ joinBook b theirs ∙ join-one-total t t noPages us refl ∙ ap (collecting t) (none-joined us (length-read 0 96 o))
-          ∙ sym (ap₂ joinBook (book-0 c e) theirs ∙ join-to-empty (collecting t us)) in
+          ∙ sym (ap₂ joinBook (book-0 c (sym ea ∙ e)) theirs ∙ join-to-empty (collecting t us)) in
           h ∙ ap (encode id) z
 
-    -- both collecting
-    module _ (j : getD c 3 0 ≡ 0 → ⊥) (k : getD c 3 0 ≡ 2 → ⊥) where
-      pub both-one : getD c 12 0 ≡ getD o 12 0 → OneTotal c o
-      both-one e = (of-state id c q j k, of-state id o r n m, e)
-
-      pub both-two : (x : List ℕ) → (getD c 12 0 ≡ getD o 12 0 → ⊥) → x ≡ encode id disagree → Merged id c o x
+    -- both collecting; ours has the total v
+    module _ (j : a ≡ 0 → ⊥) (k : a ≡ 2 → ⊥) (v : ℕ) (ev : v ≡ readHead c .total) where
+      pub both-two : (x : List ℕ) → (v ≡ t → ⊥) → x ≡ encode id disagree → Merged id c o x
       both-two x e f =
-          f ∙ ap (encode id)
-          (sym (ap₂ joinBook (book-1 c (of-state id c q j k)) theirs ∙ join-two-totals (getD c 12 0) (getD o 12 0) (readPages 0 96 c) (readPages 0 96 o) e))
+          let ours : readBook c ≡ collecting v (readPages 0 96 c) = rw ev (book-1 c (of-state id c q a ea j k)) in
+          f ∙ ap (encode id) (sym (ap₂ joinBook ours theirs ∙ join-two-totals v t (readPages 0 96 c) us e))

@@ -8,14 +8,14 @@ use lib.ListN.{length}
 use Rattle.wire.specs.Answer.{done, refusedAt, Got, got, bytesAfter}
 use Rattle.wire.proofs.Cases.{not-done, got-value}
 use Rattle.lend.proofs.Sames.{same-refl}
-use Rattle.state.specs.State.{Book, empty}
-use Rattle.state.specs.Take.{Page, takePage, joinBook}
-use Rattle.state.specs.Meaning.{BookIs}
-use Rattle.state.proofs.Sets.{book-iff}
-use Rattle.state.proofs.Valid.{Good, Valid}
-use Rattle.state.proofs.Histories as H
+use Rattle.model.specs.Book.{Book, empty}
+use Rattle.model.specs.Take.{Page, takePage, joinBook}
+use Rattle.model.specs.Meaning.{BookIs}
+use Rattle.model.proofs.Sets.{book-iff}
+use Rattle.model.proofs.Valid.{Good, Valid}
+use Rattle.model.proofs.Histories as H
 use Rattle.book.specs.Encode.{encode}
-use Rattle.book.proofs.Round.{valid-fits, encode-ok, encode-id, encode-read}
+use Rattle.book.proofs.Round.{valid-fits, encode-id, encode-judged}
 use Rattle.collection.specs.Collection.{goodPage, opening, taking, offering, joining}
 use Rattle.collection.proofs.Good.{good-page}
 use Rattle.collection.specs.Built.{Built, opened, offered, joined, bytesOf, In, Lent}
@@ -74,24 +74,19 @@ module _ (id : List ℕ) where
 module _ (id : List ℕ) (eight : length id ≡ 8) where
   module _ (b : Book) (v : Valid b) where
     -- an offer decides as if the page were taken from the raw frame
-    pub offer-encode : (raw : List ℕ) → offering (encode id b) raw ≡ taking (encode id b) (goodPage id raw)
+    pub offer-encode : (raw : List ℕ) → offering (encode id b) raw ≡ taking id b (goodPage id raw)
     unfolding offering
-    offer-encode raw = rw (encode-ok id eight b v, encode-id id eight b (valid-fits b v))
-
-    pub take-encode : (p : Page) (next : ℕ) → bytesAfter (encode id b) (taking (encode id b) (got p next)) ≡ encode id (takePage p b)
-    take-encode p next = rw (encode-id id eight b (valid-fits b v), encode-read id eight b (valid-fits b v))
+    offer-encode raw = rw (encode-judged id eight b v, encode-id id eight b (valid-fits b v))
 
     join-encode : (d : Book) → Valid d → bytesAfter (encode id b) (joining (encode id b) (encode id d)) ≡ encode id (joinBook b d)
     unfolding joining
     join-encode d w =
         rw (
-          encode-ok id eight b v,
-          encode-ok id eight d w,
+          encode-judged id eight b v,
+          encode-judged id eight d w,
           encode-id id eight b (valid-fits b v),
           encode-id id eight d (valid-fits d w),
           same-refl id,
-          encode-read id eight b (valid-fits b v),
-          encode-read id eight d (valid-fits d w),
         )
 
   open-encode : (c : List ℕ) → length c ≡ 49664 → bytesAfter c (opening id c) ≡ encode id empty
@@ -101,11 +96,10 @@ module _ (id : List ℕ) (eight : length id ≡ 8) where
   pub run-valid : (h : Built) → Lent h → Valid (H.run (history id h))
   run-valid h l = H.run-valid (history id h) (all-good id h l)
 
-  take-run : (h : H.History) → Valid (H.run h) → (g : Got Page)
-      → bytesAfter (encode id (H.run h)) (taking (encode id (H.run h)) g) ≡ encode id (H.run (taken g h))
+  take-run : (h : H.History) (g : Got Page) → bytesAfter (encode id (H.run h)) (taking id (H.run h) g) ≡ encode id (H.run (taken g h))
   unfolding taken H.run
-  take-run h v (done (p, next)) = take-encode (H.run h) v p next
-  take-run h v (refusedAt e place) = refl
+  take-run h (done (p, next)) = refl
+  take-run h (refusedAt e place) = refl
 
   -- the bytes are those of the collection that took the pages
   pub bytes-run : (h : Built) → Lent h → bytesOf id h ≡ encode id (H.run (history id h))
@@ -114,7 +108,7 @@ module _ (id : List ℕ) (eight : length id ≡ 8) where
   bytes-run (offered raw h) l =
       ap (λ (c : List ℕ). bytesAfter c (offering c raw)) (bytes-run h (l .1))
       ∙ ap (bytesAfter (encode id (H.run (history id h)))) (offer-encode (H.run (history id h)) (run-valid h (l .1)) raw)
-      ∙ take-run (history id h) (run-valid h (l .1)) (goodPage id raw)
+      ∙ take-run (history id h) (goodPage id raw)
   bytes-run (joined g h) l =
       ap₂ (λ (c o : List ℕ). bytesAfter c (joining c o)) (bytes-run g (l .0)) (bytes-run h (l .1))
       ∙ join-encode (H.run (history id g)) (run-valid g (l .0)) (H.run (history id h)) (run-valid h (l .1))

@@ -11,7 +11,7 @@ abbrev pub told : Answered → Answer Unit
 told A.Done = done tt
 told (A.Refused e) = refused e
 
--- offer: "0 with 1, 2 or 3: page held, page in two versions, totals disagree"
+-- offer: 1, 2 or 3 where it is done: page held, page disputed, totals disagree
 abbrev pub toldKind : Offered → Answer ℕ
 toldKind (O.Done kind) = done kind
 toldKind (O.Refused e) = refused e

@@ -6,8 +6,11 @@ use Prim.Native.Nat.{ℕ}
 use lib.ListN.{length}
 use Rattle.wire.specs.Answer.{got, bytesAfter}
 use Rattle.wire.specs.Number.{Bytes}
-use Rattle.state.specs.Take.{Page}
+use Rattle.wire.specs.Sizes.{collectionSize}
+use Rattle.model.specs.Take.{Page}
 use Rattle.collection.specs.Collection.{goodPage, opening, offering, joining}
+use mathlib.Core.Bool.{true}
+use Rattle.book.specs.Read.{idOf, okBook}
 
 -- a lent buffer opened; a raw frame, any bytes, offered to one; another joined into one
 pub data Built : Type 0 where
@@ -31,9 +34,9 @@ In id (opened c) p = ⊥
 In id (offered raw h) p = In id h p ⊎ Says id raw p
 In id (joined g h) p = In id g p ⊎ In id h p
 
--- what was lent: exactly 49,664 bytes to open, and frames of bytes
+-- what was lent: a collection's size to open, and frames of bytes
 abbrev pub Lent : Built → Type 0
-Lent (opened c) = length c ≡ 49664
+Lent (opened c) = length c ≡ collectionSize
 Lent (offered raw h) = Bytes raw × Lent h
 Lent (joined g h) = Lent g × Lent h
 
@@ -56,3 +59,7 @@ PageAmong id raws p = (raw : List ℕ) × Among raws raw × Says id raw p
 -- all of them hold bytes
 abbrev pub AllBytes : List (List ℕ) → Type 0
 AllBytes raws = (raw : List ℕ) → Among raws raw → Bytes raw
+
+-- c is well formed, and id is its document
+abbrev pub Of : List ℕ → List ℕ → Type 0
+Of id c = (okBook c ≡ true) × (id ≡ idOf c)

@@ -5,12 +5,13 @@ use mathlib.Core.List.{List}
 use lib.Dec.{eqb}
 use lib.ListN.{length}
 use Rattle.wire.specs.Answer.{then, demand, Got, got, Change, leaves}
+use Rattle.wire.specs.Sizes.{idSize, collectionSize}
 use Rattle.lend.specs.Same.{same}
 use Rattle.frame.specs.Frame as F
-use Rattle.state.specs.State.{empty}
-use Rattle.state.specs.Take.{Page, takePage, joinBook, kindOf}
+use Rattle.model.specs.Book.{Book, empty}
+use Rattle.model.specs.Take.{Page, takePage, joinBook, kindOf}
 use Rattle.book.specs.Encode.{encode}
-use Rattle.book.specs.Read.{idOf, readBook, okBook}
+use Rattle.book.specs.Read.{idOf, bookIn}
 
 -- ---- a good page
 
@@ -24,25 +25,25 @@ goodPage id s = then (F.frameOf s) (λ (f, next). demand (eqb (f .kind) 0x44 && 
 
 -- ---- what a call decides
 
--- "Open: id not 8 bytes 19, then 11; it writes the empty collection"
+-- open: an id of 8 bytes and the size of a collection, over which the empty one is written
 unfoldable pub opening : List ℕ → List ℕ → Change Unit
 opening id c =
-    demand (eqb (length id) 8) 19
-    (demand (eqb (length c) 49664) 11
+    demand (eqb (length id) idSize) 19
+    (demand (eqb (length c) collectionSize) 11
     (leaves (encode id empty) tt))
 
--- a good page is taken. "The answer is 0 with 1, 2 or 3": how the page stands after it
-abbrev pub taking : List ℕ → Got Page → Change ℕ
-taking c g = then g (λ (p, next). leaves (encode (idOf c) (takePage p (readBook c))) (kindOf (p .index) (takePage p (readBook c))))
+-- a good page is taken, and how it then stands is answered
+abbrev pub taking : List ℕ → Book → Got Page → Change ℕ
+taking id b g = then g (λ (p, next). leaves (encode id (takePage p b)) (kindOf (p .index) (takePage p b)))
 
--- "Offer, of one raw frame: 13, then the frame's own, then 12. The page is then taken"
+-- offer, of one raw frame: the collection is judged, then the frame
 unfoldable pub offering : List ℕ → List ℕ → Change ℕ
-offering c s = demand (okBook c) 13 (taking c (goodPage (idOf c) s))
+offering c s = then (bookIn c) (λ b. taking (idOf c) b (goodPage (idOf c) s))
 
--- "Join (one collection written, one read): 13 for the written, 13 for the read, 12; then page for page by the same rules"
+-- join: the written collection is judged, then the read one, then whether they are of one document
 unfoldable pub joining : List ℕ → List ℕ → Change Unit
 joining c o =
-    demand (okBook c) 13
-    (demand (okBook o) 13
-    (demand (same (idOf c) (idOf o)) 12
-    (leaves (encode (idOf c) (joinBook (readBook c) (readBook o))) tt)))
+    then (bookIn c) (λ ours.
+    then (bookIn o) (λ theirs.
+    demand (same (idOf c) (idOf o)) 12
+    (leaves (encode (idOf c) (joinBook ours theirs)) tt)))

@@ -1,4 +1,4 @@
 pub mod Collection
 pub mod Answer
 pub mod Built
-pub mod Parts
+pub mod Private

@@ -4,9 +4,6 @@ mod merge;
 mod take;
 
 ghost use mathlib.Core.Path.{_≡_};
-ghost use Prim.Native.Nat.{_≤_};
-ghost use lib.ListN.{length};
-ghost use Rattle.book.specs.Read.{idOf};
 ghost use Rattle.wire.specs.Answer.{Kept};
 ghost use Rattle.collection.specs.Collection.{opening, offering, joining};
 ghost use Rattle.collection.specs.Answer.{told, toldKind};
@@ -15,9 +12,9 @@ use take::PageRead;
 // How a page stands after its offer.
 pub const HELD: u8 = 1;
 
-pub const TWO_VERSIONS: u8 = 2;
+pub const DISPUTED: u8 = 2;
 
-pub const TOTALS_DISAGREE: u8 = 3;
+pub const DISAGREE: u8 = 3;
 
 // What open and join answer.
 pub enum Answered {
@@ -28,24 +25,22 @@ pub enum Answered {
 
 // What offer answers.
 pub enum Offered {
-    // HELD, TWO_VERSIONS or TOTALS_DISAGREE.
+    // HELD, DISPUTED or DISAGREE.
     Done { kind: u8 },
     // 01's number of the refusal.
     Refused { no: u8 },
 }
 
-const ID: usize = 8;
-
 // The empty collection of a document, over all of c.
 pub fn open(id: &[u8], c: &mut [u8]) -> Answered
     ensures { λ r. ⌜ Kept (opening (now (id .entry)) (now (c .entry))) (now (c .entry)) (now (c .exit)) (told r) ⌝ }
 {
-    if id.len() != ID {
+    if id.len() != wire::ID_SIZE {
         return Answered::Refused {
             no: wire::OUT_OF_RANGE,
         };
     }
-    if c.len() != book::SIZE {
+    if c.len() != wire::COLLECTION_SIZE {
         return Answered::Refused { no: wire::NO_ROOM };
     }
     book::write_head(c, id, book::EMPTY, 0);
@@ -53,40 +48,22 @@ pub fn open(id: &[u8], c: &mut [u8]) -> Answered
     Answered::Done
 }
 
-// The document of a collection, as a copy: the collection itself is about to be written.
-fn id_of(c: &[u8]) -> [u8; 8]
-    requires { ⌜ 12 ≤ length (now c) ⌝ }
-    ensures { λ r. ⌜ r ≡ idOf (now (c .entry)) ⌝ }
-{
-    let mut id = [0u8; 8];
-    lend::copy(&mut id, 0, &c[4..12]);
-    id
-}
-
 // Takes the page of one raw frame into c.
 pub fn offer(c: &mut [u8], raw: &[u8]) -> Offered
     ensures { λ r. ⌜ Kept (offering (now (c .entry)) (now (raw .entry))) (now (c .entry)) (now (c .exit)) (toldKind r) ⌝ }
 {
-    if !book::well_formed(&c[..]) {
-        return Offered::Refused {
-            no: wire::BAD_COLLECTION,
-        };
+    let no = book::judge(&c[..]);
+    if no != wire::DONE {
+        return Offered::Refused { no };
     }
-    let id = id_of(&c[..]);
+    let id = book::id_copy(&c[..]);
     let r = take::good_page(&id, raw);
-    let PageRead::Page {
-        index,
-        total,
-        at,
-        len,
-    } = r
-    else {
-        return Offered::Refused {
-            no: take::page_no(r),
-        };
+    let PageRead::Page { index, total, at } = r else {
+        return Offered::Refused { no: r.no() };
     };
-    let end = at + len;
-    let kind = take::page(c, &id, index, total, &raw[at..end]);
+    let start = at.start;
+    let end = start + at.len;
+    let kind = take::page(c, &id, index, total, &raw[start..end]);
     Offered::Done { kind }
 }
 
@@ -94,18 +71,16 @@ pub fn offer(c: &mut [u8], raw: &[u8]) -> Offered
 pub fn join(c: &mut [u8], o: &[u8]) -> Answered
     ensures { λ r. ⌜ Kept (joining (now (c .entry)) (now (o .entry))) (now (c .entry)) (now (c .exit)) (told r) ⌝ }
 {
-    if !book::well_formed(&c[..]) {
-        return Answered::Refused {
-            no: wire::BAD_COLLECTION,
-        };
+    let no = book::judge(&c[..]);
+    if no != wire::DONE {
+        return Answered::Refused { no };
     }
-    if !book::well_formed(o) {
-        return Answered::Refused {
-            no: wire::BAD_COLLECTION,
-        };
+    let read_no = book::judge(o);
+    if read_no != wire::DONE {
+        return Answered::Refused { no: read_no };
     }
-    let id = id_of(&c[..]);
-    if !lend::equal(&id, &o[4..12]) {
+    let id = book::id_copy(&c[..]);
+    if !lend::equal(&id, book::id(o)) {
         return Answered::Refused {
             no: wire::OTHER_DOCUMENT,
         };

@@ -1,10 +1,12 @@
 // A well-formed collection joined into another of the same document, page for page.
 ghost use mathlib.Core.Path.{_≡_};
-ghost use Rattle.state.specs.Take.{joinSlot, joinBook};
+ghost use Rattle.model.specs.Take.{joinSlot, joinBook};
 ghost use Rattle.block.specs.Block.{withPage};
+ghost use Rattle.book.specs.Head.{readHead};
 ghost use Rattle.book.specs.Encode.{encode};
 ghost use Rattle.book.specs.Read.{readBook};
-ghost use Rattle.collection.specs.Parts.{Of, OneTotal, BlockOf, slotAt};
+ghost use Rattle.collection.specs.Private.{OneTotal, BlockOf, slotAt};
+ghost use Rattle.collection.specs.Built.{Of};
 use super::take;
 
 // The block of o from index at on into that of c, which is written only where it changes.
@@ -39,17 +41,36 @@ fn pages(c: &mut [u8], id: &[u8], o: &[u8])
     }
 }
 
-// An empty collection adds nothing, and takes the total of the other; two totals, or totals that disagree already, annul it.
+// The other has pages. An empty collection takes its total, and two totals annul it.
+fn collecting(c: &mut [u8], id: &[u8], o: &[u8])
+    requires { ⌜ Of (now id) (now c) ⌝ }
+    requires { ⌜ Of (now id) (now o) × (readHead (now o) .state ≡ 1) ⌝ }
+    ensures { λ _. ⌜ now (c .exit) ≡ encode (now (id .entry)) (joinBook (readBook (now (c .entry))) (readBook (now (o .entry)))) ⌝ }
+{
+    let ours = book::state(&c[..]);
+    if ours == book::DISAGREE {
+        return;
+    }
+    let total = book::total(o);
+    if ours == book::EMPTY {
+        book::write_head(c, id, book::COLLECTING, total);
+        pages(c, id, o);
+        return;
+    }
+    if book::total(&c[..]) != total {
+        take::annul(c, id);
+        return;
+    }
+    pages(c, id, o);
+}
+
+// An empty collection adds nothing, and totals that disagree annul any other.
 pub(super) fn books(c: &mut [u8], id: &[u8], o: &[u8])
     requires { ⌜ Of (now id) (now c) ⌝ }
     requires { ⌜ Of (now id) (now o) ⌝ }
     ensures { λ _. ⌜ now (c .exit) ≡ encode (now (id .entry)) (joinBook (readBook (now (c .entry))) (readBook (now (o .entry)))) ⌝ }
 {
-    let ours = c[3];
-    let theirs = o[3];
-    if ours == book::DISAGREE {
-        return;
-    }
+    let theirs = book::state(o);
     if theirs == book::EMPTY {
         return;
     }
@@ -57,15 +78,5 @@ pub(super) fn books(c: &mut [u8], id: &[u8], o: &[u8])
         take::annul(c, id);
         return;
     }
-    let total = o[12];
-    if ours == book::EMPTY {
-        book::write_head(c, id, book::COLLECTING, total);
-        pages(c, id, o);
-        return;
-    }
-    if c[12] != total {
-        take::annul(c, id);
-        return;
-    }
-    pages(c, id, o);
+    collecting(c, id, o);
 }

@@ -2,58 +2,35 @@
 ghost use mathlib.Core.Path.{_≡_};
 ghost use Prim.Native.Nat.{_≤_};
 ghost use lib.ListN.{length};
-ghost use Rattle.wire.specs.Answer.{numberOf};
-ghost use Rattle.frame.specs.Answer as Frame;
-ghost use Rattle.state.specs.State.{absent, held, disagree};
-ghost use Rattle.state.specs.Take.{joinSlot, takePage};
+ghost use Rattle.wire.specs.Sizes.{mostData};
+ghost use Rattle.model.specs.Book.{absent, held, disagree};
+ghost use Rattle.model.specs.Take.{joinSlot, takePage};
 ghost use Rattle.block.specs.Block.{withPage};
+ghost use Rattle.book.specs.Head.{readHead};
 ghost use Rattle.book.specs.Encode.{encode};
 ghost use Rattle.book.specs.Read.{readBook};
 ghost use Rattle.collection.specs.Collection.{goodPage};
-ghost use Rattle.collection.specs.Parts.{page as aPage, pageTold, pageNo, Of, Fits, BlockOf, slotAt, Slotted, Became};
+ghost use Rattle.collection.specs.Private.{page as aPage, pageTold, pageNo, Fits, BlockOf, slotAt, Slotted, Became};
+ghost use Rattle.collection.specs.Built.{Of};
 use frame::FrameRead;
+use wire::Span;
 
 pub(super) enum PageRead {
-    // The data stand in the frame, len bytes from at on.
-    Page {
-        index: u8,
-        total: u8,
-        at: usize,
-        len: usize,
-    },
+    // Where the data stand in the frame.
+    Page { index: u8, total: u8, at: Span },
     // 01's number of the refusal.
-    Refused {
-        no: u8,
-    },
+    Refused { no: u8 },
 }
 
-// The number of a refusal, which leaves at once.
-fn frame_no(r: FrameRead) -> u8
-    ensures { λ n. ⌜ n ≡ numberOf (Frame.told r) ⌝ }
-{
-    match r {
-        FrameRead::Frame {
-            kind: _,
-            index: _,
-            total: _,
-            at: _,
-            len: _,
-        } => 0,
-        FrameRead::Refused { no } => no,
-    }
-}
-
-pub(super) fn page_no(r: PageRead) -> u8
-    ensures { λ n. ⌜ n ≡ pageNo r ⌝ }
-{
-    match r {
-        PageRead::Page {
-            index: _,
-            total: _,
-            at: _,
-            len: _,
-        } => 0,
-        PageRead::Refused { no } => no,
+impl PageRead {
+    // The number of a refusal, which leaves at once.
+    pub(super) fn no(self) -> u8
+        ensures { λ n. ⌜ n ≡ pageNo self ⌝ }
+    {
+        match self {
+            PageRead::Refused { no } => no,
+            _ => 0,
+        }
     }
 }
 
@@ -67,10 +44,9 @@ pub(super) fn good_page(id: &[u8], raw: &[u8]) -> PageRead
         index,
         total,
         at,
-        len,
     } = r
     else {
-        return PageRead::Refused { no: frame_no(r) };
+        return PageRead::Refused { no: r.no() };
     };
     if kind != frame::MAIN {
         return PageRead::Refused {
@@ -86,15 +62,14 @@ pub(super) fn good_page(id: &[u8], raw: &[u8]) -> PageRead
         index: index as u8,
         total: total as u8,
         at,
-        len,
     }
 }
 
-// The data of a page into its block, from index at on. The same data again, or further data for a page in two versions,
+// The data of a page into its block, from index at on. The same data again, or further data for a disputed page,
 // write nothing. No data are data too.
 pub(super) fn slot(c: &mut [u8], at: usize, id: &[u8], index: u8, bytes: &[u8]) -> u8
     requires { ⌜ BlockOf (now id) at index (now c) ⌝ }
-    requires { ⌜ length (now bytes) ≤ 480 ⌝ }
+    requires { ⌜ length (now bytes) ≤ mostData ⌝ }
     ensures { λ r. ⌜ Slotted (now (id .entry)) at index (joinSlot (slotAt at (now (c .entry))) (held (now (bytes .entry)))) (now (c .entry)) (now (c .exit)) r ⌝ }
 {
     let state = block::state(&c[..], at);
@@ -103,13 +78,13 @@ pub(super) fn slot(c: &mut [u8], at: usize, id: &[u8], index: u8, bytes: &[u8]) 
         return super::HELD;
     }
     if state == block::DISPUTED {
-        return super::TWO_VERSIONS;
+        return super::DISPUTED;
     }
     if block::holds(&c[..], at, bytes) {
         return super::HELD;
     }
     block::dispute(c, at, id, index);
-    super::TWO_VERSIONS
+    super::DISPUTED
 }
 
 // The block of a page that becomes absent; one that is so already is not written.
@@ -135,24 +110,32 @@ pub(super) fn annul(c: &mut [u8], id: &[u8])
     book::write_head(c, id, book::DISAGREE, 0);
 }
 
-// The first page fixes the total; another total annuls the collection.
+// A page of a collection that has pages: another total annuls it.
+fn further(c: &mut [u8], id: &[u8], index: u8, total: u8, bytes: &[u8]) -> u8
+    requires { ⌜ Of (now id) (now c) × (readHead (now c) .state ≡ 1) ⌝ }
+    requires { ⌜ Fits index total (now bytes) ⌝ }
+    ensures { λ r. ⌜ Became (now (id .entry)) index (takePage (aPage index total (now (bytes .entry))) (readBook (now (c .entry)))) (now (c .exit)) r ⌝ }
+{
+    if book::total(&c[..]) != total {
+        annul(c, id);
+        return super::DISAGREE;
+    }
+    slot(c, book::place(index), id, index, bytes)
+}
+
+// The first page fixes the total.
 pub(super) fn page(c: &mut [u8], id: &[u8], index: u8, total: u8, bytes: &[u8]) -> u8
     requires { ⌜ Of (now id) (now c) ⌝ }
     requires { ⌜ Fits index total (now bytes) ⌝ }
     ensures { λ r. ⌜ Became (now (id .entry)) index (takePage (aPage index total (now (bytes .entry))) (readBook (now (c .entry)))) (now (c .exit)) r ⌝ }
 {
-    let state = c[3];
+    let state = book::state(&c[..]);
     if state == book::DISAGREE {
-        return super::TOTALS_DISAGREE;
+        return super::DISAGREE;
     }
-    let at = book::place(index);
     if state == book::EMPTY {
         book::write_head(c, id, book::COLLECTING, total);
-        return slot(c, at, id, index, bytes);
+        return slot(c, book::place(index), id, index, bytes);
     }
-    if c[12] != total {
-        annul(c, id);
-        return super::TOTALS_DISAGREE;
-    }
-    slot(c, at, id, index, bytes)
+    further(c, id, index, total, bytes)
 }

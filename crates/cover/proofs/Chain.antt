@@ -24,9 +24,8 @@ use Rattle.cover.specs.declared.ChunkRead.{ChunkRead}
 use Rattle.cover.specs.declared.ChunkRead.the-variants as K
 
 module _ {B : Type 0} (g : Got Span) (f : Span × ℕ → Answer B) where
-  pub go-chunk : (r : ChunkRead) (start len : ℕ) (y : Answer B) → chunkTold r ≡ g → r ≡ K.Chunk start len
-      → y ≡ f ((record { start = start; len = len }), (start + len)) → y ≡ then g f
-  go-chunk r start len y = go chunkTold g f r (K.Chunk start len) y
+  pub go-chunk : (r : ChunkRead) (v : Span) (y : Answer B) → chunkTold r ≡ g → r ≡ K.Chunk v → y ≡ f (v, (v .start + v .len)) → y ≡ then g f
+  go-chunk r v y = go chunkTold g f r (K.Chunk v) y
 
   pub no-chunk : (r : ChunkRead) (n e : ℕ) → chunkTold r ≡ g → r ≡ K.Refused e → n ≡ numberOf (chunkTold r) → refused n ≡ then g f
   no-chunk r n e h k q = stop chunkTold g f r (K.Refused e) n e h k refl q
@@ -49,8 +48,8 @@ chunk-got s at v next h =
     (t .2 ∙ cc, omega arith, omega arith)
 
 -- for `search`, what a caller knows of the position
-pub chunk-within : (s : List ℕ) (at : ℕ) (r : ChunkRead) (start len : ℕ) → chunkTold r ≡ chunkAt s at → r ≡ K.Chunk start len → start + len ≤ length s
-chunk-within s at r start len e k = chunk-got s at (record { start = start; len = len }) (start + len) (sym e ∙ ap chunkTold k) .2
+pub chunk-within : (s : List ℕ) (at : ℕ) (r : ChunkRead) (v : Span) → chunkTold r ≡ chunkAt s at → r ≡ K.Chunk v → v .start + v .len ≤ length s
+chunk-within s at r v e k = chunk-got s at v (v .start + v .len) (sym e ∙ ap chunkTold k) .2
 
 -- a length was read: its bytes start at next, and what is left of the input decides
 module _ (s : List ℕ) (at : ℕ) (r : VarintRead) (n next : ℕ) (y : Bytes s) (e : Varint.told r ≡ varintAt s at) (k : r ≡ Value n next) where

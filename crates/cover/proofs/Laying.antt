@@ -1,8 +1,10 @@
 -- How long a layout is, and that the writes of its fields in a row are one write of it. Assumes nothing.
-use Prim.Native.Nat.{ℕ, _+_, _<_, _≤_}
+use Prim.Native.Nat.{ℕ, _+_, _^_, _<_, _≤_}
 use mathlib.Core.Path.{_≡_, refl}
 use mathlib.Core.List.{List, _++_}
 use native.Mathlib.Omega.{arith}
+use mir.Syntax.{w64}
+use mir.Val.{Fits}
 use lib.ListN.{length, length-append}
 use Rattle.wire.specs.Over.{over}
 use Rattle.wire.specs.Answer.{done, Answer, Kept}
@@ -22,6 +24,14 @@ chunk-length bs = length-append (varint (length bs)) bs
 pub cover-length : (m p : List ℕ) → length (coverOf m p) ≡ 3 + length (chunkOf m) + length (chunkOf p)
 unfolding coverOf
 cover-length m p = simp (length-append, mark-length magic)
+
+-- for `search`: the sums of the code
+module _ (bs : List ℕ) (at k room : ℕ) (e : k ≡ length (varint (length bs))) (h : at + length (chunkOf bs) ≤ room) (b : room < 2 ^ 64) where
+  pub start-fits : Fits w64 (at + k)
+  start-fits = record { fits = omega (arith, chunk-length bs) }
+
+  pub end-fits : Fits w64 (at + k + length bs)
+  end-fits = record { fits = omega (arith, chunk-length bs) }
 
 -- ---- the writes
 

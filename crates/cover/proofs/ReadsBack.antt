@@ -7,13 +7,14 @@ use borrow.Author.Tests.{le-leb, eq-eqb}
 use lib.ListN.{length, drop}
 use lib.Seq.{drop-at}
 use Rattle.wire.specs.Answer.{got}
+use Rattle.wire.specs.Span.{partAt}
 use Rattle.wire.proofs.Standing.{stands-next, stands-take, stands-left}
 use Rattle.varint.specs.Varint.{varint}
 use Rattle.varint.proofs.Lengths.{varint-length}
 use Rattle.varint.proofs.Rounds.{reads-at}
 use Rattle.mark.specs.Mark.{marked}
 use Rattle.mark.proofs.Marks.{mark-length, mark-reads}
-use Rattle.cover.specs.Cover.{Cover, manifestOf, payloadOf, magic, chunkAt, coverAt, chunkOf, coverOf}
+use Rattle.cover.specs.Cover.{Cover, magic, chunkAt, coverAt, chunkOf, coverOf}
 use Rattle.cover.proofs.Laying.{chunk-length, cover-length}
 
 module _ (s : List ℕ) (at : ℕ) (rest : List ℕ) where
@@ -41,8 +42,8 @@ module _ (s : List ℕ) (at : ℕ) (rest : List ℕ) where
 pub record ReadsAs (s manifest payload : List ℕ) : Type 0 where
   pub cover : Cover
   pub read : coverAt s ≡ got cover (length s)
-  pub manifest-is : manifestOf s cover ≡ manifest
-  pub payload-is : payloadOf s cover ≡ payload
+  pub manifest-is : partAt s (cover .manifest) ≡ manifest
+  pub payload-is : partAt s (cover .payload) ≡ payload
 
 -- what is laid out reads back as its parts
 pub cover-back : (m p : List ℕ) → length m < 2 ^ 64 → length p < 2 ^ 64 → ReadsAs (coverOf m p) m p
@@ -56,10 +57,8 @@ cover-back m p i j =
     record {
       cover =
           record {
-            manifest = start s 3 (chunkOf p ++ []) m h₁;
-            manifest-len = length m;
-            payload = start s (3 + length (chunkOf m)) [] p h₂;
-            payload-len = length p;
+            manifest = record { start = start s 3 (chunkOf p ++ []) m h₁; len = length m };
+            payload = record { start = start s (3 + length (chunkOf m)) [] p h₂; len = length p };
           };
       read =
           rw (

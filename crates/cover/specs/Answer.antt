@@ -10,10 +10,10 @@ use Rattle.cover.specs.declared.ChunkRead.the-variants as K
 
 -- the two parts and the position past the payload, or the number of a refusal
 abbrev pub told : CoverRead → Got C.Cover
-told (Cover m ml p pl) = got (record { manifest = m; manifest-len = ml; payload = p; payload-len = pl }) (p + pl)
+told (Cover manifest payload) = got (record { manifest = manifest; payload = payload }) (payload .start + payload .len)
 told (Refused e) = refused e
 
 -- for the contract of a private function: where the bytes of a length stand, and the position past them
 abbrev pub chunkTold : ChunkRead → Got Span
-chunkTold (K.Chunk start len) = got (record { start = start; len = len }) (start + len)
+chunkTold (K.Chunk span) = got span (span .start + span .len)
 chunkTold (K.Refused e) = refused e

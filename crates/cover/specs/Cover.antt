@@ -2,25 +2,16 @@
 use Prim.Native.Nat.{ℕ, _+_}
 use mathlib.Core.List.{List, [], _∷_, _++_}
 use lib.Dec.{leb, eqb}
-use lib.ListN.{length, take, drop}
+use lib.ListN.{length}
 use Rattle.wire.specs.Answer.{then, demand, Got, got}
 use Rattle.wire.specs.declared.Span.{Span}
 use Rattle.varint.specs.Varint.{varint, varintAt}
 use Rattle.mark.specs.Mark.{markOf, marked}
 
--- what is read of an envelope: where its manifest and its payload stand in the input, and how many bytes each has
+-- what is read of an envelope: where its manifest and its payload stand in the input
 pub record Cover : Type 0 where
-  pub manifest : ℕ
-  pub manifest-len : ℕ
-  pub payload : ℕ
-  pub payload-len : ℕ
-
--- the bytes there
-abbrev pub manifestOf : List ℕ → Cover → List ℕ
-manifestOf s c = take (c .manifest-len) (drop (c .manifest) s)
-
-abbrev pub payloadOf : List ℕ → Cover → List ℕ
-payloadOf s c = take (c .payload-len) (drop (c .payload) s)
+  pub manifest : Span
+  pub payload : Span
 
 -- ---- the fields, left to right: each is judged once it is whole
 
@@ -37,10 +28,9 @@ chunkAt s at =
 unfoldable pub coverAt : List ℕ → Got Cover
 coverAt s =
     then (markOf magic s) (λ (_, a).
-    then (chunkAt s a) (λ (m, b).
-    then (chunkAt s b) (λ (p, c).
-    demand (eqb c (length s)) 3
-    (got (record { manifest = m .start; manifest-len = m .len; payload = p .start; payload-len = p .len }) c))))
+    then (chunkAt s a) (λ (manifest, b).
+    then (chunkAt s b) (λ (payload, c).
+    demand (eqb c (length s)) 3 (got (record { manifest = manifest; payload = payload }) c))))
 
 -- ---- the same, laid out
 

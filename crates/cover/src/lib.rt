@@ -8,49 +8,42 @@ ghost use Rattle.cover.specs.Cover.{chunkAt, coverAt, coverOf};
 ghost use Rattle.cover.specs.Answer.{told, chunkTold};
 use mark::MarkRead;
 use varint::VarintRead;
+use wire::Span;
 use wire::Wrote;
 
 pub enum CoverRead {
-    // Where the manifest and the payload start in the input, and how many bytes each has.
-    Cover {
-        manifest: usize,
-        manifest_len: usize,
-        payload: usize,
-        payload_len: usize,
-    },
+    // Where the manifest and the payload stand in the input.
+    Cover { manifest: Span, payload: Span },
     // 01's number of the refusal.
-    Refused {
-        no: u8,
-    },
-}
-
-// The number of a refusal, for a caller's `else`.
-pub fn cover_no(r: CoverRead) -> u8
-    ensures { λ n. ⌜ n ≡ numberOf (told r) ⌝ }
-{
-    match r {
-        CoverRead::Cover {
-            manifest: _,
-            manifest_len: _,
-            payload: _,
-            payload_len: _,
-        } => 0,
-        CoverRead::Refused { no } => no,
-    }
-}
-
-// A length, and where its bytes start.
-enum ChunkRead {
-    Chunk { start: usize, len: usize },
     Refused { no: u8 },
 }
 
-fn chunk_no(r: ChunkRead) -> u8
-    ensures { λ n. ⌜ n ≡ numberOf (chunkTold r) ⌝ }
-{
-    match r {
-        ChunkRead::Chunk { start: _, len: _ } => 0,
-        ChunkRead::Refused { no } => no,
+impl CoverRead {
+    // The number of a refusal, for a caller's `else`.
+    pub fn no(self) -> u8
+        ensures { λ n. ⌜ n ≡ numberOf (told self) ⌝ }
+    {
+        match self {
+            CoverRead::Refused { no } => no,
+            _ => 0,
+        }
+    }
+}
+
+// Where the bytes of a length stand.
+enum ChunkRead {
+    Chunk { span: Span },
+    Refused { no: u8 },
+}
+
+impl ChunkRead {
+    fn no(self) -> u8
+        ensures { λ n. ⌜ n ≡ numberOf (chunkTold self) ⌝ }
+    {
+        match self {
+            ChunkRead::Refused { no } => no,
+            _ => 0,
+        }
     }
 }
 
@@ -60,9 +53,7 @@ fn chunk(s: &[u8], at: usize) -> ChunkRead
 {
     let r = varint::read(s, at);
     let VarintRead::Value { n, next } = r else {
-        return ChunkRead::Refused {
-            no: varint::varint_no(r),
-        };
+        return ChunkRead::Refused { no: r.no() };
     };
     if ((s.len() - next) as u64) < n {
         return ChunkRead::Refused {
@@ -70,8 +61,10 @@ fn chunk(s: &[u8], at: usize) -> ChunkRead
         };
     }
     ChunkRead::Chunk {
-        start: next,
-        len: n as usize,
+        span: Span {
+            start: next,
+            len: n as usize,
+        },
     }
 }
 
@@ -81,37 +74,22 @@ pub fn read(s: &[u8]) -> CoverRead
 {
     let r1 = mark::read(b"AY", s);
     let MarkRead::Past { next } = r1 else {
-        return CoverRead::Refused {
-            no: mark::mark_no(r1),
-        };
+        return CoverRead::Refused { no: r1.no() };
     };
     let r2 = chunk(s, next);
-    let ChunkRead::Chunk {
-        start: manifest,
-        len: manifest_len,
-    } = r2
-    else {
-        return CoverRead::Refused { no: chunk_no(r2) };
+    let ChunkRead::Chunk { span: manifest } = r2 else {
+        return CoverRead::Refused { no: r2.no() };
     };
-    let r3 = chunk(s, manifest + manifest_len);
-    let ChunkRead::Chunk {
-        start: payload,
-        len: payload_len,
-    } = r3
-    else {
-        return CoverRead::Refused { no: chunk_no(r3) };
+    let r3 = chunk(s, manifest.start + manifest.len);
+    let ChunkRead::Chunk { span: payload } = r3 else {
+        return CoverRead::Refused { no: r3.no() };
     };
-    if payload + payload_len != s.len() {
+    if payload.start + payload.len != s.len() {
         return CoverRead::Refused {
             no: wire::CUT_OR_LEFT_OVER,
         };
     }
-    CoverRead::Cover {
-        manifest,
-        manifest_len,
-        payload,
-        payload_len,
-    }
+    CoverRead::Cover { manifest, payload }
 }
 
 // The layout of any two parts, at the front of out.

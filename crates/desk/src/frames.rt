@@ -7,7 +7,7 @@ use frame::FrameRead;
 use wire::Wrote;
 
 pub(crate) fn doc_id(c: &[u8], out: &mut Reply) -> usize {
-    let id = page::document_id(c);
+    let id = document_id::of(c);
     let at = reply::done(out);
     reply::bytes(out, at, &id)
 }
@@ -30,8 +30,7 @@ pub(crate) fn frame_read(s: &[u8], out: &mut Reply) -> usize {
             index,
             total,
             at,
-            len,
-        } => values(s, kind, index, total, part(s, at, len), out),
+        } => values(s, kind, index, total, part(s, at.start, at.len), out),
         FrameRead::Refused { no } => reply::refused(out, no),
     }
 }

@@ -17,7 +17,7 @@ use wire::Span;
 fn seed(s: &[u8], v: Seed, out: &mut Reply, at: usize) -> usize {
     match v {
         Seed::Null => reply::put(out, at, b" null"),
-        Seed::Bytes { start, len } => reply::bytes(out, at, part(s, start, len)),
+        Seed::Bytes { span } => reply::bytes(out, at, part(s, span.start, span.len)),
     }
 }
 
@@ -87,7 +87,7 @@ pub(crate) fn manifest_read(s: &[u8], out: &mut Reply) -> usize {
     let r = manifest::read(s);
     let answer = r.answer;
     let StepRead::Past { next: _ } = answer else {
-        return reply::refused(out, cbor::step_no(answer));
+        return reply::refused(out, answer.no());
     };
     let value = r.value;
     manifest_values(s, value, out)
@@ -96,15 +96,10 @@ pub(crate) fn manifest_read(s: &[u8], out: &mut Reply) -> usize {
 pub(crate) fn envelope_read(s: &[u8], out: &mut Reply) -> usize {
     let answer = envelope::read(s);
     match answer {
-        EnvelopeRead::Envelope {
-            manifest,
-            manifest_len,
-            payload,
-            payload_len,
-        } => {
+        EnvelopeRead::Envelope { manifest, payload } => {
             let at = reply::done(out);
-            let at = reply::bytes(out, at, part(s, manifest, manifest_len));
-            reply::bytes(out, at, part(s, payload, payload_len))
+            let at = reply::bytes(out, at, part(s, manifest.start, manifest.len));
+            reply::bytes(out, at, part(s, payload.start, payload.len))
         }
         EnvelopeRead::Refused { no, place } => reply::refused_at(out, no, place as u64),
     }

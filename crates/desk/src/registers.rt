@@ -5,10 +5,10 @@ use crate::reply;
 use crate::reply::Reply;
 use crate::values;
 use crate::words;
-use closing::Finished;
-use closing::Mended;
 use collection::Answered;
 use collection::Offered;
+use finish::Finished;
+use mend::Mended;
 
 pub(crate) const REGISTERS: usize = 4;
 
@@ -101,7 +101,7 @@ fn change(verb: usize, given: &[u8], book: &mut [u8]) -> Changed {
         OPEN => answered(collection::open(given, book)),
         OFFER => offered(collection::offer(book, given)),
         JOIN => answered(collection::join(book, given)),
-        _ => mended(closing::mend(book)),
+        _ => mended(mend::mend(book)),
     }
 }
 
@@ -164,7 +164,7 @@ fn save(book: &[u8], out: &mut Reply) -> usize {
 }
 
 fn finish(book: &[u8], room: &mut [u8], out: &mut Reply) -> usize {
-    let answer = closing::finish(book, room);
+    let answer = finish::finish(book, room);
     match answer {
         Finished::Done { len } => reply::written(out, len, room),
         Finished::Refused { no, place } => reply::not_written(out, no, place as u64, room),

@@ -89,29 +89,14 @@ pub(crate) fn digits(out: &mut Reply, at: usize, n: u64, width: usize) -> usize 
     hex_digits(out, next, n, width)
 }
 
-fn digit(d: u8) -> u8 {
-    if d < 10 {
-        return b'0' + d;
-    }
-    if d < 16 {
-        return b'a' + (d - 10);
-    }
-    b'?'
-}
-
-fn pair(out: &mut Reply, at: usize, b: u8) -> usize {
-    let two = [digit(b / 16), digit(b % 16)];
-    put(out, at, &two)
-}
-
 fn hex(out: &mut Reply, at: usize, s: &[u8]) -> usize {
-    let mut next = at;
-    let mut i = 0;
-    while i < s.len() {
-        next = pair(out, next, s[i]);
-        i += 1;
+    if at <= MOST {
+        if s.len() <= (MOST - at) / 2 {
+            digits::hex(out, at, s);
+            return at + 2 * s.len();
+        }
     }
-    next
+    at
 }
 
 fn one_more(out: &mut Reply, at: usize, n: u64) -> usize {

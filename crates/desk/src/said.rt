@@ -49,10 +49,8 @@ fn seed(line: &[u8], starts: &[usize]) -> Seed {
     if lend::equal(words::word(line, starts, 1), b"null") {
         return Seed::Null;
     }
-    let v = words::place(starts, 1);
     Seed::Bytes {
-        start: v.start,
-        len: v.len,
+        span: words::place(starts, 1),
     }
 }
 

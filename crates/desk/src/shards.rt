@@ -1,4 +1,5 @@
 // The verbs of shard payloads.
+ghost use Prim.Native.Nat.{_<_};
 use crate::parts::part;
 use crate::payloads;
 use crate::reply;
@@ -45,6 +46,17 @@ pub(crate) fn shard_read(s: &[u8], out: &mut Reply) -> usize {
     }
 }
 
+// The three numbers of a quorum, which are words k to k + 2.
+fn quorum_said(line: &[u8], starts: &[usize], k: usize) -> Quorum
+    requires { ⌜ k < 10 ⌝ }
+{
+    Quorum {
+        threshold: words::number(line, starts, k),
+        count: words::number(line, starts, k + 1),
+        index: words::number(line, starts, k + 2),
+    }
+}
+
 pub(crate) fn shard_write(line: &[u8], starts: &[usize], pool: &[u8], room: &mut [u8]) -> Wrote {
     shard::write(
         words::bytes(pool, starts, 1),
@@ -53,11 +65,7 @@ pub(crate) fn shard_write(line: &[u8], starts: &[usize], pool: &[u8], room: &mut
         words::bytes(pool, starts, 4),
         words::bytes(pool, starts, 5),
         words::number(line, starts, 6),
-        Quorum {
-            threshold: words::number(line, starts, 7),
-            count: words::number(line, starts, 8),
-            index: words::number(line, starts, 9),
-        },
+        quorum_said(line, starts, 7),
         room,
     )
 }
@@ -69,11 +77,7 @@ pub(crate) fn shard_signed(line: &[u8], starts: &[usize], pool: &[u8], room: &mu
         words::bytes(pool, starts, 3),
         words::bytes(pool, starts, 4),
         words::number(line, starts, 5),
-        Quorum {
-            threshold: words::number(line, starts, 6),
-            count: words::number(line, starts, 7),
-            index: words::number(line, starts, 8),
-        },
+        quorum_said(line, starts, 6),
         room,
     )
 }

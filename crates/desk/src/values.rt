@@ -1,5 +1,4 @@
 // What one word says: a number in decimal, or bytes in hex.
-ghost use mathlib.Core.Path.{_≡_};
 
 const DIGITS_MOST: usize = 40;
 
@@ -129,57 +128,27 @@ pub(crate) fn is_created(word: &[u8]) -> bool {
     let rest = behind_first(word);
     match word[0] {
         b'i' => is_signed(rest),
-        b'f' => rest.len() == 16 && are_digits(rest),
+        b'f' => rest.len() == 16 && digits::all_hex(rest),
         _ => false,
     }
 }
 
-// The number with one hex digit more; as it was where that is no digit, or no room is left.
-fn longer_hex(n: u64, digit: u8) -> u64 {
-    if digit > 15 {
-        return n;
-    }
-    if n > u64::MAX / 16 {
-        return n;
-    }
-    n * 16 + wide(digit)
+// The lower 56 bits of n, and a byte behind them.
+fn behind(n: u64, b: u8) -> u64 {
+    n % (1 << 56) * 256 + b as u64
 }
 
 // The 64 bits that 16 hex digits say.
-pub(crate) fn double(digits: &[u8]) -> u64 {
+pub(crate) fn double(word: &[u8]) -> u64 {
+    let mut eight = [0u8; 8];
+    digits::hex_read(word, &mut eight);
     let mut n = 0;
     let mut i = 0;
-    while i < digits.len() {
-        n = longer_hex(n, digit(digits[i]));
+    while i < 8 {
+        n = behind(n, eight[i]);
         i += 1;
     }
     n
-}
-
-fn wide(b: u8) -> u64
-    ensures { λ r. ⌜ r ≡ b ⌝ }
-{
-    b as u64
-}
-
-// The value of a lower-case hex digit; 16 for any other byte.
-fn digit(b: u8) -> u8 {
-    match b {
-        b'0'..=b'9' => b - b'0',
-        b'a'..=b'f' => b - b'a' + 10,
-        _ => 16,
-    }
-}
-
-fn are_digits(word: &[u8]) -> bool {
-    let mut i = 0;
-    while i < word.len() {
-        if digit(word[i]) > 15 {
-            return false;
-        }
-        i += 1;
-    }
-    true
 }
 
 pub(crate) fn is_bytes(word: &[u8]) -> bool {
@@ -189,27 +158,5 @@ pub(crate) fn is_bytes(word: &[u8]) -> bool {
     if word.len() % 2 > 0 {
         return false;
     }
-    are_digits(word)
-}
-
-// The byte of two digits; 0 where one is none.
-fn pair(high: u8, low: u8) -> u8 {
-    let h = digit(high);
-    let l = digit(low);
-    if h > 15 {
-        return 0;
-    }
-    if l > 15 {
-        return 0;
-    }
-    h * 16 + l
-}
-
-// The bytes of the word, from the start of pool on, as far as it goes.
-pub(crate) fn decode(word: &[u8], pool: &mut [u8]) {
-    let mut i = 0;
-    while i < word.len() / 2 {
-        lend::put(pool, i, pair(word[2 * i], word[2 * i + 1]));
-        i += 1;
-    }
+    digits::all_hex(word)
 }

@@ -138,7 +138,7 @@ pub(crate) fn last_room(line: &[u8], starts: &[usize]) -> usize {
 fn decode_word(line: &[u8], starts: &[usize], pool: &mut [u8], k: usize) {
     let at = start(starts, k) / 2;
     if at <= pool.len() {
-        values::decode(word(line, starts, k), &mut pool[at..]);
+        digits::hex_read(word(line, starts, k), &mut pool[at..]);
     }
 }
 

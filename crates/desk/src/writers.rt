@@ -19,8 +19,8 @@ fn of_one(verb: usize, s: &[u8], room: &mut [u8]) -> Wrote {
 // The verbs of two.
 fn of_two(verb: usize, one: &[u8], two: &[u8], room: &mut [u8]) -> Wrote {
     match verb {
-        5 => slip::key(one, two, room),
-        6 => slip::auth(one, two, room),
+        5 => payload_frame::key(one, two, room),
+        6 => payload_frame::auth(one, two, room),
         _ => auth::signed(one, two, room),
     }
 }

@@ -6,7 +6,7 @@ use Rattle.wire.proofs.Cases.{got-value, got-next}
 use Rattle.wire.proofs.Branch.{go, stop}
 use Rattle.cbor.proofs.Answers.{chain}
 use Rattle.entry.specs.Answer.{fileTold}
-use Rattle.entry.specs.Parts.{mtimeTold}
+use Rattle.entry.specs.Private.{mtimeTold}
 use Rattle.entry.specs.declared.Mtime.{Mtime}
 use Rattle.entry.specs.declared.MtimeRead.{MtimeRead}
 use Rattle.entry.specs.declared.MtimeRead.the-variants as mtime

@@ -18,7 +18,7 @@ use Rattle.path.specs.Path.{pathLeast, pathMost, pathAllowed}
 use Rattle.path.proofs.Paths.{allowed-length}
 use Rattle.cbor.specs.Form.{infoOf, widthOf, headOf, stringOf, stringFieldOf, numberFieldOf}
 use Rattle.cbor.specs.Item.{byteAt, oneAt, kindOf, Head, headAt, keyAt, stringFieldAt, numberFieldAt}
-use Rattle.cbor.specs.Names.{hashKey, pathKey, sizeKey, mtimeKey}
+use Rattle.wire.specs.Ascii.{ascii}
 use Rattle.cbor.proofs.Sizes.{info-most, either}
 use Rattle.cbor.proofs.Within.{string-field-within, number-field-within}
 use Rattle.cbor.proofs.Written.{kind-bytes, kind-text, byte-back, one-back, head-back, key-back, string-field-back, number-field-back}
@@ -88,26 +88,26 @@ integer-only {s} {at} {next} {h} y e =
 
 -- ---- the time of a file
 
-pub mtime-back : {s : List ℕ} {at next : ℕ} (t : Mtime) → mtimeAllowed t ≡ true → Stands s at (stringOf 3 mtimeKey ++ mtimeOf t) next → mtimeAt s at ≡ got t next
+pub mtime-back : {s : List ℕ} {at next : ℕ} (t : Mtime) → mtimeAllowed t ≡ true → Stands s at (stringOf 3 (ascii "mtime") ++ mtimeOf t) next → mtimeAt s at ≡ got t next
 unfolding mtimeAt mtimeOf mtimeAllowed
 mtime-back Null a h =
-    let k = stands-first (stringOf 3 mtimeKey) (0xF6 ∷ []) h in
-    let v = stands-second (stringOf 3 mtimeKey) (0xF6 ∷ []) h in
-    rw (key-back mtimeKey (omega arith) k, byte-back 0xF6 v)
+    let k = stands-first (stringOf 3 (ascii "mtime")) (0xF6 ∷ []) h in
+    let v = stands-second (stringOf 3 (ascii "mtime")) (0xF6 ∷ []) h in
+    rw (key-back (ascii "mtime") (omega arith) k, byte-back 0xF6 v)
 mtime-back {s} {at} (Integer negative n) a h =
-    let k = stands-first (stringOf 3 mtimeKey) (integerOf negative n) h in
-    let v = stands-second (stringOf 3 mtimeKey) (integerOf negative n) h in
+    let k = stands-first (stringOf 3 (ascii "mtime")) (integerOf negative n) h in
+    let v = stands-second (stringOf 3 (ascii "mtime")) (integerOf negative n) h in
     let l = ltb-true n 9223372036854775808 a in
     let b = integer-first negative n l v in
-    rw (key-back mtimeKey (omega arith) k, b .1, ne-eqb (b .0) 0xF6 (omega (arith, b .2)), integer-back negative n l v, sign-major negative)
+    rw (key-back (ascii "mtime") (omega arith) k, b .1, ne-eqb (b .0) 0xF6 (omega (arith, b .2)), integer-back negative n l v, sign-major negative)
 
-pub mtime-only : {s : List ℕ} {at next : ℕ} {t : Mtime} → Bytes s → mtimeAt s at ≡ got t next → Stands s at (stringOf 3 mtimeKey ++ mtimeOf t) next × (mtimeAllowed t ≡ true)
+pub mtime-only : {s : List ℕ} {at next : ℕ} {t : Mtime} → Bytes s → mtimeAt s at ≡ got t next → Stands s at (stringOf 3 (ascii "mtime") ++ mtimeOf t) next × (mtimeAllowed t ≡ true)
 unfolding mtimeAt mtimeOf mtimeAllowed
 mtime-only {s} {at} {next} {t} y e =
-    let k = then-passed (keyAt s at mtimeKey) _ e in
+    let k = then-passed (keyAt s at (ascii "mtime")) _ e in
     let b = then-passed (byteAt s (k .1)) _ (k .3) in
     let v = value (k .1) (b .0) (b .1) (b .2) (b .3) in
-    (stands-join (key-only mtimeKey (k .2) .0) (v .0), v .1)
+    (stands-join (key-only (ascii "mtime") (k .2) .0) (v .0), v .1)
   where
     value : (a x p : ℕ) → byteAt s a ≡ got x p
         → choose (eqb x 0xF6) (got Null p) (then (integerAt s a) (λ (h, next). got (Integer (eqb (h .major) 1) (h .number)) next)) ≡ got t next
@@ -131,27 +131,27 @@ mtime-only {s} {at} {next} {t} y e =
 
 -- ---- the path
 
-pub path-back : {s : List ℕ} {at next : ℕ} (prev path : List ℕ) → pathAllowed path ≡ true → below prev path ≡ true → Stands s at (stringFieldOf pathKey 3 path) next
+pub path-back : {s : List ℕ} {at next : ℕ} (prev path : List ℕ) → pathAllowed path ≡ true → below prev path ≡ true → Stands s at (stringFieldOf (ascii "path") 3 path) next
     → (v : Span) × (pathAt s at prev ≡ got v next) × (partAt s v ≡ path)
 unfolding pathAt
 path-back {s} {at} prev path a b h =
     let l = allowed-length path a in
-    let r = string-field-back 3 pathLeast pathMost 20 kind-text path (omega (arith, l .1)) (l .0) (l .1) pathKey (omega arith) h in
+    let r = string-field-back 3 pathLeast pathMost 20 kind-text path (omega (arith, l .1)) (l .0) (l .1) (ascii "path") (omega arith) h in
     let e = r .2 .part in
     (r .0, rw (r .1) (rw (e, a, b)), e)
 
 pub path-only : {s : List ℕ} {at next : ℕ} (prev : List ℕ) {v : Span} → Bytes s → pathAt s at prev ≡ got v next
-    → Stands s at (stringFieldOf pathKey 3 (partAt s v)) next × Named s prev v
+    → Stands s at (stringFieldOf (ascii "path") 3 (partAt s v)) next × Named s prev v
 unfolding pathAt
 path-only {s} {at} {next} prev {v} y e =
-    let t = then-passed (stringFieldAt s at pathKey 3 pathLeast pathMost 20) _ e in
+    let t = then-passed (stringFieldAt s at (ascii "path") 3 pathLeast pathMost 20) _ e in
     let u = passed (pathAllowed (partAt s (t .0))) _ 20 (t .3) in
     let w = passed (below prev (partAt s (t .0))) (got (t .0) (t .1)) 20 (u .1) in
     let f : t .0 ≡ v = got-value (w .1) in
     let n : t .1 ≡ next = got-next (w .1) in
-    let i = string-field-within s at pathKey 3 pathLeast pathMost 20 (t .2) in
-    subst (λ (v : Span). Stands s at (stringFieldOf pathKey 3 (partAt s v)) next × Named s prev v) f (
-      stands-as refl n (string-field-only pathKey 3 pathLeast pathMost 20 y (t .2) .0),
+    let i = string-field-within s at (ascii "path") 3 pathLeast pathMost 20 (t .2) in
+    subst (λ (v : Span). Stands s at (stringFieldOf (ascii "path") 3 (partAt s v)) next × Named s prev v) f (
+      stands-as refl n (string-field-only (ascii "path") 3 pathLeast pathMost 20 y (t .2) .0),
       record { within = omega (arith, i .0, i .1); permitted = u .0; above = w .0 },
     )
 
@@ -180,17 +180,17 @@ pub file-back : {s : List ℕ} {at next : ℕ} (prev : List ℕ) (e : Entry) →
     → (f : File) × (fileAt s at prev ≡ got f next) × (entryIn s f ≡ e)
 unfolding fileAt entryOf entryIn
 file-back {s} {at} {next} prev e g t₀ =
-    let H : List ℕ = stringFieldOf hashKey 2 (e .hash) in
-    let P : List ℕ = stringFieldOf pathKey 3 (e .path) in
-    let Z : List ℕ = numberFieldOf sizeKey (e .size) in
-    let M : List ℕ = stringOf 3 mtimeKey ++ mtimeOf (e .mtime) in
+    let H : List ℕ = stringFieldOf (ascii "hash") 2 (e .hash) in
+    let P : List ℕ = stringFieldOf (ascii "path") 3 (e .path) in
+    let Z : List ℕ = numberFieldOf (ascii "size") (e .size) in
+    let M : List ℕ = stringOf 3 (ascii "mtime") ++ mtimeOf (e .mtime) in
     let t₁ = stands-second (0xA4 ∷ []) (H ++ (P ++ (Z ++ M))) t₀ in
     let t₂ = stands-second H (P ++ (Z ++ M)) t₁ in
     let t₃ = stands-second P (Z ++ M) t₂ in
     let t₄ = stands-second Z M t₃ in
-    let h = string-field-back 2 32 32 19 kind-bytes (e .hash) (omega (arith, g .hash-long)) (omega (arith, g .hash-long)) (omega (arith, g .hash-long)) hashKey (omega arith) (stands-first H (P ++ (Z ++ M)) t₁) in
+    let h = string-field-back 2 32 32 19 kind-bytes (e .hash) (omega (arith, g .hash-long)) (omega (arith, g .hash-long)) (omega (arith, g .hash-long)) (ascii "hash") (omega arith) (stands-first H (P ++ (Z ++ M)) t₁) in
     let p = path-back prev (e .path) (g .permitted) (g .above) (stands-first P (Z ++ M) t₂) in
-    let z = number-field-back sizeKey 0 4294967295 (e .size) (omega arith) (omega (arith, g .sized)) (omega arith) (g .sized) (stands-first Z M t₃) in
+    let z = number-field-back (ascii "size") 0 4294967295 (e .size) (omega arith) (omega (arith, g .sized)) (omega arith) (g .sized) (stands-first Z M t₃) in
     let m = mtime-back (e .mtime) (g .dated) t₄ in (
       record { hash = h .0; path = p .0; size = e .size; mtime = e .mtime },
       rw (one-back 0xA4 (stands-first (0xA4 ∷ []) (H ++ (P ++ (Z ++ M))) t₀), h .1, p .1, z, m),
@@ -201,19 +201,19 @@ pub file-only : {s : List ℕ} {at next : ℕ} (prev : List ℕ) {f : File} → 
 unfolding fileAt fileOf entryOf entryIn
 file-only {s} {at} {next} prev {f} y e =
     let t₁ = then-passed (oneAt s at 0xA4) _ e in
-    let t₂ = then-passed (stringFieldAt s (t₁ .1) hashKey 2 32 32 19) _ (t₁ .3) in
+    let t₂ = then-passed (stringFieldAt s (t₁ .1) (ascii "hash") 2 32 32 19) _ (t₁ .3) in
     let t₃ = then-passed (pathAt s (t₂ .1) prev) _ (t₂ .3) in
-    let t₄ = then-passed (numberFieldAt s (t₃ .1) sizeKey 0 4294967295) _ (t₃ .3) in
+    let t₄ = then-passed (numberFieldAt s (t₃ .1) (ascii "size") 0 4294967295) _ (t₃ .3) in
     let t₅ = then-passed (mtimeAt s (t₄ .1)) _ (t₄ .3) in
     let v : _≡_ {A = File} (record { hash = t₂ .0; path = t₃ .0; size = t₄ .0; mtime = t₅ .0 }) f = got-value (t₅ .3) in
     let n : t₅ .1 ≡ next = got-next (t₅ .3) in
-    let h = string-field-only hashKey 2 32 32 19 y (t₂ .2) in
-    let w = string-field-within s (t₁ .1) hashKey 2 32 32 19 (t₂ .2) in
+    let h = string-field-only (ascii "hash") 2 32 32 19 y (t₂ .2) in
+    let w = string-field-within s (t₁ .1) (ascii "hash") 2 32 32 19 (t₂ .2) in
     let p = path-only prev y (t₃ .2) in
-    let z = number-field-within s (t₃ .1) sizeKey 0 4294967295 (t₄ .2) in
+    let z = number-field-within s (t₃ .1) (ascii "size") 0 4294967295 (t₄ .2) in
     let m = mtime-only y (t₅ .2) in
     subst (λ (f : File). Stands s at (fileOf s f) next × Good s prev f) v (
-      stands-join (one-only 0xA4 (t₁ .2)) (stands-join (h .0) (stands-join (p .0) (stands-join (number-field-only sizeKey 0 4294967295 y (t₄ .2)) (stands-as refl n (m .0))))),
+      stands-join (one-only 0xA4 (t₁ .2)) (stands-join (h .0) (stands-join (p .0) (stands-join (number-field-only (ascii "size") 0 4294967295 y (t₄ .2)) (stands-as refl n (m .0))))),
       record {
         hash-within = omega (arith, w .0, w .1);
         hash-long = omega (arith, w .2, w .3);
@@ -229,22 +229,22 @@ pub file-within : (s : List ℕ) (at : ℕ) (prev : List ℕ) {f : File} {next :
 unfolding fileAt pathAt
 file-within s at prev {f} {next} e =
     let t₁ = then-passed (oneAt s at 0xA4) _ e in
-    let t₂ = then-passed (stringFieldAt s (t₁ .1) hashKey 2 32 32 19) _ (t₁ .3) in
+    let t₂ = then-passed (stringFieldAt s (t₁ .1) (ascii "hash") 2 32 32 19) _ (t₁ .3) in
     let t₃ = then-passed (pathAt s (t₂ .1) prev) _ (t₂ .3) in
-    let t₄ = then-passed (numberFieldAt s (t₃ .1) sizeKey 0 4294967295) _ (t₃ .3) in
+    let t₄ = then-passed (numberFieldAt s (t₃ .1) (ascii "size") 0 4294967295) _ (t₃ .3) in
     let t₅ = then-passed (mtimeAt s (t₄ .1)) _ (t₄ .3) in
     let v : _≡_ {A = File} (record { hash = t₂ .0; path = t₃ .0; size = t₄ .0; mtime = t₅ .0 }) f = got-value (t₅ .3) in
-    let w = string-field-within s (t₁ .1) hashKey 2 32 32 19 (t₂ .2) in
+    let w = string-field-within s (t₁ .1) (ascii "hash") 2 32 32 19 (t₂ .2) in
     let p = path-within s (t₂ .1) prev (t₃ .2) in
-    let z = number-field-within s (t₃ .1) sizeKey 0 4294967295 (t₄ .2) in
+    let z = number-field-within s (t₃ .1) (ascii "size") 0 4294967295 (t₄ .2) in
     subst (λ (f : File). (f .hash .start + 32 ≤ length s) × (f .hash .len ≡ 32) × (f .path .start + f .path .len ≤ length s) × (f .size ≤ 4294967295)) v
     (omega (arith, w .0, w .1, w .2), omega (arith, w .2, w .3), p, z .1)
   where
     path-within : (s : List ℕ) (at : ℕ) (prev : List ℕ) {v : Span} {next : ℕ} → pathAt s at prev ≡ got v next → v .start + v .len ≤ length s
     path-within s at prev {v} {next} e =
-        let t = then-passed (stringFieldAt s at pathKey 3 pathLeast pathMost 20) _ e in
+        let t = then-passed (stringFieldAt s at (ascii "path") 3 pathLeast pathMost 20) _ e in
         let u = passed (pathAllowed (partAt s (t .0))) _ 20 (t .3) in
         let w = passed (below prev (partAt s (t .0))) (got (t .0) (t .1)) 20 (u .1) in
         let f : t .0 ≡ v = got-value (w .1) in
-        let i = string-field-within s at pathKey 3 pathLeast pathMost 20 (t .2) in
+        let i = string-field-within s at (ascii "path") 3 pathLeast pathMost 20 (t .2) in
         subst (λ (v : Span). v .start + v .len ≤ length s) f (omega (arith, i .0, i .1))

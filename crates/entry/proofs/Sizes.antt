@@ -9,11 +9,11 @@ use lib.Seq.{length-take-le}
 use Rattle.wire.specs.declared.Span.{Span}
 use Rattle.wire.specs.Span.{partAt}
 use Rattle.cbor.specs.Form.{headSize, stringOf, stringFieldOf, numberFieldOf}
-use Rattle.cbor.specs.Names.{hashKey, pathKey, sizeKey, mtimeKey}
+use Rattle.wire.specs.Ascii.{ascii}
 use Rattle.cbor.proofs.Sizes.{length-head, length-string, length-string-field, length-number-field, length-field-two, size-one, size-most}
 use Rattle.path.specs.Path.{pathMost}
 use Rattle.entry.specs.Writing.{Entry, entryIn, entryOf, fileOf, integerOf, mtimeOf}
-use Rattle.entry.specs.Parts.{mtimeSize, fileSize}
+use Rattle.entry.specs.Private.{mtimeSize, fileSize}
 use Rattle.entry.specs.declared.Mtime.{Mtime}
 use Rattle.entry.specs.declared.Mtime.the-variants.{Null, Integer}
 use Rattle.entry.specs.declared.File.{File}
@@ -37,10 +37,10 @@ pub entry-length : (e : Entry) → length (e .hash) ≡ 32
     → length (entryOf e) ≡ 56 + headSize (length (e .path)) + length (e .path) + headSize (e .size) + mtimeSize (e .mtime)
 unfolding entryOf
 entry-length e h =
-    let H : List ℕ = stringFieldOf hashKey 2 (e .hash) in
-    let P : List ℕ = stringFieldOf pathKey 3 (e .path) in
-    let Z : List ℕ = numberFieldOf sizeKey (e .size) in
-    let K : List ℕ = stringOf 3 mtimeKey in
+    let H : List ℕ = stringFieldOf (ascii "hash") 2 (e .hash) in
+    let P : List ℕ = stringFieldOf (ascii "path") 3 (e .path) in
+    let Z : List ℕ = numberFieldOf (ascii "size") (e .size) in
+    let K : List ℕ = stringOf 3 (ascii "mtime") in
     let M : List ℕ = mtimeOf (e .mtime) in
     omega (
       arith,
@@ -48,10 +48,10 @@ entry-length e h =
       length-append P (Z ++ (K ++ M)),
       length-append Z (K ++ M),
       length-append K M,
-      length-field-two hashKey 2 (e .hash) (omega arith) (omega arith) (omega arith),
-      length-string-field pathKey 3 (e .path),
-      length-number-field sizeKey (e .size),
-      length-string 3 mtimeKey,
+      length-field-two (ascii "hash") 2 (e .hash) (omega arith) (omega arith) (omega arith),
+      length-string-field (ascii "path") 3 (e .path),
+      length-number-field (ascii "size") (e .size),
+      length-string 3 (ascii "mtime"),
       size-one 4 (omega arith),
       size-one 5 (omega arith),
       mtime-length (e .mtime),

@@ -20,11 +20,11 @@ use Rattle.path.specs.Order.{below}
 use Rattle.path.specs.Path.{pathMost, pathAllowed}
 use Rattle.path.proofs.Paths.{allowed-length}
 use Rattle.cbor.specs.Form.{headOf, headSize, stringOf, stringFieldOf, numberFieldOf}
-use Rattle.cbor.specs.Names.{hashKey, pathKey, sizeKey, mtimeKey}
+use Rattle.wire.specs.Ascii.{ascii}
 use Rattle.cbor.specs.Put.{past, Put}
 use Rattle.cbor.proofs.Runs.{Left, left-all, left-on, left-last, put-none}
 use Rattle.entry.specs.Writing.{entryIn, entryOf, fileOf, integerOf, mtimeOf, held, digestIn, pathIn, mtimeAllowed, fileVerdict, formOf}
-use Rattle.entry.specs.Parts.{mtimeFieldOf, mtimeSize, fileSize}
+use Rattle.entry.specs.Private.{mtimeFieldOf, mtimeSize, fileSize}
 use Rattle.entry.specs.declared.Mtime.{Mtime}
 use Rattle.entry.specs.declared.Mtime.the-variants.{Null, Integer}
 use Rattle.entry.specs.declared.File.{File}
@@ -247,10 +247,10 @@ module _ (at n : ℕ) (x z : List ℕ) (r : ℕ) (negative : Bool) where
   unfolding integerOf
   plus-put e w = rw e w
 
-module _ (t : Mtime) (at : ℕ) (x : List ℕ) (l : at + length (mtimeFieldOf t) ≤ length x) (a : ℕ) (y : List ℕ) (v : Put at (stringOf 3 mtimeKey) x y a) (z : List ℕ) (r : ℕ) where
+module _ (t : Mtime) (at : ℕ) (x : List ℕ) (l : at + length (mtimeFieldOf t) ≤ length x) (a : ℕ) (y : List ℕ) (v : Put at (stringOf 3 (ascii "mtime")) x y a) (z : List ℕ) (r : ℕ) where
   mtime-run : Put a (mtimeOf t) y z r → Put at (mtimeFieldOf t) x z r
   unfolding mtimeFieldOf
-  mtime-run w = left-last l (left-on (left-all at (stringOf 3 mtimeKey ++ mtimeOf t) x l) v) w
+  mtime-run w = left-last l (left-on (left-all at (stringOf 3 (ascii "mtime") ++ mtimeOf t) x l) v) w
 
   pub null-run : t ≡ Null → Put a (0xF6 ∷ []) y z r → Put at (mtimeFieldOf t) x z r
   unfolding mtimeOf
@@ -261,13 +261,13 @@ module _ (t : Mtime) (at : ℕ) (x : List ℕ) (l : at + length (mtimeFieldOf t)
   integer-run negative n e w = mtime-run (rw e w)
 
 module _ (pool : List ℕ) (f : File) (at : ℕ) (x : List ℕ) (l : at + length (fileOf pool f) ≤ length x) (hash path : List ℕ) (h : hash ≡ partAt pool (f .hash)) (p : path ≡ partAt pool (f .path))
-    (a b c d : ℕ) (x₁ x₂ x₃ x₄ : List ℕ) (w₁ : Put at (0xA4 ∷ []) x x₁ a) (w₂ : Put a (stringFieldOf hashKey 2 hash) x₁ x₂ b)
-    (w₃ : Put b (stringFieldOf pathKey 3 path) x₂ x₃ c) (w₄ : Put c (numberFieldOf sizeKey (f .size)) x₃ x₄ d) where
+    (a b c d : ℕ) (x₁ x₂ x₃ x₄ : List ℕ) (w₁ : Put at (0xA4 ∷ []) x x₁ a) (w₂ : Put a (stringFieldOf (ascii "hash") 2 hash) x₁ x₂ b)
+    (w₃ : Put b (stringFieldOf (ascii "path") 3 path) x₂ x₃ c) (w₄ : Put c (numberFieldOf (ascii "size") (f .size)) x₃ x₄ d) where
   run-left : Left at (fileOf pool f) x x₄ d (mtimeFieldOf (f .mtime))
   unfolding fileOf entryOf entryIn mtimeFieldOf
   run-left =
-      let v₂ : Put a (stringFieldOf hashKey 2 (partAt pool (f .hash))) x₁ x₂ b = rw (← h) w₂ in
-      let v₃ : Put b (stringFieldOf pathKey 3 (partAt pool (f .path))) x₂ x₃ c = rw (← p) w₃ in
+      let v₂ : Put a (stringFieldOf (ascii "hash") 2 (partAt pool (f .hash))) x₁ x₂ b = rw (← h) w₂ in
+      let v₃ : Put b (stringFieldOf (ascii "path") 3 (partAt pool (f .path))) x₂ x₃ c = rw (← p) w₃ in
       left-on (left-on (left-on (left-on (left-all at (fileOf pool f) x l) w₁) v₂) v₃) w₄
 
   pub run-room : d + length (mtimeFieldOf (f .mtime)) ≤ length x₄

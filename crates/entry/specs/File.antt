@@ -9,7 +9,7 @@ use Rattle.wire.specs.Span.{partAt}
 use Rattle.path.specs.Order.{below}
 use Rattle.path.specs.Path.{pathLeast, pathMost, pathAllowed}
 use Rattle.cbor.specs.Item.{byteAt, oneAt, Head, headAt, keyAt, stringFieldAt, numberFieldAt}
-use Rattle.cbor.specs.Names.{hashKey, pathKey, sizeKey, mtimeKey}
+use Rattle.wire.specs.Ascii.{ascii}
 use Rattle.entry.specs.declared.Mtime.{Mtime}
 use Rattle.entry.specs.declared.Mtime.the-variants.{Null, Integer}
 use Rattle.entry.specs.declared.File.{File}
@@ -21,22 +21,22 @@ integerAt s at = then (headAt s at 0) (λ (h, next). demand (ltb (h .number) (2 
 -- "mtime may be null", which is F6
 unfoldable pub mtimeAt : List ℕ → ℕ → Got Mtime
 mtimeAt s at =
-    then (keyAt s at mtimeKey) (λ (_, a).
+    then (keyAt s at (ascii "mtime")) (λ (_, a).
     then (byteAt s a) (λ (x, p).
     choose (eqb x 0xF6) (got Null p) (then (integerAt s a) (λ (h, next). got (Integer (eqb (h .major) 1) (h .number)) next))))
 
 -- a path that is allowed, and above prev, the path before it: its length is judged before its contents
 unfoldable pub pathAt : List ℕ → ℕ → List ℕ → Got Span
 pathAt s at prev =
-    then (stringFieldAt s at pathKey 3 pathLeast pathMost 20) (λ (v, next).
+    then (stringFieldAt s at (ascii "path") 3 pathLeast pathMost 20) (λ (v, next).
     demand (pathAllowed (partAt s v)) 20 (demand (below prev (partAt s v)) 20 (got v next)))
 
 -- head A4: `hash`, `path`, `size`, `mtime`
 unfoldable pub fileAt : List ℕ → ℕ → List ℕ → Got File
 fileAt s at prev =
     then (oneAt s at 0xA4) (λ (_, a).
-    then (stringFieldAt s a hashKey 2 32 32 19) (λ (hash, b).
+    then (stringFieldAt s a (ascii "hash") 2 32 32 19) (λ (hash, b).
     then (pathAt s b prev) (λ (path, c).
-    then (numberFieldAt s c sizeKey 0 mostFileSize) (λ (size, d).
+    then (numberFieldAt s c (ascii "size") 0 mostFileSize) (λ (size, d).
     then (mtimeAt s d) (λ (mtime, next).
     got (record { hash = hash; path = path; size = size; mtime = mtime }) next)))))

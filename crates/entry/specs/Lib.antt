@@ -1,4 +1,4 @@
 pub mod File
 pub mod Writing
 pub mod Answer
-pub mod Parts
+pub mod Private

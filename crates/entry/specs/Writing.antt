@@ -11,7 +11,7 @@ use Rattle.wire.specs.Span.{partAt}
 use Rattle.path.specs.Order.{below}
 use Rattle.path.specs.Path.{pathAllowed}
 use Rattle.cbor.specs.Form.{headOf, stringOf, stringFieldOf, numberFieldOf}
-use Rattle.cbor.specs.Names.{hashKey, pathKey, sizeKey, mtimeKey}
+use Rattle.wire.specs.Ascii.{ascii}
 use Rattle.entry.specs.declared.Mtime.{Mtime}
 use Rattle.entry.specs.declared.Mtime.the-variants.{Null, Integer}
 use Rattle.entry.specs.declared.File.{File}
@@ -39,8 +39,8 @@ mtimeOf (Integer negative n) = integerOf negative n
 unfoldable pub entryOf : Entry → List ℕ
 entryOf e =
     (0xA4 ∷ [])
-    ++ (stringFieldOf hashKey 2 (e .hash)
-    ++ (stringFieldOf pathKey 3 (e .path) ++ (numberFieldOf sizeKey (e .size) ++ (stringOf 3 mtimeKey ++ mtimeOf (e .mtime)))))
+    ++ (stringFieldOf (ascii "hash") 2 (e .hash)
+    ++ (stringFieldOf (ascii "path") 3 (e .path) ++ (numberFieldOf (ascii "size") (e .size) ++ (stringOf 3 (ascii "mtime") ++ mtimeOf (e .mtime)))))
 
 unfoldable pub fileOf : List ℕ → File → List ℕ
 fileOf pool f = entryOf (entryIn pool f)

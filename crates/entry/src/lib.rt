@@ -5,7 +5,7 @@ pub mod write;
 ghost use mathlib.Core.Path.{_≡_};
 ghost use Rattle.wire.specs.Answer.{numberOf};
 ghost use Rattle.entry.specs.Answer.{fileTold};
-ghost use Rattle.entry.specs.Parts.{mtimeTold};
+ghost use Rattle.entry.specs.Private.{mtimeTold};
 use wire::Span;
 
 pub enum Mtime {
@@ -27,26 +27,30 @@ enum MtimeRead {
     Refused { no: u8 },
 }
 
+impl MtimeRead {
+    // The number of a refusal, for a caller's `else`.
+    fn no(self) -> u8
+        ensures { λ n. ⌜ n ≡ numberOf (mtimeTold self) ⌝ }
+    {
+        match self {
+            MtimeRead::Refused { no } => no,
+            _ => 0,
+        }
+    }
+}
+
 pub enum FileRead {
     Value { file: File, next: usize },
     Refused { no: u8 },
 }
 
-// The number of a refusal, for a caller's `else`.
-fn mtime_no(r: MtimeRead) -> u8
-    ensures { λ n. ⌜ n ≡ numberOf (mtimeTold r) ⌝ }
-{
-    match r {
-        MtimeRead::Value { mtime: _, next: _ } => 0,
-        MtimeRead::Refused { no } => no,
-    }
-}
-
-pub fn file_no(r: FileRead) -> u8
-    ensures { λ n. ⌜ n ≡ numberOf (fileTold r) ⌝ }
-{
-    match r {
-        FileRead::Value { file: _, next: _ } => 0,
-        FileRead::Refused { no } => no,
+impl FileRead {
+    pub fn no(self) -> u8
+        ensures { λ n. ⌜ n ≡ numberOf (fileTold self) ⌝ }
+    {
+        match self {
+            FileRead::Refused { no } => no,
+            _ => 0,
+        }
     }
 }

@@ -2,13 +2,13 @@
 ghost use mathlib.Core.Path.{_≡_};
 ghost use Rattle.entry.specs.File.{integerAt, mtimeAt, pathAt, fileAt};
 ghost use Rattle.entry.specs.Answer.{fileTold};
-ghost use Rattle.entry.specs.Parts.{mtimeTold};
+ghost use Rattle.entry.specs.Private.{mtimeTold};
 ghost use Rattle.cbor.specs.Answer.{headTold, stringTold};
 use super::File;
 use super::FileRead;
 use super::Mtime;
 use super::MtimeRead;
-use super::mtime_no;
+use super::write::part;
 use cbor::BYTES;
 use cbor::HeadRead;
 use cbor::INTEGER;
@@ -17,10 +17,6 @@ use cbor::NumberRead;
 use cbor::StepRead;
 use cbor::StringRead;
 use cbor::TEXT;
-use cbor::head_no;
-use cbor::number_no;
-use cbor::step_no;
-use cbor::string_no;
 use wire::BAD_PATH;
 use wire::OUT_OF_RANGE;
 use wire::Span;
@@ -34,7 +30,7 @@ pub fn integer(s: &[u8], at: usize) -> HeadRead
 {
     let h = cbor::read::head(s, at, INTEGER);
     let HeadRead::Value { major, n, next } = h else {
-        return HeadRead::Refused { no: head_no(h) };
+        return HeadRead::Refused { no: h.no() };
     };
     if END <= n {
         return HeadRead::Refused { no: OUT_OF_RANGE };
@@ -47,11 +43,11 @@ fn mtime_field(s: &[u8], at: usize) -> MtimeRead
 {
     let k = cbor::read::key(s, at, b"mtime");
     let StepRead::Past { next: a } = k else {
-        return MtimeRead::Refused { no: step_no(k) };
+        return MtimeRead::Refused { no: k.no() };
     };
     let b = cbor::read::byte(s, a);
     let NumberRead::Value { n: first, next: p } = b else {
-        return MtimeRead::Refused { no: number_no(b) };
+        return MtimeRead::Refused { no: b.no() };
     };
     if first == 0xF6 {
         return MtimeRead::Value {
@@ -61,7 +57,7 @@ fn mtime_field(s: &[u8], at: usize) -> MtimeRead
     }
     let h = integer(s, a);
     let HeadRead::Value { major, n, next } = h else {
-        return MtimeRead::Refused { no: head_no(h) };
+        return MtimeRead::Refused { no: h.no() };
     };
     MtimeRead::Value {
         mtime: Mtime::Integer {
@@ -78,13 +74,13 @@ fn path_field(s: &[u8], at: usize, prev: &[u8]) -> StringRead
 {
     let p = cbor::read::string_field(s, at, b"path", TEXT, path::LEAST, path::MOST, BAD_PATH);
     let StringRead::Value { start, len, next } = p else {
-        return StringRead::Refused { no: string_no(p) };
+        return StringRead::Refused { no: p.no() };
     };
-    let end = start + len;
-    if !path::allowed(&s[start..end]) {
+    let text = part(s, Span { start, len });
+    if !path::allowed(text) {
         return StringRead::Refused { no: BAD_PATH };
     }
-    if !path::ascends(prev, &s[start..end]) {
+    if !path::ascends(prev, text) {
         return StringRead::Refused { no: BAD_PATH };
     }
     StringRead::Value { start, len, next }
@@ -96,25 +92,25 @@ pub fn file(s: &[u8], at: usize, prev: &[u8]) -> FileRead
 {
     let m = cbor::read::one_byte(s, at, 0xA4);
     let StepRead::Past { next: a } = m else {
-        return FileRead::Refused { no: step_no(m) };
+        return FileRead::Refused { no: m.no() };
     };
     let h = cbor::read::string_field(s, a, b"hash", BYTES, 32, 32, OUT_OF_RANGE);
     let StringRead::Value { start, len, next } = h else {
-        return FileRead::Refused { no: string_no(h) };
+        return FileRead::Refused { no: h.no() };
     };
     let hash = Span { start, len };
     let p = path_field(s, next, prev);
     let StringRead::Value { start, len, next } = p else {
-        return FileRead::Refused { no: string_no(p) };
+        return FileRead::Refused { no: p.no() };
     };
     let path = Span { start, len };
     let z = cbor::read::number_field(s, next, b"size", 0, wire::MOST_FILE_SIZE);
     let NumberRead::Value { n: size, next } = z else {
-        return FileRead::Refused { no: number_no(z) };
+        return FileRead::Refused { no: z.no() };
     };
     let t = mtime_field(s, next);
     let MtimeRead::Value { mtime, next } = t else {
-        return FileRead::Refused { no: mtime_no(t) };
+        return FileRead::Refused { no: t.no() };
     };
     let file = File {
         hash,

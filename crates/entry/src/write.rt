@@ -7,7 +7,7 @@ ghost use Rattle.wire.specs.Span.{partAt};
 ghost use Rattle.path.specs.Path.{pathMost};
 ghost use Rattle.cbor.specs.Put.{Put};
 ghost use Rattle.entry.specs.Writing.{integerOf, fileOf, held, digestIn, pathIn, mtimeAllowed, fileVerdict, formOf};
-ghost use Rattle.entry.specs.Parts.{mtimeFieldOf, mtimeSize, fileSize};
+ghost use Rattle.entry.specs.Private.{mtimeFieldOf, mtimeSize, fileSize};
 use super::File;
 use super::Mtime;
 use cbor::BYTES;

@@ -1,11 +1,11 @@
 -- How the cover's and the judge's answers give those of `read` and `write`, and that these are fixed by their contracts. Assumes nothing.
-use Prim.Native.Nat.{ℕ, _+_, _-_}
+use Prim.Native.Nat.{ℕ}
 use mathlib.Core.Path.{_≡_, refl, sym, ap, _∙_}
 use mathlib.Core.List.{List}
-use native.Mathlib.Omega.{arith}
-use lib.ListN.{take, drop}
 use Rattle.wire.specs.Answer.{done, refusedAt, numberOf, Change, Kept}
 use Rattle.wire.specs.Writing.{told, writing, Written}
+use Rattle.wire.specs.Span.{partAt}
+use Rattle.wire.specs.declared.Span.{Span}
 use Rattle.wire.specs.declared.Wrote.{Wrote}
 use Rattle.wire.specs.declared.Wrote.the-variants as O
 use Rattle.wire.proofs.Cases.{done-value}
@@ -16,7 +16,7 @@ use Rattle.cover.specs.declared.CoverRead.{CoverRead}
 use Rattle.cover.specs.declared.CoverRead.the-variants as K
 use Rattle.envelope.specs.Envelope.{judged, envelopeAt, verdict}
 use Rattle.envelope.specs.Answer.{readTold, wroteTold, EnvelopeWritten}
-use Rattle.envelope.specs.Parts.{judgeTold, wroteAs}
+use Rattle.envelope.specs.Private.{judgeTold, wroteAs}
 use Rattle.envelope.specs.declared.judge.Judge.{Judge}
 use Rattle.envelope.specs.declared.judge.Judge.the-variants as J
 use Rattle.envelope.specs.declared.EnvelopeRead.{EnvelopeRead}
@@ -31,23 +31,17 @@ pub read-cover : (s : List ℕ) (r : CoverRead) (e n : ℕ) → C.told r ≡ cov
 unfolding envelopeAt
 read-cover s r e n h k w = rw (w, ← h, k)
 
--- it was read, and j is what the judge said of the two parts, as the code cuts them out
-module _ (s : List ℕ) (r : CoverRead) (m ml p pl : ℕ) (e : C.told r ≡ coverAt s) (k : r ≡ K.Cover m ml p pl) (j : Judge)
-    (h : judgeTold j ≡ judged (take (m + ml - m) (drop m s)) (take (p + pl - p) (drop p s))) where
-  abbrev cover : Cover
-  cover = record { manifest = m; manifest-len = ml; payload = p; payload-len = pl }
-
-  judge-said : judgeTold j ≡ judged (take ml (drop m s)) (take pl (drop p s))
-  judge-said =
-      let a : m + ml - m ≡ ml = omega arith in
-      let b : p + pl - p ≡ pl = omega arith in
-      h ∙ rw (a, b)
+-- it was read, and j is what the judge said of its two parts, a and b
+module _ (s : List ℕ) (r : CoverRead) (m p : Span) (e : C.told r ≡ coverAt s) (k : r ≡ K.Cover m p) (j : Judge) (a b : List ℕ) (h : judgeTold j ≡ judged a b)
+    (f : a ≡ partAt s m) (g : b ≡ partAt s p) where
+  judge-said : judgeTold j ≡ judged (partAt s m) (partAt s p)
+  judge-said = h ∙ rw (f, g)
 
   pub read-faulty : (n place : ℕ) → j ≡ J.Faulty n place → refusedAt n place ≡ envelopeAt s
   unfolding envelopeAt
   read-faulty n place w = rw (← e, k, ← judge-said, w)
 
-  pub read-fine : j ≡ J.Fine → done cover ≡ envelopeAt s
+  pub read-fine : j ≡ J.Fine → done (record { manifest = m; payload = p }) ≡ envelopeAt s
   unfolding envelopeAt
   read-fine w = rw (← e, k, ← judge-said, w)
 
@@ -76,15 +70,11 @@ module _ (m p out : List ℕ) (j : Judge) (h : judgeTold j ≡ judged m p) where
 -- ---- an enum says no more than 01's answer does
 
 pub read-injective : (r q : EnvelopeRead) → readTold r ≡ readTold q → r ≡ q
-read-injective (R.Envelope m ml p pl) (R.Envelope n nl q ql) e =
+read-injective (R.Envelope m p) (R.Envelope n q) e =
     let v = done-value e in
-    let a : m ≡ n = ap (λ (c : Cover). c .manifest) v in
-    let b : ml ≡ nl = ap (λ (c : Cover). c .manifest-len) v in
-    let c : p ≡ q = ap (λ (c : Cover). c .payload) v in
-    let d : pl ≡ ql = ap (λ (c : Cover). c .payload-len) v in
-    cc
-read-injective (R.Envelope m ml p pl) (R.Refused n k) e = cc
-read-injective (R.Refused n k) (R.Envelope m ml p pl) e = cc
+    cc (ap (λ (c : Cover). c .manifest) v, ap (λ (c : Cover). c .payload) v)
+read-injective (R.Envelope m p) (R.Refused n k) e = cc
+read-injective (R.Refused n k) (R.Envelope m p) e = cc
 read-injective (R.Refused m j) (R.Refused n k) e = cc
 
 pub wrote-injective : (r q : EnvelopeWrote) → wroteTold r ≡ wroteTold q → r ≡ q

@@ -1,13 +1,14 @@
 -- How the judge's steps give its answer: the manifest as it was read, the sum, the digests. Assumes nothing.
 use Prim.Native.Nat.{ℕ, _-_, _≤_}
 use mathlib.Core.Path.{_≡_, refl, sym, ap, ap₂, _∙_}
-use mathlib.Core.Bool.{Bool, true, false}
+use mathlib.Core.Bool.{Bool, true, false, not}
 use mathlib.Core.List.{List}
 use native.Mathlib.Omega.{arith}
 use borrow.Author.Tests.{eqb-true}
 use lib.Dec.{eqb}
 use lib.ListN.{length, take, length-append, replicate}
 use lib.Seq.{take-at}
+use Rattle.wire.proofs.Cases.{said-yes}
 use Rattle.wire.specs.Answer.{Answer, done, refusedAt, numberOf, then, Got, got, valueOf}
 use Rattle.cbor.specs.Answer.{stepTold}
 use Rattle.cbor.specs.declared.StepRead.the-variants as step
@@ -65,7 +66,21 @@ judge-refused m p r e n h a w = go (manifestAt m) h
         absurd (omega arith)
     go (refusedAt k place) q = ap (λ (i : ℕ). refusedAt i 0) (w ∙ ap (λ (x : ManifestRead). numberOf (stepTold (x .answer))) q)
 
--- it was read: its files against the payload
+-- it was read: the count is within the array
+count-held : (m : List ℕ) (r : ManifestRead) (l : Listed m r) → r .value .count ≤ length (r .value .files)
+count-held m r l = rw (l .count-is, l .files-are) (padded-holds (l .listing .files))
+
+pub count-fits : (m : List ℕ) (r : ManifestRead) (next : ℕ) → r ≡ answerFor (manifestAt m) → r .answer ≡ step.Past next
+    → (r .value .count ≤ 64) × (r .value .count ≤ length (r .value .files))
+count-fits m r next e a =
+    let l = told-listed m r next e a in
+    (omega (arith, l .count-is, manifest-within m (l .read) .1), count-held m r l)
+
+-- the sizes were said to add up
+pub sum-holds : (b : Bool) (x n : ℕ) → b ≡ eqb x n → not b ≡ false → x ≡ n
+sum-holds b x n e h = eqb-true x n (said-yes b _ e h)
+
+-- its files against the payload
 module _ (m p : List ℕ) (r : ManifestRead) (l : Listed m r) where
   -- as many files as the answer counts
   abbrev meant : List File
@@ -73,12 +88,6 @@ module _ (m p : List ℕ) (r : ManifestRead) (l : Listed m r) where
 
   meant-are : meant ≡ l .listing .files
   meant-are = ap₂ take (l .count-is) (l .files-are) ∙ padded-files (l .listing .files)
-
-  pub count-most : r .value .count ≤ 64
-  count-most = omega (arith, l .count-is, manifest-within m (l .read) .1)
-
-  pub count-held : r .value .count ≤ length (r .value .files)
-  count-held = rw (l .count-is, l .files-are) (padded-holds (l .listing .files))
 
   judged-contents : judged m p ≡ contents m meant p
   unfolding judged
@@ -94,9 +103,6 @@ module _ (m p : List ℕ) (r : ManifestRead) (l : Listed m r) where
         sym (judged-contents ∙ rw (f, n))
 
     -- they do
-    pub sum-holds : b ≡ true → total meant ≡ length p
-    sum-holds w = eqb-true (total meant) (length p) (sym e ∙ w)
-
     pub judge-digests : b ≡ true → (y : Answer Unit) → y ≡ digests m meant 0 p → y ≡ judged m p
     unfolding contents
     judge-digests w y d =

@@ -1,5 +1,5 @@
 -- The judge's two loops over a manifest's files: what is done, and the rest of the work from there. Assumes nothing.
-use Prim.Native.Nat.{ℕ, _+_, _-_, _<_, _≤_}
+use Prim.Native.Nat.{ℕ, _+_, _-_, _^_, _<_, _≤_}
 use mathlib.Core.Path.{_≡_, refl, sym, ap, _∙_}
 use mathlib.Core.Bool.{Bool, true, false}
 use mathlib.Core.Logic.{_⊎_, inl, inr}
@@ -7,6 +7,8 @@ use mathlib.Core.List.{List, []}
 use native.Mathlib.Omega.{arith}
 use borrow.Author.Tests.{eq-eqb, ne-eqb}
 use lib.Dec.{eqb}
+use mir.Syntax.{w64}
+use mir.Val.{Fits}
 use lib.ListN.{length, take, drop, getD, drop-of-length-le}
 use lib.Seq.{drop-drop, length-take-le}
 use Rattle.wire.proofs.Cases.{eq-or-ne}
@@ -75,6 +77,9 @@ module _ (files : List File) (count k : ℕ) (d : File) (known : count ≤ lengt
     -- its contents stand within the payload
     pub contents-within : at + f .size ≤ length p
     contents-within = omega (arith, total-next, s .left)
+
+    pub within-fits : length p < 2 ^ 64 → Fits w64 (at + f .size)
+    within-fits b = record { fits = omega (arith, contents-within) }
 
     -- what the code compares: the digest of the contents, and the hash
     module _ (digest hash : List ℕ) (b : Bool) (e : digest ≡ sha256 (take (at + f .size - at) (drop at p))) (h : hash ≡ partAt m (f .hash)) (c : b ≡ same digest hash) where

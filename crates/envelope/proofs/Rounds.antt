@@ -6,8 +6,9 @@ use native.Mathlib.Omega.{arith}
 use lib.ListN.{length}
 use Rattle.wire.specs.Answer.{done, then, valueOf}
 use Rattle.wire.specs.Number.{Bytes}
+use Rattle.wire.specs.Span.{partAt}
 use Rattle.wire.proofs.Cases.{then-done, done-value, value-passed}
-use Rattle.cover.specs.Cover.{Cover, manifestOf, payloadOf, coverAt, coverOf}
+use Rattle.cover.specs.Cover.{Cover, coverAt, coverOf}
 use Rattle.cover.proofs.ReadsBack.{cover-back}
 use Rattle.cover.proofs.OnlyLayouts.{cover-only}
 use Rattle.manifest.specs.Manifest.{manifestAt}
@@ -32,8 +33,8 @@ accepted-most m p h =
 pub record ReadsAs (s manifest payload : List ℕ) : Type 0 where
   pub cover : Cover
   pub read : envelopeAt s ≡ done cover
-  pub manifest-is : manifestOf s cover ≡ manifest
-  pub payload-is : payloadOf s cover ≡ payload
+  pub manifest-is : partAt s (cover .manifest) ≡ manifest
+  pub payload-is : partAt s (cover .payload) ≡ payload
 
 pub envelope-back : (m p : List ℕ) → length p < 2 ^ 64 → Accepted m p → ReadsAs (coverOf m p) m p
 unfolding envelopeAt
@@ -48,21 +49,21 @@ envelope-back m p l h =
 
 -- what is read, of bytes, is the layout of its parts, which the writer accepts
 pub record Sound (s : List ℕ) (c : Cover) : Type 0 where
-  pub whole : s ≡ coverOf (manifestOf s c) (payloadOf s c)
-  pub accepted : Accepted (manifestOf s c) (payloadOf s c)
-  pub rewritten : verdict (manifestOf s c) (payloadOf s c) ≡ done s
+  pub whole : s ≡ coverOf (partAt s (c .manifest)) (partAt s (c .payload))
+  pub accepted : Accepted (partAt s (c .manifest)) (partAt s (c .payload))
+  pub rewritten : verdict (partAt s (c .manifest)) (partAt s (c .payload)) ≡ done s
 
-sound : (s : List ℕ) (c : Cover) → s ≡ coverOf (manifestOf s c) (payloadOf s c) → Accepted (manifestOf s c) (payloadOf s c) → Sound s c
+sound : (s : List ℕ) (c : Cover) → s ≡ coverOf (partAt s (c .manifest)) (partAt s (c .payload)) → Accepted (partAt s (c .manifest)) (partAt s (c .payload)) → Sound s c
 unfolding verdict
 sound s c w a =
-    let v : verdict (manifestOf s c) (payloadOf s c) ≡ done (coverOf (manifestOf s c) (payloadOf s c)) = rw a in
+    let v : verdict (partAt s (c .manifest)) (partAt s (c .payload)) ≡ done (coverOf (partAt s (c .manifest)) (partAt s (c .payload))) = rw a in
     record { whole = w; accepted = a; rewritten = v ∙ ap done (sym w) }
 
 pub envelope-only : (s : List ℕ) (c : Cover) → Bytes s → envelopeAt s ≡ done c → Sound s c
 unfolding envelopeAt
 envelope-only s c y h =
-    let t = then-done (valueOf (coverAt s)) (λ c. then (judged (manifestOf s c) (payloadOf s c)) (λ _. done c)) h in
+    let t = then-done (valueOf (coverAt s)) (λ c. then (judged (partAt s (c .manifest)) (partAt s (c .payload))) (λ _. done c)) h in
     let u = value-passed (coverAt s) (t .1) in
-    let j = then-done (judged (manifestOf s (t .0)) (payloadOf s (t .0))) (λ _. done (t .0)) (t .2) in
+    let j = then-done (judged (partAt s (t .0 .manifest)) (partAt s (t .0 .payload))) (λ _. done (t .0)) (t .2) in
     let e : t .0 ≡ c = done-value (j .2) in
-    subst (λ (x : Cover). Sound s x) e (sound s (t .0) (cover-only s (t .0) (u .0) y (u .1) .whole) (j .1))
+    subst (λ (x : Cover). Sound s x) e (sound s (t .0) (cover-only s (t .0) (u .0) y (u .1)) (j .1))

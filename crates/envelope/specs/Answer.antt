@@ -9,9 +9,9 @@ use Rattle.envelope.specs.declared.EnvelopeRead.the-variants as R
 use Rattle.envelope.specs.declared.EnvelopeWrote.{EnvelopeWrote}
 use Rattle.envelope.specs.declared.EnvelopeWrote.the-variants as W
 
--- 0 with where the two parts stand and how long they are, or the number and the place of a refusal
+-- 0 with where the two parts stand, or the number and the place of a refusal
 abbrev pub readTold : EnvelopeRead → Answer Cover
-readTold (R.Envelope m ml p pl) = done (record { manifest = m; manifest-len = ml; payload = p; payload-len = pl })
+readTold (R.Envelope manifest payload) = done (record { manifest = manifest; payload = payload })
 readTold (R.Refused e place) = refusedAt e place
 
 -- 0 with how many bytes were written, or the number and the place of a refusal

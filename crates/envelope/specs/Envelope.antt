@@ -7,7 +7,7 @@ use Rattle.wire.specs.Answer.{Answer, done, then, demandAt, valueOf}
 use Rattle.wire.specs.Span.{partAt}
 use Rattle.lend.specs.Same.{same}
 use Rattle.sha256.specs.Sha.{sha256}
-use Rattle.cover.specs.Cover.{Cover, manifestOf, payloadOf, coverAt, coverOf}
+use Rattle.cover.specs.Cover.{Cover, coverAt, coverOf}
 use Rattle.entry.specs.declared.File.{File}
 use Rattle.manifest.specs.Manifest.{manifestAt}
 
@@ -33,7 +33,7 @@ judged manifest payload = then (valueOf (manifestAt manifest)) (λ v. contents m
 
 -- "left to right as for frames; then" the two parts
 unfoldable pub envelopeAt : List ℕ → Answer Cover
-envelopeAt s = then (valueOf (coverAt s)) (λ c. then (judged (manifestOf s c) (payloadOf s c)) (λ _. done c))
+envelopeAt s = then (valueOf (coverAt s)) (λ c. then (judged (partAt s (c .manifest)) (partAt s (c .payload))) (λ _. done c))
 
 -- "the writer takes manifest bytes and payload: the same from 9 on"
 unfoldable pub verdict : List ℕ → List ℕ → Answer (List ℕ)

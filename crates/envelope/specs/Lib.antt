@@ -1,3 +1,3 @@
 pub mod Envelope
 pub mod Answer
-pub mod Parts
+pub mod Private

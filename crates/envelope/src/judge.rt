@@ -5,7 +5,7 @@ ghost use lib.Dec.{eqb};
 ghost use lib.ListN.{length, take};
 ghost use Rattle.wire.specs.Sizes.{mostFiles};
 ghost use Rattle.envelope.specs.Envelope.{total, digests, judged};
-ghost use Rattle.envelope.specs.Parts.{judgeTold};
+ghost use Rattle.envelope.specs.Private.{judgeTold};
 use cbor::StepRead;
 use entry::File;
 use wire::BAD_CONTENTS;
@@ -70,7 +70,7 @@ pub(super) fn parts(manifest: &[u8], payload: &[u8]) -> Judge
     let a = r.answer;
     let StepRead::Past { next: _ } = a else {
         return Judge::Faulty {
-            no: cbor::step_no(a),
+            no: a.no(),
             place: 0,
         };
     };

@@ -4,24 +4,18 @@ mod judge;
 ghost use mathlib.Core.Path.{_≡_};
 ghost use Rattle.envelope.specs.Envelope.{envelopeAt, verdict};
 ghost use Rattle.envelope.specs.Answer.{readTold, EnvelopeWritten};
-ghost use Rattle.envelope.specs.Parts.{wroteAs};
+ghost use Rattle.envelope.specs.Private.{wroteAs};
 use cover::CoverRead;
+use entry::write::part;
 use judge::Judge;
+use wire::Span;
 use wire::Wrote;
 
 pub enum EnvelopeRead {
-    // Where the manifest and the payload start in the input, and how many bytes each has.
-    Envelope {
-        manifest: usize,
-        manifest_len: usize,
-        payload: usize,
-        payload_len: usize,
-    },
+    // Where the manifest and the payload stand in the input.
+    Envelope { manifest: Span, payload: Span },
     // 01's number of the refusal, and the place that it returns.
-    Refused {
-        no: u8,
-        place: usize,
-    },
+    Refused { no: u8, place: usize },
 }
 
 pub enum EnvelopeWrote {
@@ -36,30 +30,17 @@ pub fn read(s: &[u8]) -> EnvelopeRead
     ensures { λ r. ⌜ readTold r ≡ envelopeAt (now (s .entry)) ⌝ }
 {
     let r = cover::read(s);
-    let CoverRead::Cover {
-        manifest,
-        manifest_len,
-        payload,
-        payload_len,
-    } = r
-    else {
+    let CoverRead::Cover { manifest, payload } = r else {
         return EnvelopeRead::Refused {
-            no: cover::cover_no(r),
+            no: r.no(),
             place: 0,
         };
     };
-    let manifest_end = manifest + manifest_len;
-    let payload_end = payload + payload_len;
-    let j = judge::parts(&s[manifest..manifest_end], &s[payload..payload_end]);
+    let j = judge::parts(part(s, manifest), part(s, payload));
     if let Judge::Faulty { no, place } = j {
         return EnvelopeRead::Refused { no, place };
     }
-    EnvelopeRead::Envelope {
-        manifest,
-        manifest_len,
-        payload,
-        payload_len,
-    }
+    EnvelopeRead::Envelope { manifest, payload }
 }
 
 // An answer whose refusal has no place of its own.

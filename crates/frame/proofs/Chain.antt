@@ -6,13 +6,13 @@ use Rattle.wire.proofs.Branch.{branch, go, stop}
 use Rattle.varint.proofs.Answers.{go-varint, no-varint}
 use Rattle.mark.proofs.Answers.{go-mark, no-mark}
 use Rattle.frame.specs.Frame.{Numbers}
-use Rattle.frame.specs.Parts.{stepOf, kindOf, numbersOf}
-use Rattle.frame.specs.declared.part.Step.{Step}
-use Rattle.frame.specs.declared.part.Step.the-variants as S
-use Rattle.frame.specs.declared.part.KindRead.{KindRead}
-use Rattle.frame.specs.declared.part.KindRead.the-variants as K
-use Rattle.frame.specs.declared.part.NumbersRead.{NumbersRead}
-use Rattle.frame.specs.declared.part.NumbersRead.the-variants as N
+use Rattle.frame.specs.Private.{stepOf, kindOf, numbersOf}
+use Rattle.frame.specs.declared.fields.Step.{Step}
+use Rattle.frame.specs.declared.fields.Step.the-variants as S
+use Rattle.frame.specs.declared.fields.KindRead.{KindRead}
+use Rattle.frame.specs.declared.fields.KindRead.the-variants as K
+use Rattle.frame.specs.declared.fields.NumbersRead.{NumbersRead}
+use Rattle.frame.specs.declared.fields.NumbersRead.the-variants as N
 
 module _ {B : Type 0} (g : Got Unit) (f : Unit × ℕ → Answer B) where
   pub go-step : (r : Step) (next : ℕ) (y : Answer B) → stepOf r ≡ g → r ≡ S.At next → y ≡ f (tt, next) → y ≡ then g f

@@ -10,6 +10,7 @@ use lib.Dec.{ltb}
 use lib.ListN.{length, take, drop}
 use lib.Seq.{take-at}
 use Rattle.wire.specs.Answer.{then, got}
+use Rattle.wire.specs.declared.Span.{Span}
 use Rattle.wire.specs.Number.{bigEndian, Bytes}
 use Rattle.wire.proofs.Cases.{passed, escaped, then-passed, got-value, got-next, got-as}
 use Rattle.varint.specs.Varint.{varintAt}
@@ -41,7 +42,7 @@ id-was s at u next h =
     (omega (arith, ltb-false (length s - at) 8 (t .0)), p)
 
 abbrev framed : ℕ → Numbers → ℕ → Frame
-framed kind n at = record { kind = kind; index = n .index; total = n .total; at = at; len = n .len }
+framed kind n at = record { kind = kind; index = n .index; total = n .total; at = record { start = at; len = n .len } }
 
 -- what stands before the varints
 record Started (s : List ℕ) (kind next : ℕ) : Type 0 where
@@ -104,9 +105,9 @@ judged-was kind n at end f next h =
 pub record Sound (s : List ℕ) (f : Frame) (next : ℕ) : Type 0 where
   pub allowed : Allowed (f .kind) (idOf s) (f .index) (f .total) (dataOf s f)
   pub whole : s ≡ layout (f .kind) (idOf s) (f .index) (f .total) (dataOf s f)
-  pub held : length (dataOf s f) ≡ f .len
-  pub ends : f .at + f .len + 4 ≡ length s
-  pub behind : 15 ≤ f .at
+  pub held : length (dataOf s f) ≡ f .at .len
+  pub ends : f .at .start + f .at .len + 4 ≡ length s
+  pub behind : 15 ≤ f .at .start
   pub past : next ≡ length s
 
 -- bytes, and their checksum behind them
@@ -163,7 +164,6 @@ only-layouts s f next y h =
     (j .1) (sym (j .3) ∙ d .0))
 
 -- what a caller of `read` knows of a frame that it was told
-pub told-sound : (s : List ℕ) (r : FrameRead) (kind index total at len : ℕ) → Bytes s → told r ≡ frameOf s → r ≡ R.Frame kind index total at len
-    → Sound s (record { kind = kind; index = index; total = total; at = at; len = len }) (at + len + 4)
-told-sound s r kind index total at len y e k =
-    only-layouts s (record { kind = kind; index = index; total = total; at = at; len = len }) (at + len + 4) y (sym e ∙ ap told k)
+pub told-sound : (s : List ℕ) (r : FrameRead) (kind index total : ℕ) (at : Span) → Bytes s → told r ≡ frameOf s → r ≡ R.Frame kind index total at
+    → Sound s (record { kind = kind; index = index; total = total; at = at }) (at .start + at .len + 4)
+told-sound s r kind index total at y e k = only-layouts s _ (at .start + at .len + 4) y (sym e ∙ ap told k)

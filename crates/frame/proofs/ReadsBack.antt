@@ -69,7 +69,7 @@ dataPlace index total contents = 12 + length (numbers index total (length conten
 
 abbrev pub framed : ℕ → ℕ → ℕ → List ℕ → Frame
 framed kind index total contents =
-    record { kind = kind; index = index; total = total; at = dataPlace index total contents; len = length contents }
+    record { kind = kind; index = index; total = total; at = record { start = dataPlace index total contents; len = length contents } }
 
 -- magic, version and type take four bytes, and the id stands behind them
 start-id : (kind : ℕ) (id rest : List ℕ) → length id ≡ 8 → idOf (start kind id ++ rest) ≡ id

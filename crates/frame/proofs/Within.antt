@@ -16,13 +16,13 @@ use Rattle.crc.specs.Crc.{crc32}
 use Rattle.varint.specs.Varint.{varintAt}
 use Rattle.varint.proofs.Rounds.{read-stands}
 use Rattle.frame.specs.Frame.{Numbers, known, kindAt, numbersAt, dataAt}
-use Rattle.frame.specs.Parts.{stepOf, kindOf, numbersOf}
-use Rattle.frame.specs.declared.part.Step.{Step}
-use Rattle.frame.specs.declared.part.Step.the-variants as S
-use Rattle.frame.specs.declared.part.KindRead.{KindRead}
-use Rattle.frame.specs.declared.part.KindRead.the-variants as K
-use Rattle.frame.specs.declared.part.NumbersRead.{NumbersRead}
-use Rattle.frame.specs.declared.part.NumbersRead.the-variants as N
+use Rattle.frame.specs.Private.{stepOf, kindOf, numbersOf}
+use Rattle.frame.specs.declared.fields.Step.{Step}
+use Rattle.frame.specs.declared.fields.Step.the-variants as S
+use Rattle.frame.specs.declared.fields.KindRead.{KindRead}
+use Rattle.frame.specs.declared.fields.KindRead.the-variants as K
+use Rattle.frame.specs.declared.fields.NumbersRead.{NumbersRead}
+use Rattle.frame.specs.declared.fields.NumbersRead.the-variants as N
 
 -- the type byte stands at a position, and is one of the three
 pub kind-got : (s : List ℕ) (at kind next : ℕ) → kindAt s at ≡ got kind next → (next ≡ at + 1) × (next ≤ length s) × (kind ≡ getD s at 0) × (known kind ≡ true)

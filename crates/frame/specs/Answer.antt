@@ -7,5 +7,5 @@ use Rattle.frame.specs.declared.FrameRead.the-variants.{Frame, Refused}
 
 -- a frame and the position past its CRC, or the number of a refusal
 abbrev pub told : FrameRead → Got F.Frame
-told (Frame kind index total at len) = got (record { kind = kind; index = index; total = total; at = at; len = len }) (at + len + 4)
+told (Frame kind index total at) = got (record { kind = kind; index = index; total = total; at = at }) (at .start + at .len + 4)
 told (Refused e) = refused e

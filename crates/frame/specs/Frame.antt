@@ -7,25 +7,26 @@ use lib.ListN.{length, take, drop, getD}
 use Rattle.wire.specs.Answer.{choose, refused, then, demand, Got, got}
 use Rattle.wire.specs.Sizes.{mostPages, mostData, idSize}
 use Rattle.wire.specs.Number.{bigEndian}
+use Rattle.wire.specs.declared.Span.{Span}
+use Rattle.wire.specs.Span.{partAt}
 use Rattle.lend.specs.Same.{same}
 use Rattle.varint.specs.Varint.{varintAt}
 use Rattle.mark.specs.Mark.{markOf}
 use Rattle.crc.specs.Crc.{crc32}
 
--- what is read of a frame: its type byte, INDEX, TOTAL, and where its data stand in the input, len bytes from at on
+-- what is read of a frame: its type byte, INDEX, TOTAL, and where its data stand in the input
 pub record Frame : Type 0 where
   pub kind : ℕ
   pub index : ℕ
   pub total : ℕ
-  pub at : ℕ
-  pub len : ℕ
+  pub at : Span
 
 -- the id of a frame that is read stands at bytes 4 to 11
 abbrev pub idOf : List ℕ → List ℕ
 idOf s = take idSize (drop 4 s)
 
 abbrev pub dataOf : List ℕ → Frame → List ℕ
-dataOf s f = take (f .len) (drop (f .at) s)
+dataOf s f = partAt s (f .at)
 
 -- ---- the fields, left to right: each is judged once it is whole
 
@@ -85,7 +86,7 @@ unfoldable pub judged : (kind : ℕ) (n : Numbers) (at next : ℕ) → Got Frame
 judged kind n at next =
     demand (inPlace kind (n .index) (n .total)) 8
     (demand (inSize (n .total) (n .len)) 9
-    (got (record { kind = kind; index = n .index; total = n .total; at = at; len = n .len }) next))
+    (got (record { kind = kind; index = n .index; total = n .total; at = record { start = at; len = n .len } }) next))
 
 -- fields are read left to right and the first fault decides; then 10, then 8, then 9
 unfoldable pub frameOf : List ℕ → Got Frame

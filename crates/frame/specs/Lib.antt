@@ -1,5 +1,5 @@
 pub mod Frame
 pub mod Layout
 pub mod Answer
-pub mod Parts
+pub mod Private
 pub mod Allowed

@@ -1,17 +1,18 @@
 // One frame, read and laid out: document 01, "Frames".
+mod fields;
 mod form;
-mod part;
 
 ghost use mathlib.Core.Path.{_≡_};
 ghost use Prim.Native.Nat.{_+_};
-ghost use Rattle.wire.specs.Answer.{done};
+ghost use Rattle.wire.specs.Answer.{done, numberOf};
 ghost use Rattle.wire.specs.Writing.{Written};
 ghost use Rattle.frame.specs.Frame.{frameOf, judged, inPlace, inSize};
 ghost use Rattle.frame.specs.Layout.{layout};
 ghost use Rattle.frame.specs.Answer.{told};
-use part::KindRead;
-use part::NumbersRead;
-use part::Step;
+use fields::KindRead;
+use fields::NumbersRead;
+use fields::Step;
+use wire::Span;
 use wire::Wrote;
 
 // The type bytes of source 6.
@@ -22,18 +23,29 @@ pub const KEY: u8 = 0x4B;
 pub const AUTH: u8 = 0x41;
 
 pub enum FrameRead {
-    // The data stand in the input, len bytes from at on; the id always at bytes 4 to 11.
+    // Where the data stand in the input; the id always stands at bytes 4 to 11.
     Frame {
         kind: u8,
         index: u64,
         total: u64,
-        at: usize,
-        len: usize,
+        at: Span,
     },
     // 01's number of the refusal.
     Refused {
         no: u8,
     },
+}
+
+impl FrameRead {
+    // The number of a refusal, for a caller's `else`.
+    pub fn no(self) -> u8
+        ensures { λ n. ⌜ n ≡ numberOf (told self) ⌝ }
+    {
+        match self {
+            FrameRead::Refused { no } => no,
+            _ => 0,
+        }
+    }
 }
 
 fn in_place(kind: u8, index: u64, total: u64) -> bool
@@ -78,8 +90,10 @@ fn judge(kind: u8, index: u64, total: u64, len: u64, at: usize) -> FrameRead
         kind,
         index,
         total,
-        at,
-        len: len as usize,
+        at: Span {
+            start: at,
+            len: len as usize,
+        },
     }
 }
 
@@ -87,13 +101,11 @@ fn judge(kind: u8, index: u64, total: u64, len: u64, at: usize) -> FrameRead
 pub fn read(s: &[u8]) -> FrameRead
     ensures { λ r. ⌜ told r ≡ frameOf (now (s .entry)) ⌝ }
 {
-    let r1 = part::start(s);
+    let r1 = fields::start(s);
     let KindRead::Kind { kind, next: a } = r1 else {
-        return FrameRead::Refused {
-            no: part::kind_no(r1),
-        };
+        return FrameRead::Refused { no: r1.no() };
     };
-    let r2 = part::numbers(s, a);
+    let r2 = fields::numbers(s, a);
     let NumbersRead::Numbers {
         index,
         total,
@@ -101,15 +113,11 @@ pub fn read(s: &[u8]) -> FrameRead
         next: b,
     } = r2
     else {
-        return FrameRead::Refused {
-            no: part::numbers_no(r2),
-        };
+        return FrameRead::Refused { no: r2.no() };
     };
-    let r3 = part::data_and_sum(s, b, len);
+    let r3 = fields::data_and_sum(s, b, len);
     let Step::At { next: _ } = r3 else {
-        return FrameRead::Refused {
-            no: part::step_no(r3),
-        };
+        return FrameRead::Refused { no: r3.no() };
     };
     judge(kind, index, total, len, b)
 }

@@ -17,7 +17,7 @@ use Rattle.cbor.proofs.Answers.{chain}
 use Rattle.entry.specs.declared.File.{File}
 use Rattle.manifest.specs.Manifest.{Listing, Ending}
 use Rattle.manifest.specs.Answer.{blankFile, padded, answerFor}
-use Rattle.manifest.specs.Parts.{seedTold, sealedTold, createdTold, endTold, filesAnswer}
+use Rattle.manifest.specs.Private.{seedTold, sealedTold, createdTold, endTold, filesAnswer}
 use Rattle.manifest.specs.declared.Seed.{Seed}
 use Rattle.manifest.specs.declared.Created.{Created}
 use Rattle.manifest.specs.declared.ManifestRead.{ManifestRead}

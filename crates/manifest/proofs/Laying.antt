@@ -1,4 +1,4 @@
--- What the writers go by: the loop of `lay::list`, and the runs of writes. Assumes nothing.
+-- What the writers go by: the loop of `form::list`, and the runs of writes. Assumes nothing.
 use Prim.Native.Nat.{ℕ, _+_, _≤_, _<_}
 use mathlib.Core.Path.{_≡_, sym, ap, ap₂, _∙_, subst}
 use mathlib.Core.Bool.{Bool, true, false}
@@ -17,14 +17,14 @@ use Rattle.wire.proofs.Writes.{written, no-room, denied}
 use Rattle.wire.specs.declared.Span.{Span}
 use Rattle.wire.specs.Span.{partAt}
 use Rattle.cbor.specs.Form.{headOf, stringOf, doubleOf, numberFieldOf}
-use Rattle.cbor.specs.Names.{seedKey, filesKey, sealedKey, createdKey, versionKey}
+use Rattle.wire.specs.Ascii.{ascii}
 use Rattle.cbor.specs.Put.{Put}
 use Rattle.cbor.proofs.Runs.{Left, left-all, left-on, left-last, put-fits}
 use Rattle.entry.specs.Writing.{entryIn, integerOf, fileVerdict, formOf}
 use Rattle.entry.specs.declared.File.{File}
 use Rattle.entry.proofs.Writers.{done-verdict, refused-verdict}
 use Rattle.manifest.specs.Writing.{seedIn, saidIn, secretOf, entriesOf, createdOf, saidOf, manifestOf, filesVerdict, listed, manifestVerdict}
-use Rattle.manifest.specs.Parts.{seedFieldOf, createdFieldOf, openingOf, closingOf, Room, Ready}
+use Rattle.manifest.specs.Private.{seedFieldOf, createdFieldOf, openingOf, closingOf, Room, Ready}
 use Rattle.manifest.specs.declared.Seed.{Seed}
 use Rattle.manifest.specs.declared.Seed.the-variants as seed
 use Rattle.manifest.specs.declared.Created.{Created}
@@ -80,23 +80,23 @@ module _ (pool : List ℕ) (files : List File) (count at : ℕ) (x y : List ℕ)
 
 -- ---- a key and its value
 
-module _ (pool : List ℕ) (v : Seed) (at : ℕ) (x : List ℕ) (l : at + length (seedFieldOf pool v) ≤ length x) (a : ℕ) (y : List ℕ) (w : Put at (stringOf 3 seedKey) x y a) (z : List ℕ) (r : ℕ) where
+module _ (pool : List ℕ) (v : Seed) (at : ℕ) (x : List ℕ) (l : at + length (seedFieldOf pool v) ≤ length x) (a : ℕ) (y : List ℕ) (w : Put at (stringOf 3 (ascii "seed")) x y a) (z : List ℕ) (r : ℕ) where
   seed-run : Put a (secretOf (seedIn pool v)) y z r → Put at (seedFieldOf pool v) x z r
   unfolding seedFieldOf
-  seed-run u = left-last l (left-on (left-all at (stringOf 3 seedKey ++ secretOf (seedIn pool v)) x l) w) u
+  seed-run u = left-last l (left-on (left-all at (stringOf 3 (ascii "seed") ++ secretOf (seedIn pool v)) x l) w) u
 
   pub null-run : v ≡ seed.Null → Put a (0xF6 ∷ []) y z r → Put at (seedFieldOf pool v) x z r
   unfolding secretOf seedIn
   null-run e u = seed-run (rw e u)
 
-  pub bytes-run : (start len : ℕ) (bs : List ℕ) → v ≡ seed.Bytes start len → bs ≡ partAt pool (record { start = start; len = len }) → Put a (stringOf 2 bs) y z r → Put at (seedFieldOf pool v) x z r
+  pub bytes-run : (span : Span) (bs : List ℕ) → v ≡ seed.Bytes span → bs ≡ partAt pool span → Put a (stringOf 2 bs) y z r → Put at (seedFieldOf pool v) x z r
   unfolding secretOf seedIn
-  bytes-run start len bs e p u = seed-run (rw (e, ← p) u)
+  bytes-run span bs e p u = seed-run (rw (e, ← p) u)
 
-module _ (v : Created) (at : ℕ) (x : List ℕ) (l : at + length (createdFieldOf v) ≤ length x) (a : ℕ) (y : List ℕ) (w : Put at (stringOf 3 createdKey) x y a) (z : List ℕ) (r : ℕ) where
+module _ (v : Created) (at : ℕ) (x : List ℕ) (l : at + length (createdFieldOf v) ≤ length x) (a : ℕ) (y : List ℕ) (w : Put at (stringOf 3 (ascii "created")) x y a) (z : List ℕ) (r : ℕ) where
   created-run : Put a (createdOf v) y z r → Put at (createdFieldOf v) x z r
   unfolding createdFieldOf
-  created-run u = left-last l (left-on (left-all at (stringOf 3 createdKey ++ createdOf v) x l) w) u
+  created-run u = left-last l (left-on (left-all at (stringOf 3 (ascii "created") ++ createdOf v) x l) w) u
 
   pub integer-run : (negative : Bool) (n : ℕ) → v ≡ created.Integer negative n → Put a (integerOf negative n) y z r → Put at (createdFieldOf v) x z r
   unfolding createdOf
@@ -116,27 +116,27 @@ module _ (at : ℕ) (x z : List ℕ) (r : ℕ) (sealed : Bool) where
 -- ---- before and after the files
 
 module _ (pool : List ℕ) (m : Manifest) (x : List ℕ) (l : length (openingOf pool m) ≤ length x) (a : ℕ) (x₁ : List ℕ) (w₁ : Put 0 (0xA5 ∷ []) x x₁ a) where
-  opening-left : Left 0 (openingOf pool m) x x₁ a (seedFieldOf pool (m .seed) ++ (stringOf 3 filesKey ++ headOf 4 (m .count)))
+  opening-left : Left 0 (openingOf pool m) x x₁ a (seedFieldOf pool (m .seed) ++ (stringOf 3 (ascii "files") ++ headOf 4 (m .count)))
   unfolding openingOf
   opening-left = left-on (left-all 0 (openingOf pool m) x (omega arith)) w₁
 
   pub seed-room : a + length (seedFieldOf pool (m .seed)) ≤ length x₁
-  seed-room = omega (arith, opening-left .room, length-append (seedFieldOf pool (m .seed)) (stringOf 3 filesKey ++ headOf 4 (m .count)))
+  seed-room = omega (arith, opening-left .room, length-append (seedFieldOf pool (m .seed)) (stringOf 3 (ascii "files") ++ headOf 4 (m .count)))
 
-  pub opening-run : (b c r : ℕ) (x₂ x₃ z : List ℕ) → Put a (seedFieldOf pool (m .seed)) x₁ x₂ b → Put b (stringOf 3 filesKey) x₂ x₃ c → Put c (headOf 4 (m .count)) x₃ z r
+  pub opening-run : (b c r : ℕ) (x₂ x₃ z : List ℕ) → Put a (seedFieldOf pool (m .seed)) x₁ x₂ b → Put b (stringOf 3 (ascii "files")) x₂ x₃ c → Put c (headOf 4 (m .count)) x₃ z r
       → Put 0 (openingOf pool m) x z r
   opening-run b c r x₂ x₃ z w₂ w₃ w₄ = left-last (omega arith) (left-on (left-on opening-left w₂) w₃) w₄
 
-module _ (m : Manifest) (at : ℕ) (x : List ℕ) (l : at + length (closingOf m) ≤ length x) (a b : ℕ) (x₁ x₂ : List ℕ) (w₁ : Put at (stringOf 3 sealedKey) x x₁ a)
+module _ (m : Manifest) (at : ℕ) (x : List ℕ) (l : at + length (closingOf m) ≤ length x) (a b : ℕ) (x₁ x₂ : List ℕ) (w₁ : Put at (stringOf 3 (ascii "sealed")) x x₁ a)
     (w₂ : Put a (choose (m .sealed) 0xF5 0xF4 ∷ []) x₁ x₂ b) where
-  closing-left : Left at (closingOf m) x x₂ b (createdFieldOf (m .created) ++ numberFieldOf versionKey 1)
+  closing-left : Left at (closingOf m) x x₂ b (createdFieldOf (m .created) ++ numberFieldOf (ascii "version") 1)
   unfolding closingOf
   closing-left = left-on (left-on (left-all at (closingOf m) x l) w₁) w₂
 
   pub created-room : b + length (createdFieldOf (m .created)) ≤ length x₂
-  created-room = omega (arith, closing-left .room, length-append (createdFieldOf (m .created)) (numberFieldOf versionKey 1))
+  created-room = omega (arith, closing-left .room, length-append (createdFieldOf (m .created)) (numberFieldOf (ascii "version") 1))
 
-  pub closing-run : (c r : ℕ) (x₃ z : List ℕ) → Put b (createdFieldOf (m .created)) x₂ x₃ c → Put c (numberFieldOf versionKey 1) x₃ z r → Put at (closingOf m) x z r
+  pub closing-run : (c r : ℕ) (x₃ z : List ℕ) → Put b (createdFieldOf (m .created)) x₂ x₃ c → Put c (numberFieldOf (ascii "version") 1) x₃ z r → Put at (closingOf m) x z r
   closing-run c r x₃ z w₃ w₄ = left-last l (left-on closing-left w₃) w₄
 
 -- ---- the whole
@@ -156,7 +156,7 @@ module _ (pool : List ℕ) (m : Manifest) (x : List ℕ) (h : Ready pool m x) wh
   forms : manifestOf pool (listed m) ≡ openingOf pool m ++ (formOf (filesVerdict pool [] (take (m .count) (m .files))) ++ closingOf m)
   unfolding manifestOf saidOf saidIn listed seedFieldOf createdFieldOf openingOf closingOf
   forms =
-      ap₂ (λ (n : ℕ) (es : List ℕ). (0xA5 ∷ []) ++ (seedFieldOf pool (m .seed) ++ (stringOf 3 filesKey ++ (headOf 4 n ++ (es ++ closingOf m)))))
+      ap₂ (λ (n : ℕ) (es : List ℕ). (0xA5 ∷ []) ++ (seedFieldOf pool (m .seed) ++ (stringOf 3 (ascii "files") ++ (headOf 4 n ++ (es ++ closingOf m)))))
       count-is (sym files-form)
       ∙ sym (simp append-assoc)
 

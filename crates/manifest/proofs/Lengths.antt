@@ -16,7 +16,7 @@ use Rattle.wire.proofs.Cases.{both-hold, said-yes, passed, done-value, then-don
 use Rattle.wire.proofs.Digits.{length-digits}
 use Rattle.wire.specs.Span.{partAt}
 use Rattle.cbor.specs.Form.{headOf, headSize, stringOf, doubleOf, numberFieldOf}
-use Rattle.cbor.specs.Names.{seedKey, filesKey, sealedKey, createdKey, versionKey}
+use Rattle.wire.specs.Ascii.{ascii}
 use Rattle.cbor.proofs.Sizes.{length-head, length-string, length-number-field-one, size-one, size-two, size-most}
 use Rattle.entry.specs.Writing.{entryIn, integerOf}
 use Rattle.entry.specs.declared.File.{File}
@@ -24,7 +24,7 @@ use Rattle.entry.proofs.Sizes.{part-length}
 use Rattle.entry.proofs.Writers.{digest-within, done-verdict, refused-verdict}
 use Rattle.manifest.specs.Manifest.{agrees}
 use Rattle.manifest.specs.Writing.{Said, seedIn, saidIn, secretOf, entriesOf, createdOf, saidOf, manifestOf, seedAllowed, filesVerdict, createdAllowed, listed, manifestVerdict}
-use Rattle.manifest.specs.Parts.{seedSize, createdSize}
+use Rattle.manifest.specs.Private.{seedSize, createdSize}
 use Rattle.manifest.specs.declared.Seed.{Seed}
 use Rattle.manifest.specs.declared.Seed.the-variants as seed
 use Rattle.manifest.specs.declared.Created.{Created}
@@ -37,10 +37,10 @@ use Rattle.manifest.proofs.Judging.{AllGood, files-good, good-files, fi
 pub seed-length : (pool : List ℕ) (v : Seed) → seedAllowed pool v ≡ true → length (secretOf (seedIn pool v)) ≡ seedSize v
 unfolding seedAllowed seedIn secretOf seedSize
 seed-length pool seed.Null h = refl
-seed-length pool (seed.Bytes start len) h =
-    let d = digest-within pool (record { start = start; len = len }) h in
-    let l = part-length pool (record { start = start; len = len }) (d .0) ∙ d .1 in
-    omega (arith, length-string 2 (partAt pool (record { start = start; len = len })), l, size-32 l)
+seed-length pool (seed.Bytes span) h =
+    let d = digest-within pool span h in
+    let l = part-length pool span (d .0) ∙ d .1 in
+    omega (arith, length-string 2 (partAt pool span), l, size-32 l)
   where
     size-32 : {n : ℕ} → n ≡ 32 → headSize n ≡ 2
     size-32 {n} e = size-two n (omega arith) (omega arith)
@@ -48,7 +48,7 @@ seed-length pool (seed.Bytes start len) h =
 pub seed-most : (v : Seed) → seedSize v ≤ 34
 unfolding seedSize
 seed-most seed.Null = omega arith
-seed-most (seed.Bytes start len) = omega arith
+seed-most (seed.Bytes span) = omega arith
 
 pub created-length : (v : Created) → length (createdOf v) ≡ createdSize v
 unfolding createdOf createdSize integerOf doubleOf
@@ -64,14 +64,14 @@ created-most (created.Double bits) = omega arith
 said-length : (v : Said) → length (saidOf v) ≡ 37 + length (secretOf (v .seed)) + headSize (length (v .files)) + length (entriesOf (v .files)) + length (createdOf (v .created))
 unfolding saidOf
 said-length v =
-    let A : List ℕ = stringOf 3 seedKey ++ secretOf (v .seed) in
-    let K : List ℕ = stringOf 3 filesKey in
+    let A : List ℕ = stringOf 3 (ascii "seed") ++ secretOf (v .seed) in
+    let K : List ℕ = stringOf 3 (ascii "files") in
     let N : List ℕ = headOf 4 (length (v .files)) in
     let E : List ℕ = entriesOf (v .files) in
-    let S : List ℕ = stringOf 3 sealedKey in
+    let S : List ℕ = stringOf 3 (ascii "sealed") in
     let B : List ℕ = choose (v .sealed) 0xF5 0xF4 ∷ [] in
-    let C : List ℕ = stringOf 3 createdKey ++ createdOf (v .created) in
-    let L : List ℕ = numberFieldOf versionKey 1 in
+    let C : List ℕ = stringOf 3 (ascii "created") ++ createdOf (v .created) in
+    let L : List ℕ = numberFieldOf (ascii "version") 1 in
     omega (
       arith,
       length-append A (K ++ (N ++ (E ++ (S ++ (B ++ (C ++ L)))))),
@@ -81,14 +81,14 @@ said-length v =
       length-append S (B ++ (C ++ L)),
       length-append B (C ++ L),
       length-append C L,
-      length-append (stringOf 3 seedKey) (secretOf (v .seed)),
-      length-append (stringOf 3 createdKey) (createdOf (v .created)),
-      length-string 3 seedKey,
-      length-string 3 filesKey,
-      length-string 3 sealedKey,
-      length-string 3 createdKey,
+      length-append (stringOf 3 (ascii "seed")) (secretOf (v .seed)),
+      length-append (stringOf 3 (ascii "created")) (createdOf (v .created)),
+      length-string 3 (ascii "seed"),
+      length-string 3 (ascii "files"),
+      length-string 3 (ascii "sealed"),
+      length-string 3 (ascii "created"),
       length-head 4 (length (v .files)),
-      length-number-field-one versionKey 1 (omega arith) (omega arith),
+      length-number-field-one (ascii "version") 1 (omega arith) (omega arith),
       size-one 4 (omega arith),
       size-one 5 (omega arith),
       size-one 6 (omega arith),

@@ -14,7 +14,7 @@ use Rattle.wire.proofs.Standing.{Stands, stands-none, stands-first, stands-seco
 use Rattle.wire.specs.Span.{partAt}
 use Rattle.cbor.specs.Form.{infoOf, widthOf, headOf, stringOf, doubleOf}
 use Rattle.cbor.specs.Item.{byteAt, numberAt, keyAt, stringAt, doubleAt}
-use Rattle.cbor.specs.Names.{seedKey, filesKey, sealedKey, createdKey}
+use Rattle.wire.specs.Ascii.{ascii}
 use Rattle.cbor.proofs.Sizes.{info-most, either}
 use Rattle.cbor.proofs.Within.{number-within, string-within}
 use Rattle.cbor.proofs.Written.{kind-bytes, kind-array, byte-back, double-back, key-back, number-back, string-back}
@@ -48,32 +48,32 @@ string-first bs v = (
   omega (arith, info-most (length bs)),
 )
 
-pub seed-back : {s : List ℕ} {at next : ℕ} (v : Secret) → SecretLong v → Stands s at (stringOf 3 seedKey ++ secretOf v) next → (w : Seed) × (seedAt s at ≡ got w next) × (seedIn s w ≡ v)
+pub seed-back : {s : List ℕ} {at next : ℕ} (v : Secret) → SecretLong v → Stands s at (stringOf 3 (ascii "seed") ++ secretOf v) next → (w : Seed) × (seedAt s at ≡ got w next) × (seedIn s w ≡ v)
 unfolding seedAt secretOf seedIn
 seed-back none l h =
-    let k = stands-first (stringOf 3 seedKey) (0xF6 ∷ []) h in
-    let v = stands-second (stringOf 3 seedKey) (0xF6 ∷ []) h in
-    (seed.Null, rw (key-back seedKey (omega arith) k, byte-back 0xF6 v), refl)
+    let k = stands-first (stringOf 3 (ascii "seed")) (0xF6 ∷ []) h in
+    let v = stands-second (stringOf 3 (ascii "seed")) (0xF6 ∷ []) h in
+    (seed.Null, rw (key-back (ascii "seed") (omega arith) k, byte-back 0xF6 v), refl)
 seed-back {s} {at} {next} (some bs) l h =
-    let k = stands-first (stringOf 3 seedKey) (stringOf 2 bs) h in
-    let v = stands-second (stringOf 3 seedKey) (stringOf 2 bs) h in
+    let k = stands-first (stringOf 3 (ascii "seed")) (stringOf 2 bs) h in
+    let v = stands-second (stringOf 3 (ascii "seed")) (stringOf 2 bs) h in
     let r = string-back 2 32 32 19 kind-bytes bs (omega arith) (omega arith) (omega arith) v in
     let b = string-first bs v in (
-      seed.Bytes (r .0 .start) (r .0 .len),
-      rw (key-back seedKey (omega arith) k, b .1, ne-eqb (b .0) 0xF6 (omega (arith, b .2)), r .1),
+      seed.Bytes (r .0),
+      rw (key-back (ascii "seed") (omega arith) k, b .1, ne-eqb (b .0) 0xF6 (omega (arith, b .2)), r .1),
       ap some (r .2 .part),
     )
 
-pub seed-only : {s : List ℕ} {at next : ℕ} {v : Seed} → Bytes s → seedAt s at ≡ got v next → Stands s at (stringOf 3 seedKey ++ secretOf (seedIn s v)) next × (seedAllowed s v ≡ true)
+pub seed-only : {s : List ℕ} {at next : ℕ} {v : Seed} → Bytes s → seedAt s at ≡ got v next → Stands s at (stringOf 3 (ascii "seed") ++ secretOf (seedIn s v)) next × (seedAllowed s v ≡ true)
 unfolding seedAt secretOf seedIn seedAllowed
 seed-only {s} {at} {next} {v} y e =
-    let k = then-passed (keyAt s at seedKey) _ e in
+    let k = then-passed (keyAt s at (ascii "seed")) _ e in
     let b = then-passed (byteAt s (k .1)) _ (k .3) in
     let r = value (k .1) (b .0) (b .1) (b .2) (b .3) in
-    (stands-join (key-only seedKey (k .2) .0) (r .0), r .1)
+    (stands-join (key-only (ascii "seed") (k .2) .0) (r .0), r .1)
   where
     value : (a x p : ℕ) → byteAt s a ≡ got x p
-        → choose (eqb x 0xF6) (got seed.Null p) (then (stringAt s a 2 32 32 19) (λ (v, next). got (seed.Bytes (v .start) (v .len)) next)) ≡ got v next
+        → choose (eqb x 0xF6) (got seed.Null p) (then (stringAt s a 2 32 32 19) (λ (v, next). got (seed.Bytes v) next)) ≡ got v next
         → Stands s a (secretOf (seedIn s v)) next × (seedAllowed s v ≡ true)
     value a x p b = either (λ (g : Got Seed). g ≡ got v next → Stands s a (secretOf (seedIn s v)) next × (seedAllowed s v ≡ true)) (eqb x 0xF6) null whole
       where
@@ -82,16 +82,16 @@ seed-only {s} {at} {next} {v} y e =
             subst (λ (v : Seed). Stands s a (secretOf (seedIn s v)) next × (seedAllowed s v ≡ true)) (got-value g)
             (stands-as (ap (λ (z : ℕ). z ∷ []) (eqb-true x 0xF6 q)) (got-next g) (byte-only b), refl)
 
-        whole : eqb x 0xF6 ≡ false → then (stringAt s a 2 32 32 19) (λ (v, next). got (seed.Bytes (v .start) (v .len)) next) ≡ got v next
+        whole : eqb x 0xF6 ≡ false → then (stringAt s a 2 32 32 19) (λ (v, next). got (seed.Bytes v) next) ≡ got v next
             → Stands s a (secretOf (seedIn s v)) next × (seedAllowed s v ≡ true)
         whole q g =
-            let i = then-passed (stringAt s a 2 32 32 19) (λ (v, next). got (seed.Bytes (v .start) (v .len)) next) g in
-            let f : seed.Bytes (i .0 .start) (i .0 .len) ≡ v = got-value (i .3) in
+            let i = then-passed (stringAt s a 2 32 32 19) (λ (v, next). got (seed.Bytes v) next) g in
+            let f : seed.Bytes (i .0) ≡ v = got-value (i .3) in
             let n : i .1 ≡ next = got-next (i .3) in
             let w = string-within s a 2 32 32 19 (i .2) in
             subst (λ (v : Seed). Stands s a (secretOf (seedIn s v)) next × (seedAllowed s v ≡ true)) f (
               stands-as refl n (string-only 2 32 32 19 y (i .2) .0),
-              within-digest s (record { start = i .0 .start; len = i .0 .len }) (omega (arith, w .0, w .1)) (omega (arith, w .2, w .3)),
+              within-digest s (i .0) (omega (arith, w .0, w .1)) (omega (arith, w .2, w .3)),
             )
 
 -- ---- the files
@@ -133,17 +133,17 @@ files-only {s} {next} at prev (suc k) {fs} y l e =
     (stands-join (p .0) (stands-as refl n (r .0)), (p .1, r .1), ap suc (r .2))
 
 -- the key, the head and the files
-pub list-back : {s : List ℕ} {at a b next : ℕ} (es : List Entry) → AllSound [] es → 1 ≤ length es → length es ≤ 64 → Stands s at (stringOf 3 filesKey) a → Stands s a (headOf 4 (length es)) b
+pub list-back : {s : List ℕ} {at a b next : ℕ} (es : List Entry) → AllSound [] es → 1 ≤ length es → length es ≤ 64 → Stands s at (stringOf 3 (ascii "files")) a → Stands s a (headOf 4 (length es)) b
     → Stands s b (entriesOf es) next → (fs : List File) × (listAt s at ≡ got fs next) × (map (entryIn s) fs ≡ es)
 unfolding listAt
 list-back es g l m h₁ h₂ h₃ =
     let r = files-back [] es g h₃ in
-    (r .0, rw (key-back filesKey (omega arith) h₁, number-back 4 1 64 19 kind-array (length es) (omega arith) l m h₂) (r .1), r .2)
+    (r .0, rw (key-back (ascii "files") (omega arith) h₁, number-back 4 1 64 19 kind-array (length es) (omega arith) l m h₂) (r .1), r .2)
 
 pub record Listed (s : List ℕ) (at : ℕ) (fs : List File) (next : ℕ) : Type 0 where
   pub after-key : ℕ
   pub after-head : ℕ
-  pub key-stands : Stands s at (stringOf 3 filesKey) after-key
+  pub key-stands : Stands s at (stringOf 3 (ascii "files")) after-key
   pub head-stands : Stands s after-key (headOf 4 (length fs)) after-head
   pub files-stand : Stands s after-head (entriesOf (map (entryIn s) fs)) next
   pub good : AllGood s [] fs
@@ -153,7 +153,7 @@ pub record Listed (s : List ℕ) (at : ℕ) (fs : List File) (next : ℕ) : Type
 pub list-only : {s : List ℕ} {at next : ℕ} {fs : List File} → Bytes s → listAt s at ≡ got fs next → Listed s at fs next
 unfolding listAt
 list-only {s} {at} {next} {fs} y e =
-    let k = then-passed (keyAt s at filesKey) _ e in
+    let k = then-passed (keyAt s at (ascii "files")) _ e in
     let n = then-passed (numberAt s (k .1) 4 1 64 19) _ (k .3) in
     let w = number-within s (k .1) 4 1 64 19 (n .2) in
     let h = number-only 4 1 64 19 y (n .2) in
@@ -161,7 +161,7 @@ list-only {s} {at} {next} {fs} y e =
     record {
       after-key = k .1;
       after-head = n .1;
-      key-stands = key-only filesKey (k .2) .0;
+      key-stands = key-only (ascii "files") (k .2) .0;
       head-stands = stands-as (ap (headOf 4) (sym (r .2))) refl (h .0);
       files-stand = r .0;
       good = r .1;
@@ -179,18 +179,18 @@ sealed-range : (b : Bool) → (0xF4 ≤ choose b 0xF5 0xF4) × (choose b 0xF5 0x
 sealed-range true = (omega arith, omega arith)
 sealed-range false = (omega arith, omega arith)
 
-pub sealed-back : {s : List ℕ} {at a next : ℕ} (v : Seed) (b : Bool) → agrees v b ≡ true → Stands s at (stringOf 3 sealedKey) a → Stands s a (choose b 0xF5 0xF4 ∷ []) next
+pub sealed-back : {s : List ℕ} {at a next : ℕ} (v : Seed) (b : Bool) → agrees v b ≡ true → Stands s at (stringOf 3 (ascii "sealed")) a → Stands s a (choose b 0xF5 0xF4 ∷ []) next
     → sealedAt s at v ≡ got b next
 unfolding sealedAt
 sealed-back {s} {at} {a} {next} v b g h₁ h₂ =
     let x : ℕ = choose b 0xF5 0xF4 in
     let r = sealed-range b in
-    rw (key-back sealedKey (omega arith) h₁, byte-back (choose b 0xF5 0xF4) h₂)
+    rw (key-back (ascii "sealed") (omega arith) h₁, byte-back (choose b 0xF5 0xF4) h₂)
     (rw (le-leb 0xF4 (choose b 0xF5 0xF4) (r .0), le-leb (choose b 0xF5 0xF4) 0xF5 (r .1), sealed-byte b, g))
 
 pub record Flagged (s : List ℕ) (at : ℕ) (v : Seed) (b : Bool) (next : ℕ) : Type 0 where
   pub after-key : ℕ
-  pub key-stands : Stands s at (stringOf 3 sealedKey) after-key
+  pub key-stands : Stands s at (stringOf 3 (ascii "sealed")) after-key
   pub byte-stands : Stands s after-key (choose b 0xF5 0xF4 ∷ []) next
   pub agreed : agrees v b ≡ true
 
@@ -201,7 +201,7 @@ flag-of x l m = either (λ (k : ℕ). x ≡ k) (eqb x 0xF5) (λ t. eqb-true x 0x
 pub sealed-only : {s : List ℕ} {at next : ℕ} {v : Seed} {b : Bool} → sealedAt s at v ≡ got b next → Flagged s at v b next
 unfolding sealedAt
 sealed-only {s} {at} {next} {v} {b} e =
-    let k = then-passed (keyAt s at sealedKey) _ e in
+    let k = then-passed (keyAt s at (ascii "sealed")) _ e in
     let c = then-passed (byteAt s (k .1)) _ (k .3) in
     let p = passed (leb 0xF4 (c .0)) _ 18 (c .3) in
     let q = passed (leb (c .0) 0xF5) _ 18 (p .1) in
@@ -211,7 +211,7 @@ sealed-only {s} {at} {next} {v} {b} e =
     let x = flag-of (c .0) (leb-true 0xF4 (c .0) (p .0)) (leb-true (c .0) 0xF5 (q .0)) in
     record {
       after-key = k .1;
-      key-stands = key-only sealedKey (k .2) .0;
+      key-stands = key-only (ascii "sealed") (k .2) .0;
       byte-stands = stands-as (ap (λ (z : ℕ). z ∷ []) (x ∙ ap (λ (t : Bool). choose t 0xF5 0xF4) f)) n (byte-only (c .2));
       agreed = ap (agrees v) (sym f) ∙ r .0;
     }
@@ -226,27 +226,27 @@ finite-back : {s : List ℕ} {at next : ℕ} (bits : ℕ) → bits < 2 ^ 64 → 
 unfolding finiteAt
 finite-back bits t a v = rw (double-back bits t v, a)
 
-pub created-back : {s : List ℕ} {at next : ℕ} (v : Created) → CreatedFits v → createdAllowed v ≡ true → Stands s at (stringOf 3 createdKey ++ createdOf v) next → createdAt s at ≡ got v next
+pub created-back : {s : List ℕ} {at next : ℕ} (v : Created) → CreatedFits v → createdAllowed v ≡ true → Stands s at (stringOf 3 (ascii "created") ++ createdOf v) next → createdAt s at ≡ got v next
 unfolding createdAt createdOf createdAllowed
 created-back (created.Integer negative n) t a h =
-    let k = stands-first (stringOf 3 createdKey) (integerOf negative n) h in
-    let v = stands-second (stringOf 3 createdKey) (integerOf negative n) h in
+    let k = stands-first (stringOf 3 (ascii "created")) (integerOf negative n) h in
+    let v = stands-second (stringOf 3 (ascii "created")) (integerOf negative n) h in
     let l = ltb-true n 9223372036854775808 a in
     let b = integer-first negative n l v in
-    rw (key-back createdKey (omega arith) k, b .1, ne-eqb (b .0) 0xFB (omega (arith, b .2)), integer-back negative n l v, sign-major negative)
+    rw (key-back (ascii "created") (omega arith) k, b .1, ne-eqb (b .0) 0xFB (omega (arith, b .2)), integer-back negative n l v, sign-major negative)
 created-back {s} {at} {next} (created.Double bits) t a h =
-    let k = stands-first (stringOf 3 createdKey) (doubleOf bits) h in
-    let v = stands-second (stringOf 3 createdKey) (doubleOf bits) h in
-    rw (key-back createdKey (omega arith) k, double-first bits v) (finite-back bits t a v)
+    let k = stands-first (stringOf 3 (ascii "created")) (doubleOf bits) h in
+    let v = stands-second (stringOf 3 (ascii "created")) (doubleOf bits) h in
+    rw (key-back (ascii "created") (omega arith) k, double-first bits v) (finite-back bits t a v)
 
 pub created-only : {s : List ℕ} {at next : ℕ} {v : Created} → Bytes s → createdAt s at ≡ got v next
-    → Stands s at (stringOf 3 createdKey ++ createdOf v) next × (createdAllowed v ≡ true) × CreatedFits v
+    → Stands s at (stringOf 3 (ascii "created") ++ createdOf v) next × (createdAllowed v ≡ true) × CreatedFits v
 unfolding createdAt finiteAt createdOf createdAllowed
 created-only {s} {at} {next} {v} y e =
-    let k = then-passed (keyAt s at createdKey) _ e in
+    let k = then-passed (keyAt s at (ascii "created")) _ e in
     let b = then-passed (byteAt s (k .1)) _ (k .3) in
     let r = value (k .1) (b .0) (b .3) in
-    (stands-join (key-only createdKey (k .2) .0) (r .0), r .1, r .2)
+    (stands-join (key-only (ascii "created") (k .2) .0) (r .0), r .1, r .2)
   where
     value : (a x : ℕ) → choose (eqb x 0xFB) (finiteAt s a) (then (integerAt s a) (λ (h, next). got (created.Integer (eqb (h .major) 1) (h .number)) next)) ≡ got v next
         → Stands s a (createdOf v) next × (createdAllowed v ≡ true) × CreatedFits v

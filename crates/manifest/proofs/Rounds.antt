@@ -15,7 +15,7 @@ use Rattle.wire.proofs.Standing.{Stands, stands-whole, stands-all, stands-first
 use Rattle.wire.specs.Span.{partAt}
 use Rattle.cbor.specs.Form.{headOf, stringOf, numberFieldOf}
 use Rattle.cbor.specs.Item.{oneAt, numberAt, keyAt, numberFieldAt}
-use Rattle.cbor.specs.Names.{seedKey, filesKey, sealedKey, createdKey, versionKey}
+use Rattle.wire.specs.Ascii.{ascii}
 use Rattle.cbor.proofs.Within.{number-within, number-field-within}
 use Rattle.cbor.proofs.Written.{one-back, number-field-back}
 use Rattle.cbor.proofs.Only.{one-only, number-field-only}
@@ -73,7 +73,7 @@ pub record Ended (s : List ℕ) (at : ℕ) (key : Seed) (v : Ending) (next : ℕ
   pub version : ℕ
   pub sealed-read : sealedAt s at key ≡ got (v .sealed) after-sealed
   pub created-read : createdAt s after-sealed ≡ got (v .created) after-created
-  pub version-read : numberFieldAt s after-created versionKey 1 1 ≡ got version next
+  pub version-read : numberFieldAt s after-created (ascii "version") 1 1 ≡ got version next
   pub ends : next ≡ length s
 
 end-steps : (s : List ℕ) (at : ℕ) (key : Seed) {v : Ending} {next : ℕ} → endAt s at key ≡ got v next → Ended s at key v next
@@ -81,7 +81,7 @@ unfolding endAt
 end-steps s at key {v} {next} e =
     let t₁ = then-passed (sealedAt s at key) _ e in
     let t₂ = then-passed (createdAt s (t₁ .1)) _ (t₁ .3) in
-    let t₃ = then-passed (numberFieldAt s (t₂ .1) versionKey 1 1) _ (t₂ .3) in
+    let t₃ = then-passed (numberFieldAt s (t₂ .1) (ascii "version") 1 1) _ (t₂ .3) in
     let u = passed (eqb (t₃ .1) (length s)) (got (record { sealed = t₁ .0; created = t₂ .0 }) (t₃ .1)) 3 (t₃ .3) in
     subst (λ (v : Ending). Ended s at key v next) (got-value (u .1))
     (subst (λ (k : ℕ). Ended s at key (record { sealed = t₁ .0; created = t₂ .0 }) k) (got-next (u .1))
@@ -130,7 +130,7 @@ pub manifest-within : (s : List ℕ) {v : Listing} {next : ℕ} → manifestAt s
 unfolding listAt
 manifest-within s {v} e =
     let t = manifest-steps s e in
-    let k = then-passed (keyAt s (t .after-seed) filesKey) _ (t .files-read) in
+    let k = then-passed (keyAt s (t .after-seed) (ascii "files")) _ (t .files-read) in
     let n = then-passed (numberAt s (k .1) 4 1 64 19) _ (k .3) in
     let w = number-within s (k .1) 4 1 64 19 (n .2) in
     let r = files-inside s (n .0) (n .1) [] (n .3) in
@@ -141,17 +141,17 @@ manifest-within s {v} e =
 secret-long : (pool : List ℕ) (v : Seed) → seedAllowed pool v ≡ true → SecretLong (seedIn pool v)
 unfolding seedAllowed seedIn
 secret-long pool seed.Null h = tt
-secret-long pool (seed.Bytes start len) h =
-    let d = digest-within pool (record { start = start; len = len }) h in
-    part-length pool (record { start = start; len = len }) (d .0) ∙ d .1
+secret-long pool (seed.Bytes span) h =
+    let d = digest-within pool span h in
+    part-length pool span (d .0) ∙ d .1
 
 -- sealed agrees with what the seed says, wherever its place is
 agrees-said : (pool s : List ℕ) (v w : Seed) (b : Bool) → seedIn s w ≡ seedIn pool v → agrees v b ≡ agrees w b
 unfolding seedIn agrees
 agrees-said pool s seed.Null seed.Null b e = refl
-agrees-said pool s seed.Null (seed.Bytes i l) b e = let z : _≡_ {A = ℕ} 0 1 = cc in absurd (omega arith)
-agrees-said pool s (seed.Bytes i l) seed.Null b e = let z : _≡_ {A = ℕ} 0 1 = cc in absurd (omega arith)
-agrees-said pool s (seed.Bytes i l) (seed.Bytes j k) b e = refl
+agrees-said pool s seed.Null (seed.Bytes i) b e = let z : _≡_ {A = ℕ} 0 1 = cc in absurd (omega arith)
+agrees-said pool s (seed.Bytes i) seed.Null b e = let z : _≡_ {A = ℕ} 0 1 = cc in absurd (omega arith)
+agrees-said pool s (seed.Bytes i) (seed.Bytes j) b e = refl
 
 -- a payload that stands in s, by what it says
 said-back : (s : List ℕ) (v : Said) (w : (x : Seed) → seedIn s x ≡ v .seed → agrees x (v .sealed) ≡ true) → SecretLong (v .seed) → AllSound [] (v .files) → 1 ≤ length (v .files) → length (v .files) ≤ 64
@@ -159,14 +159,14 @@ said-back : (s : List ℕ) (v : Said) (w : (x : Seed) → seedIn s x ≡ v .seed
     → (r : Listing) × (manifestAt s ≡ got r (length s)) × (saidIn s r ≡ v)
 unfolding manifestAt endAt saidOf saidIn
 said-back s v w sl fs a b ca cf l t₀ =
-    let S : List ℕ = stringOf 3 seedKey ++ secretOf (v .seed) in
-    let K : List ℕ = stringOf 3 filesKey in
+    let S : List ℕ = stringOf 3 (ascii "seed") ++ secretOf (v .seed) in
+    let K : List ℕ = stringOf 3 (ascii "files") in
     let N : List ℕ = headOf 4 (length (v .files)) in
     let E : List ℕ = entriesOf (v .files) in
-    let Q : List ℕ = stringOf 3 sealedKey in
+    let Q : List ℕ = stringOf 3 (ascii "sealed") in
     let B : List ℕ = choose (v .sealed) 0xF5 0xF4 ∷ [] in
-    let C : List ℕ = stringOf 3 createdKey ++ createdOf (v .created) in
-    let L : List ℕ = numberFieldOf versionKey 1 in
+    let C : List ℕ = stringOf 3 (ascii "created") ++ createdOf (v .created) in
+    let L : List ℕ = numberFieldOf (ascii "version") 1 in
     let t₁ = stands-second (0xA5 ∷ []) (S ++ (K ++ (N ++ (E ++ (Q ++ (B ++ (C ++ L))))))) t₀ in
     let t₂ = stands-second S (K ++ (N ++ (E ++ (Q ++ (B ++ (C ++ L)))))) t₁ in
     let t₃ = stands-second K (N ++ (E ++ (Q ++ (B ++ (C ++ L))))) t₂ in
@@ -178,7 +178,7 @@ said-back s v w sl fs a b ca cf l t₀ =
     let r₂ = list-back (v .files) fs a b (stands-first K (N ++ (E ++ (Q ++ (B ++ (C ++ L))))) t₂) (stands-first N (E ++ (Q ++ (B ++ (C ++ L)))) t₃) (stands-first E (Q ++ (B ++ (C ++ L))) t₄) in
     let r₃ = sealed-back (r₁ .0) (v .sealed) (w (r₁ .0) (r₁ .2)) (stands-first Q (B ++ (C ++ L)) t₅) (stands-first B (C ++ L) t₆) in
     let r₄ = created-back (v .created) cf ca (stands-first C L t₇) in
-    let r₅ = number-field-back versionKey 1 1 1 (omega arith) (omega arith) (omega arith) (omega arith) (stands-second C L t₇) in (
+    let r₅ = number-field-back (ascii "version") 1 1 1 (omega arith) (omega arith) (omega arith) (omega arith) (stands-second C L t₇) in (
       record { seed = r₁ .0; files = r₂ .0; sealed = v .sealed; created = v .created },
       rw (
         le-leb (length s) 16384 l,
@@ -235,9 +235,9 @@ manifest-only {s} {v} {next} y e =
     let b = list-only y (t .files-read) in
     let c = sealed-only (z .sealed-read) in
     let d = created-only y (z .created-read) in
-    let w = number-field-within s (z .after-created) versionKey 1 1 (z .version-read) in
+    let w = number-field-within s (z .after-created) (ascii "version") 1 1 (z .version-read) in
     let k : z .version ≡ 1 = omega (arith, w .0, w .1) in
-    let l : Stands s (z .after-created) (numberFieldOf versionKey 1) (length s) = stands-as (ap (numberFieldOf versionKey) k) (z .ends) (number-field-only versionKey 1 1 y (z .version-read)) in
+    let l : Stands s (z .after-created) (numberFieldOf (ascii "version") 1) (length s) = stands-as (ap (numberFieldOf (ascii "version")) k) (z .ends) (number-field-only (ascii "version") 1 1 y (z .version-read)) in
     let m : length (map (entryIn s) (v .files)) ≡ length (v .files) = length-map (v .files) (entryIn s) in
     let whole : s ≡ manifestOf s v =
     stands-all

@@ -6,9 +6,10 @@ use mathlib.Core.List.{List}
 use lib.Dec.{ltb}
 use Rattle.cbor.specs.Form.{headSize}
 use Rattle.entry.specs.Writing.{digestIn}
+use Rattle.wire.specs.declared.Span.{Span}
 use Rattle.manifest.specs.Manifest.{agrees, finite}
 use Rattle.manifest.specs.Writing.{seedAllowed, createdAllowed}
-use Rattle.manifest.specs.Parts.{seedSize, createdSize}
+use Rattle.manifest.specs.Private.{seedSize, createdSize}
 use Rattle.manifest.specs.declared.Seed.{Seed}
 use Rattle.manifest.specs.declared.Seed.the-variants as seed
 use Rattle.manifest.specs.declared.Created.{Created}
@@ -27,12 +28,12 @@ module _ (v : Seed) where
   unfolding seedSize
   size-null e = rw e
 
-  module _ (start len : ℕ) (e : v ≡ seed.Bytes start len) where
+  module _ (span : Span) (e : v ≡ seed.Bytes span) where
     pub agree-bytes : (sealed : Bool) → not sealed ≡ agrees v sealed
     unfolding agrees
     agree-bytes sealed = rw e
 
-    pub allowed-bytes : (pool : List ℕ) (b : Bool) → b ≡ digestIn pool (record { start = start; len = len }) → b ≡ seedAllowed pool v
+    pub allowed-bytes : (pool : List ℕ) (b : Bool) → b ≡ digestIn pool span → b ≡ seedAllowed pool v
     unfolding seedAllowed
     allowed-bytes pool b h = rw e h
 

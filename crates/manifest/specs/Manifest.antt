@@ -8,7 +8,7 @@ use Rattle.wire.specs.Answer.{choose, then, demand, Got, got}
 use Rattle.wire.specs.Sizes.{mostManifest, mostFiles}
 use Rattle.wire.specs.Span.{partAt}
 use Rattle.cbor.specs.Item.{byteAt, oneAt, numberAt, keyAt, stringAt, doubleAt, numberFieldAt}
-use Rattle.cbor.specs.Names.{seedKey, filesKey, sealedKey, createdKey, versionKey}
+use Rattle.wire.specs.Ascii.{ascii}
 use Rattle.entry.specs.File.{integerAt, fileAt}
 use Rattle.entry.specs.declared.File.{File}
 use Rattle.manifest.specs.declared.Seed.{Seed}
@@ -26,9 +26,9 @@ pub record Listing : Type 0 where
 -- null, which is F6, or 32 bytes
 unfoldable pub seedAt : List ℕ → ℕ → Got Seed
 seedAt s at =
-    then (keyAt s at seedKey) (λ (_, a).
+    then (keyAt s at (ascii "seed")) (λ (_, a).
     then (byteAt s a) (λ (x, p).
-    choose (eqb x 0xF6) (got seed.Null p) (then (stringAt s a 2 32 32 19) (λ (v, next). got (seed.Bytes (v .start) (v .len)) next))))
+    choose (eqb x 0xF6) (got seed.Null p) (then (stringAt s a 2 32 32 19) (λ (v, next). got (seed.Bytes v) next))))
 
 -- so many files, the first above prev and each above the one before it
 unfoldable pub filesAt : (s : List ℕ) (k at : ℕ) (prev : List ℕ) → Got (List File)
@@ -38,17 +38,17 @@ filesAt s (suc k) at prev =
 
 -- "1 to 64 files": every path is above the empty one
 unfoldable pub listAt : List ℕ → ℕ → Got (List File)
-listAt s at = then (keyAt s at filesKey) (λ (_, a). then (numberAt s a 4 1 mostFiles 19) (λ (k, p). filesAt s k p []))
+listAt s at = then (keyAt s at (ascii "files")) (λ (_, a). then (numberAt s a 4 1 mostFiles 19) (λ (k, p). filesAt s k p []))
 
 -- "sealed means seed null; unsealed means 32 bytes"
 unfoldable pub agrees : Seed → Bool → Bool
 agrees seed.Null sealed = sealed
-agrees (seed.Bytes start len) sealed = not sealed
+agrees (seed.Bytes span) sealed = not sealed
 
 -- true, which is F5, or false, which is F4; it is judged here whether it agrees with the seed
 unfoldable pub sealedAt : List ℕ → ℕ → Seed → Got Bool
 sealedAt s at key =
-    then (keyAt s at sealedKey) (λ (_, a).
+    then (keyAt s at (ascii "sealed")) (λ (_, a).
     then (byteAt s a) (λ (x, next).
     demand (leb 0xF4 x) 18 (demand (leb x 0xF5) 18 (demand (agrees key (eqb x 0xF5)) 19 (got (eqb x 0xF5) next)))))
 
@@ -62,7 +62,7 @@ finiteAt s at = then (doubleAt s at) (λ (bits, next). demand (finite bits) 19 (
 -- an integer, or FB with eight bytes
 unfoldable pub createdAt : List ℕ → ℕ → Got Created
 createdAt s at =
-    then (keyAt s at createdKey) (λ (_, a).
+    then (keyAt s at (ascii "created")) (λ (_, a).
     then (byteAt s a) (λ (x, _).
     choose (eqb x 0xFB) (finiteAt s a)
     (then (integerAt s a) (λ (h, next). got (created.Integer (eqb (h .major) 1) (h .number)) next))))
@@ -77,7 +77,7 @@ unfoldable pub endAt : List ℕ → ℕ → Seed → Got Ending
 endAt s at key =
     then (sealedAt s at key) (λ (sealed, a).
     then (createdAt s a) (λ (created, b).
-    then (numberFieldAt s b versionKey 1 1) (λ (_, next).
+    then (numberFieldAt s b (ascii "version") 1 1) (λ (_, next).
     demand (eqb next (length s)) 3 (got (record { sealed = sealed; created = created }) next))))
 
 -- "a manifest above 16,384 bytes is 9 before all else"; head A5: `seed`, `files`, `sealed`, `created`, `version`

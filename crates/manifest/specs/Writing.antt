@@ -9,7 +9,7 @@ use Rattle.wire.specs.Answer.{choose, Answer, done, then, demand}
 use Rattle.wire.specs.Sizes.{mostManifest, mostFiles}
 use Rattle.wire.specs.Span.{partAt}
 use Rattle.cbor.specs.Form.{headOf, stringOf, doubleOf, numberFieldOf}
-use Rattle.cbor.specs.Names.{seedKey, filesKey, sealedKey, createdKey, versionKey}
+use Rattle.wire.specs.Ascii.{ascii}
 use Rattle.entry.specs.Writing.{Entry, entryIn, entryOf, integerOf, digestIn, fileVerdict}
 use Rattle.entry.specs.declared.File.{File}
 use Rattle.manifest.specs.Manifest.{Listing, agrees, finite}
@@ -36,7 +36,7 @@ pub record Said : Type 0 where
 -- a seed whose place is in a pool
 unfoldable pub seedIn : List ℕ → Seed → Secret
 seedIn pool seed.Null = none
-seedIn pool (seed.Bytes start len) = some (partAt pool (record { start = start; len = len }))
+seedIn pool (seed.Bytes span) = some (partAt pool span)
 
 -- a manifest whose places are in a pool
 unfoldable pub saidIn : List ℕ → Listing → Said
@@ -61,12 +61,12 @@ createdOf (created.Double bits) = doubleOf bits
 unfoldable pub saidOf : Said → List ℕ
 saidOf v =
     (0xA5 ∷ [])
-    ++ ((stringOf 3 seedKey ++ secretOf (v .seed))
-    ++ (stringOf 3 filesKey
+    ++ ((stringOf 3 (ascii "seed") ++ secretOf (v .seed))
+    ++ (stringOf 3 (ascii "files")
     ++ (headOf 4 (length (v .files))
     ++ (entriesOf (v .files)
-    ++ (stringOf 3 sealedKey
-    ++ ((choose (v .sealed) 0xF5 0xF4 ∷ []) ++ ((stringOf 3 createdKey ++ createdOf (v .created)) ++ numberFieldOf versionKey 1)))))))
+    ++ (stringOf 3 (ascii "sealed")
+    ++ ((choose (v .sealed) 0xF5 0xF4 ∷ []) ++ ((stringOf 3 (ascii "created") ++ createdOf (v .created)) ++ numberFieldOf (ascii "version") 1)))))))
 
 -- the same, with its places in a pool
 unfoldable pub manifestOf : List ℕ → Listing → List ℕ
@@ -77,7 +77,7 @@ manifestOf pool v = saidOf (saidIn pool v)
 -- null, or 32 bytes in the pool
 unfoldable pub seedAllowed : List ℕ → Seed → Bool
 seedAllowed pool seed.Null = true
-seedAllowed pool (seed.Bytes start len) = digestIn pool (record { start = start; len = len })
+seedAllowed pool (seed.Bytes span) = digestIn pool span
 
 -- each file, the first above prev and each above the one before it
 unfoldable pub filesVerdict : List ℕ → List ℕ → List File → Answer (List ℕ)

@@ -3,7 +3,7 @@
 ghost use mathlib.Core.Path.{_≡_};
 ghost use Rattle.wire.specs.Answer.{numberOf};
 ghost use Rattle.manifest.specs.Manifest.{seedAt, agrees, sealedAt, finite, finiteAt, createdAt, endAt};
-ghost use Rattle.manifest.specs.Parts.{seedTold, sealedTold, createdTold, endTold};
+ghost use Rattle.manifest.specs.Private.{seedTold, sealedTold, createdTold, endTold};
 use super::Created;
 use super::CreatedRead;
 use super::EndRead;
@@ -17,50 +17,19 @@ use cbor::NEGATIVE;
 use cbor::NumberRead;
 use cbor::StepRead;
 use cbor::StringRead;
-use cbor::head_no;
-use cbor::number_no;
-use cbor::step_no;
-use cbor::string_no;
 use wire::NOT_CANONICAL;
 use wire::OUT_OF_RANGE;
+use wire::Span;
 
-// The number of a refusal, for a caller's `else`.
-pub(super) fn seed_no(r: SeedRead) -> u8
-    ensures { λ n. ⌜ n ≡ numberOf (seedTold r) ⌝ }
-{
-    match r {
-        SeedRead::Value { seed: _, next: _ } => 0,
-        SeedRead::Refused { no } => no,
-    }
-}
-
-fn sealed_no(r: SealedRead) -> u8
-    ensures { λ n. ⌜ n ≡ numberOf (sealedTold r) ⌝ }
-{
-    match r {
-        SealedRead::Value { sealed: _, next: _ } => 0,
-        SealedRead::Refused { no } => no,
-    }
-}
-
-fn created_no(r: CreatedRead) -> u8
-    ensures { λ n. ⌜ n ≡ numberOf (createdTold r) ⌝ }
-{
-    match r {
-        CreatedRead::Value {
-            created: _,
-            next: _,
-        } => 0,
-        CreatedRead::Refused { no } => no,
-    }
-}
-
-pub(super) fn end_no(r: EndRead) -> u8
-    ensures { λ n. ⌜ n ≡ numberOf (endTold r) ⌝ }
-{
-    match r {
-        EndRead::Value { end: _, next: _ } => 0,
-        EndRead::Refused { no } => no,
+impl SeedRead {
+    // The number of a refusal, for a caller's `else`.
+    pub(super) fn no(self) -> u8
+        ensures { λ n. ⌜ n ≡ numberOf (seedTold self) ⌝ }
+    {
+        match self {
+            SeedRead::Refused { no } => no,
+            _ => 0,
+        }
     }
 }
 
@@ -69,11 +38,11 @@ pub(super) fn seed_field(s: &[u8], at: usize) -> SeedRead
 {
     let k = cbor::read::key(s, at, b"seed");
     let StepRead::Past { next: a } = k else {
-        return SeedRead::Refused { no: step_no(k) };
+        return SeedRead::Refused { no: k.no() };
     };
     let f = cbor::read::byte(s, a);
     let NumberRead::Value { n: first, next: p } = f else {
-        return SeedRead::Refused { no: number_no(f) };
+        return SeedRead::Refused { no: f.no() };
     };
     if first == 0xF6 {
         return SeedRead::Value {
@@ -83,10 +52,12 @@ pub(super) fn seed_field(s: &[u8], at: usize) -> SeedRead
     }
     let b = cbor::read::string(s, a, BYTES, 32, 32, OUT_OF_RANGE);
     let StringRead::Value { start, len, next } = b else {
-        return SeedRead::Refused { no: string_no(b) };
+        return SeedRead::Refused { no: b.no() };
     };
     SeedRead::Value {
-        seed: Seed::Bytes { start, len },
+        seed: Seed::Bytes {
+            span: Span { start, len },
+        },
         next,
     }
 }
@@ -97,7 +68,18 @@ pub(super) fn agree(seed: Seed, sealed: bool) -> bool
 {
     match seed {
         Seed::Null => sealed,
-        Seed::Bytes { start: _, len: _ } => !sealed,
+        Seed::Bytes { span: _ } => !sealed,
+    }
+}
+
+impl SealedRead {
+    fn no(self) -> u8
+        ensures { λ n. ⌜ n ≡ numberOf (sealedTold self) ⌝ }
+    {
+        match self {
+            SealedRead::Refused { no } => no,
+            _ => 0,
+        }
     }
 }
 
@@ -106,11 +88,11 @@ fn sealed_field(s: &[u8], at: usize, seed: Seed) -> SealedRead
 {
     let k = cbor::read::key(s, at, b"sealed");
     let StepRead::Past { next: a } = k else {
-        return SealedRead::Refused { no: step_no(k) };
+        return SealedRead::Refused { no: k.no() };
     };
     let f = cbor::read::byte(s, a);
     let NumberRead::Value { n: first, next } = f else {
-        return SealedRead::Refused { no: number_no(f) };
+        return SealedRead::Refused { no: f.no() };
     };
     if first < 0xF4 {
         return SealedRead::Refused { no: NOT_CANONICAL };
@@ -139,7 +121,7 @@ fn finite_double(s: &[u8], at: usize) -> CreatedRead
 {
     let d = cbor::read::double(s, at);
     let NumberRead::Value { n: bits, next } = d else {
-        return CreatedRead::Refused { no: number_no(d) };
+        return CreatedRead::Refused { no: d.no() };
     };
     if !is_finite(bits) {
         return CreatedRead::Refused { no: OUT_OF_RANGE };
@@ -150,23 +132,34 @@ fn finite_double(s: &[u8], at: usize) -> CreatedRead
     }
 }
 
+impl CreatedRead {
+    fn no(self) -> u8
+        ensures { λ n. ⌜ n ≡ numberOf (createdTold self) ⌝ }
+    {
+        match self {
+            CreatedRead::Refused { no } => no,
+            _ => 0,
+        }
+    }
+}
+
 fn created_field(s: &[u8], at: usize) -> CreatedRead
     ensures { λ r. ⌜ createdTold r ≡ createdAt (now (s .entry)) at ⌝ }
 {
     let k = cbor::read::key(s, at, b"created");
     let StepRead::Past { next: a } = k else {
-        return CreatedRead::Refused { no: step_no(k) };
+        return CreatedRead::Refused { no: k.no() };
     };
     let f = cbor::read::byte(s, a);
     let NumberRead::Value { n: first, next: _ } = f else {
-        return CreatedRead::Refused { no: number_no(f) };
+        return CreatedRead::Refused { no: f.no() };
     };
     if first == 0xFB {
         return finite_double(s, a);
     }
     let h = entry::read::integer(s, a);
     let HeadRead::Value { major, n, next } = h else {
-        return CreatedRead::Refused { no: head_no(h) };
+        return CreatedRead::Refused { no: h.no() };
     };
     CreatedRead::Value {
         created: Created::Integer {
@@ -177,21 +170,32 @@ fn created_field(s: &[u8], at: usize) -> CreatedRead
     }
 }
 
+impl EndRead {
+    pub(super) fn no(self) -> u8
+        ensures { λ n. ⌜ n ≡ numberOf (endTold self) ⌝ }
+    {
+        match self {
+            EndRead::Refused { no } => no,
+            _ => 0,
+        }
+    }
+}
+
 // The fields after the files, and the input's end.
 pub(super) fn ending(s: &[u8], at: usize, seed: Seed) -> EndRead
     ensures { λ r. ⌜ endTold r ≡ endAt (now (s .entry)) at seed ⌝ }
 {
     let f = sealed_field(s, at, seed);
     let SealedRead::Value { sealed, next: a } = f else {
-        return EndRead::Refused { no: sealed_no(f) };
+        return EndRead::Refused { no: f.no() };
     };
     let t = created_field(s, a);
     let CreatedRead::Value { created, next: b } = t else {
-        return EndRead::Refused { no: created_no(t) };
+        return EndRead::Refused { no: t.no() };
     };
     let v = cbor::read::number_field(s, b, b"version", 1, 1);
     let NumberRead::Value { n: _, next } = v else {
-        return EndRead::Refused { no: number_no(v) };
+        return EndRead::Refused { no: v.no() };
     };
     if next != s.len() {
         return EndRead::Refused {

@@ -5,18 +5,17 @@ ghost use Prim.Native.Nat.{_≤_};
 ghost use Rattle.wire.specs.Sizes.{mostFiles};
 ghost use Rattle.wire.specs.Answer.{refused};
 ghost use Rattle.manifest.specs.Manifest.{filesAt, listAt};
-ghost use Rattle.manifest.specs.Parts.{filesAnswer};
+ghost use Rattle.manifest.specs.Private.{filesAnswer};
 use super::FilesRead;
 use super::blank_files;
 use cbor::ARRAY;
 use cbor::NumberRead;
 use cbor::StepRead;
-use cbor::number_no;
-use cbor::step_no;
 use entry::File;
 use entry::FileRead;
-use entry::file_no;
+use entry::write::part;
 use wire::OUT_OF_RANGE;
+use wire::Span;
 
 fn no_files(no: u8) -> FilesRead
     ensures { λ r. ⌜ r ≡ filesAnswer (refused no) ⌝ }
@@ -36,17 +35,14 @@ fn run(s: &[u8], at: usize, count: usize) -> FilesRead
     let mut files = blank_files();
     let mut i = 0;
     let mut p = at;
-    let mut start = 0;
-    let mut end = 0;
+    let mut last = Span { start: 0, len: 0 };
     while i < count {
-        let r = entry::read::file(s, p, &s[start..end]);
+        let r = entry::read::file(s, p, part(s, last));
         let FileRead::Value { file, next } = r else {
-            return no_files(file_no(r));
+            return no_files(r.no());
         };
         files[i] = file;
-        let path = file.path;
-        start = path.start;
-        end = path.start + path.len;
+        last = file.path;
         p = next;
         i += 1;
     }
@@ -64,11 +60,11 @@ pub(super) fn list(s: &[u8], at: usize) -> FilesRead
 {
     let k = cbor::read::key(s, at, b"files");
     let StepRead::Past { next: a } = k else {
-        return no_files(step_no(k));
+        return no_files(k.no());
     };
     let h = cbor::read::number(s, a, ARRAY, 1, wire::MOST_FILES as u64, OUT_OF_RANGE);
     let NumberRead::Value { n, next } = h else {
-        return no_files(number_no(h));
+        return no_files(h.no());
     };
     run(s, next, n as usize)
 }

@@ -7,7 +7,7 @@ ghost use Rattle.wire.specs.Sizes.{mostFiles};
 ghost use Rattle.wire.specs.Writing.{told, outcome};
 ghost use Rattle.cbor.specs.Form.{headSize};
 ghost use Rattle.manifest.specs.Writing.{seedAllowed, createdAllowed, filesVerdict, manifestVerdict};
-ghost use Rattle.manifest.specs.Parts.{seedSize, createdSize};
+ghost use Rattle.manifest.specs.Private.{seedSize, createdSize};
 use super::Created;
 use super::Manifest;
 use super::Seed;
@@ -21,7 +21,7 @@ fn seed_allowed(pool: &[u8], seed: Seed) -> bool
 {
     match seed {
         Seed::Null => true,
-        Seed::Bytes { start, len } => entry::write::digest(pool, Span { start, len }),
+        Seed::Bytes { span } => entry::write::digest(pool, span),
     }
 }
 
@@ -39,7 +39,7 @@ fn seed_size(seed: Seed) -> usize
 {
     match seed {
         Seed::Null => 1,
-        Seed::Bytes { start: _, len: _ } => 34,
+        Seed::Bytes { span: _ } => 34,
     }
 }
 

@@ -1,8 +1,8 @@
 // The manifest, read and written: document 01, "CBOR payloads".
 mod fields;
 mod files;
+mod form;
 mod judge;
-mod lay;
 
 ghost use mathlib.Core.Path.{_≡_};
 ghost use mathlib.Core.List.{[]};
@@ -13,8 +13,6 @@ ghost use Rattle.manifest.specs.Writing.{manifestVerdict};
 ghost use Rattle.manifest.specs.Answer.{padded, answerFor};
 use cbor::NumberRead;
 use cbor::StepRead;
-use cbor::number_no;
-use cbor::step_no;
 use entry::File;
 use entry::Mtime;
 use wire::Span;
@@ -23,7 +21,7 @@ use wire::Wrote;
 pub enum Seed {
     Null,
     // A place in the pool of the manifest's bytes: of one that was read the pool is the input.
-    Bytes { start: usize, len: usize },
+    Bytes { span: Span },
 }
 
 pub enum Created {
@@ -124,20 +122,20 @@ pub fn read(s: &[u8]) -> ManifestRead
     }
     let m = cbor::read::one_byte(s, 0, 0xA5);
     let StepRead::Past { next: a } = m else {
-        return refusal(step_no(m));
+        return refusal(m.no());
     };
     let k = fields::seed_field(s, a);
     let SeedRead::Value { seed, next: b } = k else {
-        return refusal(fields::seed_no(k));
+        return refusal(k.no());
     };
     let l = files::list(s, b);
     let listed = l.answer;
     let NumberRead::Value { n, next: c } = listed else {
-        return refusal(number_no(listed));
+        return refusal(listed.no());
     };
     let e = fields::ending(s, c, seed);
     let EndRead::Value { end, next } = e else {
-        return refusal(fields::end_no(e));
+        return refusal(e.no());
     };
     let files = l.files;
     let created = end.created;
@@ -166,6 +164,6 @@ pub fn write(pool: &[u8], m: Manifest, out: &mut [u8]) -> Wrote
     if out.len() < len {
         return Wrote::Refused { no: wire::NO_ROOM };
     }
-    lay::whole(pool, m, out);
+    form::whole(pool, m, out);
     Wrote::Done { len }
 }

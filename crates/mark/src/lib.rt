@@ -13,13 +13,15 @@ pub enum MarkRead {
     Refused { no: u8 },
 }
 
-// The number of a refusal, for a caller's `else`.
-pub fn mark_no(r: MarkRead) -> u8
-    ensures { λ n. ⌜ n ≡ numberOf (told r) ⌝ }
-{
-    match r {
-        MarkRead::Past { next: _ } => 0,
-        MarkRead::Refused { no } => no,
+impl MarkRead {
+    // The number of a refusal, for a caller's `else`.
+    pub fn no(self) -> u8
+        ensures { λ n. ⌜ n ≡ numberOf (told self) ⌝ }
+    {
+        match self {
+            MarkRead::Refused { no } => no,
+            _ => 0,
+        }
     }
 }
 
@@ -28,9 +30,7 @@ fn version(s: &[u8], at: usize) -> MarkRead
 {
     let r = varint::read(s, at);
     let VarintRead::Value { n, next } = r else {
-        return MarkRead::Refused {
-            no: varint::varint_no(r),
-        };
+        return MarkRead::Refused { no: r.no() };
     };
     if n == 1 {
         return MarkRead::Past { next };

@@ -1,12 +1,10 @@
 -- How many pages there are, as the code tests it. Assumes nothing.
 use Prim.Native.Nat.{ℕ, _+_, _-_, _*_, _/_, _≤_, _<_}
-use mathlib.Core.Path.{_≡_, refl, ap, _∙_}
+use mathlib.Core.Path.{_≡_, ap, _∙_}
 use mathlib.Core.Bool.{true}
-use mathlib.Core.List.{List, [], _∷_}
 use native.Mathlib.Nat.{add-mul-div-right, one-mul}
 use native.Mathlib.Omega.{arith}
 use borrow.Author.Tests.{lt-ltb, le-ltb, le-leb, lt-leb}
-use lib.ListN.{length, take, getD}
 use Rattle.wire.specs.Answer.{done, refused}
 use Rattle.page.specs.Page.{pageCount, printable, countOf}
 
@@ -43,16 +41,3 @@ module _ (n size : ℕ) where
     pub few-enough : (n - 1) / size < 96 → done ((n - 1) / size + 1) ≡ countOf n size
     unfolding countOf
     few-enough m = rw (in-print, count-is n size h z, le-leb ((n - 1) / size + 1) 96 (omega arith))
-
--- the first eight elements of a list that has them
-pub first-eight : (l : List ℕ) → 8 ≤ length l
-    → getD l 0 0 ∷ getD l 1 0 ∷ getD l 2 0 ∷ getD l 3 0 ∷ getD l 4 0 ∷ getD l 5 0 ∷ getD l 6 0 ∷ getD l 7 0 ∷ [] ≡ take 8 l
-first-eight [] h = absurd (omega arith)
-first-eight (a ∷ []) h = absurd (omega arith)
-first-eight (a ∷ b ∷ []) h = absurd (omega arith)
-first-eight (a ∷ b ∷ c ∷ []) h = absurd (omega arith)
-first-eight (a ∷ b ∷ c ∷ d ∷ []) h = absurd (omega arith)
-first-eight (a ∷ b ∷ c ∷ d ∷ e ∷ []) h = absurd (omega arith)
-first-eight (a ∷ b ∷ c ∷ d ∷ e ∷ f ∷ []) h = absurd (omega arith)
-first-eight (a ∷ b ∷ c ∷ d ∷ e ∷ f ∷ g ∷ []) h = absurd (omega arith)
-first-eight (a ∷ b ∷ c ∷ d ∷ e ∷ f ∷ g ∷ i ∷ l) h = refl

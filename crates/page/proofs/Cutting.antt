@@ -10,10 +10,19 @@ use borrow.Author.Tests.{lt-ltb, le-ltb, ltb-true, leb-true}
 use lib.Dec.{ltb, leb}
 use lib.ListN.{length, take, drop, length-drop}
 use lib.Seq.{take-all}
-use Rattle.wire.specs.Answer.{choose, done, refused}
+use mir.Syntax.{w64}
+use mir.Val.{Fits}
+use Rattle.wire.specs.Answer.{choose, Answer, done, refused, numberOf, Kept}
+use Rattle.wire.specs.Writing.{Written, writing}
+use Rattle.wire.specs.declared.Wrote.the-variants as wire
 use Rattle.wire.proofs.Cases.{lt-or-le, both-hold}
+use Rattle.wire.proofs.Writes.{denied}
+use Rattle.document_id.specs.Id.{documentId}
 use Rattle.frame.specs.Layout.{layout}
-use Rattle.page.specs.Page.{documentId, pageCount, pageData, printable, countOf, pageVerdict}
+use Rattle.page.specs.Page.{pageCount, pageData, printable, countOf, pageVerdict}
+use Rattle.page.specs.Answer.{told}
+use Rattle.page.specs.declared.PageCount.{PageCount}
+use Rattle.page.specs.declared.PageCount.the-variants.{Pages, Refused}
 use Rattle.page.proofs.Pages.{count-fewest}
 
 printable-facts : (n size : ℕ) → printable n size ≡ true → (0 < n) × (0 < size) × (size ≤ 480)
@@ -75,3 +84,31 @@ page-part c size number k e = ⊎-elim short full (lt-or-le (length c - number *
     full l =
         let q : k ≡ size = omega arith in
         ap (λ (x : ℕ). take x (drop (number * size) c)) q
+
+-- ---- what is answered, for `search`: r is what the count answered
+
+module _ (c : List ℕ) (size number : ℕ) (r : PageCount) (h : told r ≡ countOf (length c) size) where
+  pub none-counted : (x e : ℕ) (out : List ℕ) → r ≡ Refused x → e ≡ numberOf (told r) → Written 0 (pageVerdict c size number) out out (wire.Refused e)
+  none-counted x e out p q =
+      let d : refused e ≡ countOf (length c) size = rw (q, ← h, p) in
+      rw (refused-count c size number e d) (denied 0 out e)
+
+  module _ (n : ℕ) (p : r ≡ Pages n) where
+    counted : done n ≡ countOf (length c) size
+    counted = rw (← h, p)
+
+    pub none-there : (out : List ℕ) → n ≤ number → Written 0 (pageVerdict c size number) out out (wire.Refused 8)
+    none-there out l = rw (no-page c size number n counted l) (denied 0 out 8)
+
+    module _ (l : number < n) where
+      pub start-fits : Fits w64 (number * size)
+      start-fits = record { fits = omega (arith, page-start c size number n counted l) }
+
+      pub start-within : number * size ≤ length c
+      start-within = page-start c size number n counted l .0
+
+      pub page-laid : (end : ℕ) (id out out' : List ℕ) (a : Answer ℕ) → end - number * size ≡ min size (length c - number * size) → id ≡ documentId c
+          → Kept (writing 0 out (done (layout 0x44 id number n (take (end - number * size) (drop (number * size) c))))) out out' a
+          → Kept (writing 0 out (pageVerdict c size number)) out out' a
+      page-laid end id out out' a e i w =
+          rw (page-is c size number n counted l, ← i, ← page-part c size number (end - number * size) e) w

@@ -14,14 +14,13 @@ use Rattle.wire.proofs.Digits.{small-take, small-drop}
 use Rattle.text.specs.Text.{Form, textOf, readText}
 use Rattle.text.proofs.Forms.{Lawful}
 use Rattle.text.proofs.Round.{read-written}
-use Rattle.blake2b.specs.Blake2b.{blake2b}
-use Rattle.blake2b.proofs.Output.{blake2b-bytes}
+use Rattle.document_id.specs.Id.{documentId}
+use Rattle.document_id.proofs.Ids.{id-length, id-bytes}
 use Rattle.frame.specs.Allowed.{Allowed}
 use Rattle.frame.proofs.Range.{layout-bytes}
 use Rattle.frame.proofs.ReadsBack.{ReadsAs, reads-back}
-use Rattle.page.specs.Page.{Printed, documentId, pageCount, pageData, pageFrame, printable, countOf, pageVerdict}
+use Rattle.page.specs.Page.{Printed, pageCount, pageData, pageFrame, printable, countOf, pageVerdict}
 use Rattle.page.proofs.Pages.{page-length}
-use Rattle.page.proofs.Typing.{id-length}
 
 module _ (c : List ℕ) (size : ℕ) (p : Printed c size) (i : ℕ) (here : i < pageCount (length c) size) where
   -- the page is printed
@@ -48,10 +47,9 @@ module _ (c : List ℕ) (size : ℕ) (p : Printed c size) (i : ℕ) (here : i < 
 
   module _ (all : Bytes c) where
     pub page-bytes : Bytes (pageFrame c size i)
-    unfolding pageFrame documentId pageData
+    unfolding pageFrame pageData
     page-bytes =
-        layout-bytes 0x44 (take 8 (blake2b c)) i (pageCount (length c) size) (take size (drop (i * size) c)) (lit< tt)
-        (small-take 256 8 (blake2b c) (blake2b-bytes c)) (omega (arith, here, p .fits)) (omega (arith, p .fits))
+        layout-bytes 0x44 (documentId c) i (pageCount (length c) size) (take size (drop (i * size) c)) (lit< tt) (id-bytes c) (omega (arith, here, p .fits)) (omega (arith, p .fits))
         (omega (arith, allowed .short)) (small-take 256 size (drop (i * size) c) (small-drop 256 (i * size) c all))
 
     -- and so does its text, in every form

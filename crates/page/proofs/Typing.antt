@@ -7,7 +7,6 @@ use native.Mathlib.Omega.{arith}
 use borrow.Author.Tests.{ltb-true}
 use lib.Dec.{ltb}
 use lib.ListN.{length, take, drop}
-use lib.Seq.{length-take-le}
 use Rattle.wire.specs.Answer.{Answer, done}
 use Rattle.wire.specs.Writing.{Written}
 use Rattle.wire.specs.declared.Wrote.{Wrote}
@@ -17,17 +16,13 @@ use Rattle.wire.proofs.Overs.{read-over}
 use Rattle.wire.proofs.Writes.{Stood, done-stood, refused-why, denied}
 use Rattle.text.specs.Text.{Form, textOf}
 use Rattle.varint.proofs.Lengths.{varint-length-two}
-use Rattle.blake2b.specs.Blake2b.{blake2b}
-use Rattle.blake2b.proofs.Output.{length-blake2b}
+use Rattle.document_id.specs.Id.{documentId}
+use Rattle.document_id.proofs.Ids.{id-length}
 use Rattle.frame.specs.Layout.{layout}
 use Rattle.frame.proofs.Lengths.{layout-length-short}
-use Rattle.page.specs.Page.{documentId, pageData, countOf, pageVerdict, typed}
+use Rattle.page.specs.Page.{pageData, countOf, pageVerdict, typed}
 use Rattle.page.proofs.Pages.{page-length}
 use Rattle.page.proofs.Cutting.{counted-facts}
-
-pub id-length : (c : List ℕ) → length (documentId c) ≡ 8
-unfolding documentId
-id-length c = length-take-le 8 (blake2b c) (omega (arith, length-blake2b c))
 
 -- a frame of a page has at most 500 bytes
 pub frame-short : (c : List ℕ) (size number : ℕ) (bs : List ℕ) → pageVerdict c size number ≡ done bs → length bs ≤ 500

@@ -5,14 +5,10 @@ use mathlib.Core.List.{List, [], _++_}
 use lib.Dec.{ltb, leb}
 use lib.ListN.{length, take, drop}
 use Rattle.wire.specs.Answer.{Answer, done, then, demand}
-use Rattle.wire.specs.Sizes.{mostPages, mostData, idSize}
-use Rattle.blake2b.specs.Blake2b.{blake2b}
+use Rattle.wire.specs.Sizes.{mostPages, mostData}
 use Rattle.text.specs.Text.{Form, textOf}
+use Rattle.document_id.specs.Id.{documentId}
 use Rattle.frame.specs.Layout.{layout}
-
--- the id is the first 8 bytes of unkeyed BLAKE2b with 32-byte output over the ciphertext
-unfoldable pub documentId : List ℕ → List ℕ
-documentId c = take idSize (blake2b c)
 
 -- the fewest pages of so many bytes that hold a ciphertext of n bytes
 unfoldable pub pageCount : ℕ → ℕ → ℕ

@@ -4,17 +4,9 @@ ghost use Prim.Native.Nat.{_-_, _≤_, min};
 ghost use Rattle.wire.specs.Answer.{numberOf};
 ghost use Rattle.wire.specs.Writing.{Written};
 ghost use Rattle.text.specs.Text.{base64, zbase32};
-ghost use Rattle.page.specs.Page.{documentId, countOf, pageVerdict, typed};
+ghost use Rattle.page.specs.Page.{countOf, pageVerdict, typed};
 ghost use Rattle.page.specs.Answer.{told};
 use wire::Wrote;
-
-// The id is the front of the digest of the whole ciphertext.
-pub fn document_id(c: &[u8]) -> [u8; wire::ID_SIZE]
-    ensures { λ r. ⌜ r ≡ documentId (now (c .entry)) ⌝ }
-{
-    let d = blake2b::blake2b(c);
-    [d[0], d[1], d[2], d[3], d[4], d[5], d[6], d[7]]
-}
 
 pub enum PageCount {
     Pages { n: usize },
@@ -50,12 +42,14 @@ pub fn count(n: usize, size: usize) -> PageCount
     PageCount::Pages { n: before_last + 1 }
 }
 
-fn count_no(r: PageCount) -> u8
-    ensures { λ n. ⌜ n ≡ numberOf (told r) ⌝ }
-{
-    match r {
-        PageCount::Pages { n: _ } => 0,
-        PageCount::Refused { no } => no,
+impl PageCount {
+    fn no(self) -> u8
+        ensures { λ n. ⌜ n ≡ numberOf (told self) ⌝ }
+    {
+        match self {
+            PageCount::Refused { no } => no,
+            _ => 0,
+        }
     }
 }
 
@@ -76,9 +70,7 @@ pub fn write(c: &[u8], size: usize, number: usize, out: &mut [u8]) -> Wrote
 {
     let counted = count(c.len(), size);
     let PageCount::Pages { n } = counted else {
-        return Wrote::Refused {
-            no: count_no(counted),
-        };
+        return Wrote::Refused { no: counted.no() };
     };
     if n <= number {
         return Wrote::Refused {
@@ -87,7 +79,7 @@ pub fn write(c: &[u8], size: usize, number: usize, out: &mut [u8]) -> Wrote
     }
     let start = number * size;
     let end = page_end(start, size, c.len());
-    let id = document_id(c);
+    let id = document_id::of(c);
     frame::lay(
         frame::MAIN,
         &id,

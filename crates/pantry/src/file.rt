@@ -1,10 +1,10 @@
-// The file in which the pantry keeps a collection between runs. A function that answers a u8 answers 0 or the number of a refusal: `shelf`'s
+// The file in which the pantry keeps a collection between runs. A function that answers a u8 answers 0 or the number of a refusal: `pantry_work`'s
 // own, or 11 for a file that the system does not let us read or write.
 use collection::Answered;
 use scan::session::Session;
 
 // One byte more than a collection has, so that a longer file shows.
-const ENOUGH: usize = book::SIZE + 1;
+const ENOUGH: usize = wire::COLLECTION_SIZE + 1;
 
 // What a new file's name has behind that of the file: the system puts letters for the X, so that no other file has the name.
 const SUFFIX: usize = 7;
@@ -78,7 +78,7 @@ fn save(name: &[u8], c: &[u8]) -> u8 {
 
 // Joins what was saved into c, and saves that where it is not what was saved.
 fn join(name: &[u8], s: Session, saved: &[u8], c: &mut [u8]) -> u8 {
-    let r = shelf::resume(s, saved, c);
+    let r = pantry_work::resume(s, saved, c);
     if let Answered::Refused { no } = r {
         return no;
     }

@@ -1,6 +1,6 @@
 // The pantry: it reads the document id and then scans, a line each, from standard input, and writes the ciphertext once every page is
 // there; until then it prints where the collection stands. With the name of a file as its argument it keeps the collection there between
-// runs. The work is done by `scan` and `shelf`; here are only the reading and the writing.
+// runs. The work is done by `scan` and `pantry_work`; here are only the reading and the writing.
 mod file;
 
 use libc::STDIN_FILENO;
@@ -82,14 +82,14 @@ fn write(r: Wrote, out: &[u8]) {
 }
 
 fn print(s: Session, c: &[u8]) {
-    let mut out = [0u8; shelf::MOST];
-    let r = shelf::answer(s, c, &mut out);
+    let mut out = [0u8; wire::MOST_CIPHERTEXT];
+    let r = pantry_work::answer(s, c, &mut out);
     write(r, &out);
 }
 
 fn refuse(no: u8) {
     let mut out = [0u8; 64];
-    let r = shelf::refused_line(no, 0, &mut out);
+    let r = pantry_work::refused_line(no, 0, &mut out);
     write(r, &out);
 }
 
@@ -112,7 +112,7 @@ fn keep(name: &[u8], c: &mut [u8]) {
 }
 
 fn main() {
-    let mut c = [0u8; book::SIZE];
+    let mut c = [0u8; wire::COLLECTION_SIZE];
     let words = os::arg_count();
     if words < 2 {
         if let Taken::Whole { session } = scanned(&mut c) {

@@ -104,23 +104,22 @@ below-total (x ∷ xs) (y ∷ ys) = go (compared x y) (below-total xs ys)
     go (same h) (inr (inl k)) = inr (inl (ap₂ (λ (z : ℕ) (zs : List ℕ). z ∷ zs) h k))
     go (same h) (inr (inr k)) = inr (inr (below-same y x ys xs (sym h) ∙ k))
 
--- ---- a turn of a loop that compares, and its ends
+-- ---- a turn of a loop that compares, and its ends: what is left behind i decides
 
-module _ (a b : List ℕ) (i : ℕ) where
-  pub below-step : i < length a → i < length b → getD a i 0 ≡ getD b i 0
-      → below (drop i a) (drop i b) ≡ below (drop (i + 1) a) (drop (i + 1) b)
-  below-step h k e = rw (add-one, drop-cons a i 0 h, drop-cons b i 0 k) (below-same _ _ _ _ e)
+module _ (a b : List ℕ) (i : ℕ) (left : below a b ≡ below (drop i a) (drop i b)) where
+  pub below-step : i < length a → i < length b → getD a i 0 ≡ getD b i 0 → below a b ≡ below (drop (i + 1) a) (drop (i + 1) b)
+  below-step h k e = left ∙ rw (add-one, drop-cons a i 0 h, drop-cons b i 0 k) (below-same _ _ _ _ e)
 
-  pub below-stop : i < length a → i < length b → (getD a i 0 ≡ getD b i 0 → ⊥) → below (drop i a) (drop i b) ≡ ltb (getD a i 0) (getD b i 0)
-  below-stop h k e = rw (drop-cons a i 0 h, drop-cons b i 0 k) (below-differ _ _ _ _ e)
+  pub below-stop : i < length a → i < length b → (getD a i 0 ≡ getD b i 0 → ⊥) → ltb (getD a i 0) (getD b i 0) ≡ below a b
+  below-stop h k e = sym (left ∙ rw (drop-cons a i 0 h, drop-cons b i 0 k) (below-differ _ _ _ _ e))
 
-  pub below-outlasts : i < length a → length b ≤ i → below (drop i a) (drop i b) ≡ false
+  pub below-outlasts : i < length a → length b ≤ i → false ≡ below a b
   unfolding below
-  below-outlasts h k = rw (drop-cons a i 0 h, drop-of-length-le b {i = i} k)
+  below-outlasts h k = sym (left ∙ rw (drop-cons a i 0 h, drop-of-length-le b {i = i} k))
 
-  pub below-end : length a ≤ i → below (drop i a) (drop i b) ≡ ltb i (length b)
+  pub below-end : length a ≤ i → ltb i (length b) ≡ below a b
   unfolding below
-  below-end h = rw (drop-of-length-le a {i = i} h) (go (lt-or-le i (length b)))
+  below-end h = sym (left ∙ rw (drop-of-length-le a {i = i} h) (go (lt-or-le i (length b))))
     where
       go : (i < length b) ⊎ (length b ≤ i) → below [] (drop i b) ≡ ltb i (length b)
       go (inl k) = rw (drop-cons b i 0 k, lt-ltb i (length b) k)

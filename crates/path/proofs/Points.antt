@@ -12,7 +12,7 @@ use borrow.Author.Tests.{lt-ltb, le-ltb}
 use Rattle.path.specs.Utf8.{outside, oneByte, joined, twoBytes, codePoints}
 use Rattle.wire.specs.Every.{every, within}
 use Rattle.path.specs.Path.{plainText}
-use Rattle.path.specs.Spans.{Spans}
+use Rattle.path.specs.Private.{Spans}
 use Rattle.wire.proofs.Both.{tests}
 
 -- ---- the code point in front

@@ -2,4 +2,4 @@ pub mod Utf8
 pub mod Order
 pub mod Names
 pub mod Path
-pub mod Spans
+pub mod Private

@@ -7,7 +7,7 @@ ghost use Rattle.path.specs.Order.{below};
 ghost use Rattle.wire.specs.Every.{every, without};
 ghost use Rattle.path.specs.Names.{parts, isName};
 ghost use Rattle.path.specs.Path.{plainText, pathAllowed};
-ghost use Rattle.path.specs.Spans.{Spans};
+ghost use Rattle.path.specs.Private.{Spans};
 
 // How many bytes a path has. A reader judges its length by these before the bytes are there.
 pub const LEAST: u64 = 1;

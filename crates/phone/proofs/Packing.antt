@@ -8,18 +8,19 @@ use lib.ListN.{length}
 use Rattle.wire.specs.Answer.{Answer, done, Change, answerOf, Kept}
 use Rattle.wire.proofs.Cases.{passed, then-done, done-value}
 use Rattle.lend.specs.Same.{same}
-use Rattle.page.specs.Page.{documentId}
-use Rattle.state.proofs.Finished.{finish-short}
-use Rattle.book.specs.Read.{idOf, readBook, okBook}
+use Rattle.document_id.specs.Id.{documentId}
+use Rattle.model.proofs.Finished.{finish-short}
+use Rattle.book.specs.Read.{idOf, bookIn}
+use Rattle.book.proofs.Judging.{judged-only}
 use Rattle.book.proofs.Decode.{decoded-valid}
 use Rattle.collection.specs.Answer.{told, toldKind}
 use Rattle.collection.specs.declared.Answered.{Answered}
 use Rattle.collection.specs.declared.Answered.the-variants as A
 use Rattle.collection.specs.declared.Offered.{Offered}
 use Rattle.collection.specs.declared.Offered.the-variants as O
-use Rattle.closing.specs.Finish as F
-use Rattle.closing.specs.declared.Finished.{Finished}
-use Rattle.closing.specs.declared.Finished.the-variants as E
+use Rattle.finish.specs.Finish as F
+use Rattle.finish.specs.declared.Finished.{Finished}
+use Rattle.finish.specs.declared.Finished.the-variants as E
 use Rattle.phone.specs.Packed.{packed, packedAnswer, packedKind, packedFinish}
 
 -- a refusal is its number
@@ -51,7 +52,10 @@ module _ (v : Answer (List ℕ)) (out x : List ℕ) (r : Finished) (k : F.Closed
 
 collected-most : (c d : List ℕ) → F.collected c ≡ done d → length d ≤ 46080
 unfolding F.collected
-collected-most c d h = let (ok, e) = passed (okBook c) _ 13 h in finish-short (readBook c) d (decoded-valid c ok) e
+collected-most c d h =
+    let (b, e, t) = then-done (bookIn c) _ h in
+    let j = judged-only c b e in
+    finish-short b d (rw (j .1) (decoded-valid c (j .0))) t
 
 finished-most : (c out d : List ℕ) → F.finished c out ≡ done d → length d ≤ 46080
 unfolding F.finished

@@ -1,11 +1,11 @@
 -- The one number that each function for the phone answers. include/stiltbasket.h reads it apart.
-use Prim.Native.Nat.{ℕ, _+_, _*_, _/_, _%_}
+use Prim.Native.Nat.{ℕ, _+_, _*_, _/_, _%_, _^_}
 use lib.Dec.{eqb}
 use Rattle.wire.specs.Answer.{choose, Answer, done, refusedAt}
 
 -- bits 0 to 7 the number of 01; bits 8 to 15 a place, or offer's 1, 2 or 3; bits 16 to 63 a count
 abbrev pub packed : ℕ → ℕ → ℕ → ℕ
-packed number place count = number + 256 * place + 65536 * count
+packed number place count = number + 256 * place + 2 ^ 16 * count
 
 -- open and join
 abbrev pub packedAnswer : Answer Unit → ℕ
@@ -31,7 +31,7 @@ abbrev pub placeIn : ℕ → ℕ
 placeIn n = n / 256 % 256
 
 abbrev pub countIn : ℕ → ℕ
-countIn n = n / 65536
+countIn n = n / 2 ^ 16
 
 -- what a C program makes of finish's answer: with 0 it looks at the count
 abbrev pub finishIn : ℕ → Answer ℕ

@@ -3,17 +3,18 @@
 ghost use mathlib.Core.Path.{_≡_};
 ghost use Prim.Native.Nat.{_≤_};
 ghost use Rattle.wire.specs.Answer.{bytesAfter, answerOf};
+ghost use Rattle.wire.specs.Sizes.{mostCiphertext};
 ghost use Rattle.collection.specs.Collection.{opening, offering, joining};
 ghost use Rattle.collection.specs.Answer.{told};
-ghost use Rattle.closing.specs.Finish as F;
+ghost use Rattle.finish.specs.Finish as F;
 ghost use Rattle.phone.specs.Packed.{packed, packedAnswer, packedKind, packedFinish};
-use closing::Finished;
 use collection::Answered;
 use collection::Offered;
+use finish::Finished;
 
 // Bits 0 to 7, 8 to 15, and 16 to 63.
 fn pack(number: u8, place: u8, count: usize) -> u64
-    requires { ⌜ count ≤ 46080 ⌝ }
+    requires { ⌜ count ≤ mostCiphertext ⌝ }
     ensures { λ r. ⌜ r ≡ packed number place count ⌝ }
 {
     number as u64 + 256 * (place as u64) + 65536 * (count as u64)
@@ -61,7 +62,7 @@ pub extern "C" fn stilt_finish(c: &[u8], out: &mut [u8]) -> u64
     ensures { λ r. ⌜ r ≡ packedFinish (answerOf (F.finishing (now (c .entry)) (now (out .entry)))) ⌝ }
     ensures { λ _. ⌜ now (out .exit) ≡ bytesAfter (now (out .entry)) (F.finishing (now (c .entry)) (now (out .entry))) ⌝ }
 {
-    let r = closing::finish(c, out);
+    let r = finish::finish(c, out);
     match r {
         Finished::Done { len } => pack(0, 0, len),
         Finished::Refused { no, place } => pack(no, place, 0),

@@ -79,7 +79,7 @@ fn print(s: Session, c: &[u8]) {
 }
 
 fn main() {
-    let mut c = [0u8; book::SIZE];
+    let mut c = [0u8; wire::COLLECTION_SIZE];
     if let Taken::Whole { session } = scanned(&mut c) {
         print(session, &c);
     }

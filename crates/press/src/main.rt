@@ -72,7 +72,7 @@ fn print(task: Task, c: &[u8], out: &mut [u8]) -> Wrote {
 }
 
 fn refuse(no: u8, out: &mut [u8]) -> usize {
-    match status::refused_line(no, out) {
+    match digits::refused_line(no, out) {
         Wrote::Done { len } => len,
         Wrote::Refused { no: _ } => 0,
     }

@@ -70,7 +70,7 @@ shard-answer s = go (shardAt s) (shard-placeless s)
     go (refusedAt e place) p = (shard-read.Refused e, refusal-as e place p)
 
 pub envelope-answer : (x : Answer Cover) → (r : EnvelopeRead) × (readTold r ≡ x)
-envelope-answer (done c) = (envelope-read.Envelope (c .manifest) (c .manifest-len) (c .payload) (c .payload-len), refl)
+envelope-answer (done c) = (envelope-read.Envelope (c .manifest) (c .payload), refl)
 envelope-answer (refusedAt e place) = (envelope-read.Refused e place, refl)
 
 -- ---- a frame: its answer's position is past its checksum, as the definition has it
@@ -83,8 +83,8 @@ refusal e = (frame-read.Refused e, refl)
 
 module _ (s : List ℕ) where
   placed : (kind : ℕ) (n : F.Numbers) (b : ℕ) (v w : Bool)
-      → Answers (choose v (choose w (got (record { kind = kind; index = n .index; total = n .total; at = b; len = n .len }) (b + n .len + 4)) (refused 9)) (refused 8))
-  placed kind n b true true = (frame-read.Frame kind (n .index) (n .total) b (n .len), refl)
+      → Answers (choose v (choose w (got (record { kind = kind; index = n .index; total = n .total; at = record { start = b; len = n .len } }) (b + n .len + 4)) (refused 9)) (refused 8))
+  placed kind n b true true = (frame-read.Frame kind (n .index) (n .total) (record { start = b; len = n .len }), refl)
   placed kind n b true false = refusal 9
   placed kind n b false w = refusal 8
 

@@ -20,16 +20,16 @@ use Rattle.page.proofs.Round.{page-written, page-reads, page-typed}
 use Rattle.page.proofs.Typing.{frame-short}
 use Rattle.auth.specs.Auth.{authAt}
 use Rattle.shard.specs.Shard.{shardAt}
-use Rattle.slip.specs.Slip.{slip}
-use Rattle.slip.proofs.Round.{slip-carried, slip-reads, slip-short, shard-carried, auth-carried}
+use Rattle.payload_frame.specs.Payload.{payloadFrame}
+use Rattle.payload_frame.proofs.Round.{payload-frame-carried, payload-frame-reads, payload-frame-short, shard-carried, auth-carried}
 use Rattle.promises.specs.Formats.{Format, Exact, frames, scans, typing, auths, shards}
-use Rattle.promises.specs.Demand2.{ReadAs, Framed, Scanned, Typed, pageOf, ThroughText, Pages, Keyed, Signed, slipOf, Carries, Demand2}
+use Rattle.promises.specs.Demand2.{ReadAs, Framed, Scanned, Typed, pageOf, ThroughText, Pages, Keyed, Signed, payloadSays, Carries, Demand2}
 use Rattle.promises.proofs.Writers.{Stands, stands-front, wrote-done, written-room}
 use Rattle.promises.proofs.Formats.{frames-exact}
 use Rattle.promises.proofs.Texts.{scans-exact, typing-exact}
 use Rattle.promises.proofs.Payloads.{envelopes-exact, manifests-exact, auths-ruled, auths-exact, shards-ruled, shards-exact}
 use Rattle.promises.proofs.Links.Page.{page-write-base64-link, page-write-link, page-write-zbase32-link}
-use Rattle.promises.proofs.Links.Slip.{slip-auth-link, slip-key-link}
+use Rattle.promises.proofs.Links.PayloadFrame.{payload-frame-auth-link, payload-frame-key-link}
 
 -- bytes that the rules read as a value are read so by every call
 by-rule : (f : Format) → Exact f → (s : List ℕ) (v : f .Value) (p : f .Place) → f .read s ≡ done p → f .says s p ≡ v → ReadAs f s v
@@ -98,36 +98,36 @@ module _ (c : List ℕ) (size : ℕ) (y : Bytes c) (p : Printed c size) where
     whole = pages-join c size (p .least);
   }
 
--- ---- slips
+-- ---- key and auth frames
 
--- a slip for the payload f: each call of its writer keeps what `slip` says, and whatever the payload's writer wrote is carried
+-- a key or auth frame for the payload f: each call of its writer keeps what `payloadFrame` says, and whatever the payload's writer wrote is carried
 module _ (f : Format) (exactly : Exact f) (kind : ℕ) (k : Kind kind) (reader : List ℕ → Got (f .Place)) (rule : (s : List ℕ) → f .read s ≡ valueOf (reader s))
     (Writer : List ℕ → List ℕ → List ℕ → List ℕ → Answer ℕ → Type 0)
-    (keeps : (id contents out x : List ℕ) (a : Answer ℕ) → Writer id contents out x a → Kept (writing 0 out (slip kind id contents (reader contents))) out x a)
+    (keeps : (id contents out x : List ℕ) (a : Answer ℕ) → Writer id contents out x a → Kept (writing 0 out (payloadFrame kind id contents (reader contents))) out x a)
     (carried : (v : f .Value) (lent y : List ℕ) (m : ℕ) → f .Writes v lent y (done m) → (id : List ℕ) → length id ≡ 8
-    → (frame : List ℕ) × (slip kind id (take m y) (reader (take m y)) ≡ done frame)) where
-  wrote-slip : (id contents out x : List ℕ) (n : ℕ) → Writer id contents out x (done n) → (frame : List ℕ) × (slip kind id contents (reader contents) ≡ done frame) × Stands frame out x n
-  wrote-slip id contents out x n c = wrote-done (slip kind id contents (reader contents)) out x n (keeps id contents out x (done n) c)
+    → (frame : List ℕ) × (payloadFrame kind id (take m y) (reader (take m y)) ≡ done frame)) where
+  wrote-payload : (id contents out x : List ℕ) (n : ℕ) → Writer id contents out x (done n) → (frame : List ℕ) × (payloadFrame kind id contents (reader contents) ≡ done frame) × Stands frame out x n
+  wrote-payload id contents out x n c = wrote-done (payloadFrame kind id contents (reader contents)) out x n (keeps id contents out x (done n) c)
 
   carries : Carries f kind Writer
   carries = record {
     taken = λ v lent y m w id out x a i l c.
         let h = carried v lent y m w id i in
-        let s = slip-short kind id (take m y) (reader (take m y)) (h .0) (h .1) in
+        let s = payload-frame-short kind id (take m y) (reader (take m y)) (h .0) (h .1) in
         (length (h .0), written-room (h .0) out x a (omega arith) (rw (h .1) at (keeps id (take m y) out x a c)) .0);
     back = λ id contents out x n c.
-        let t = wrote-slip id contents out x n c in
-        subst (λ (s : List ℕ). ReadAs frames s (slipOf kind id contents)) (sym (stands-front (t .2))) (read-as (slip-reads kind id contents (reader contents) (t .0) k (t .1)));
+        let t = wrote-payload id contents out x n c in
+        subst (λ (s : List ℕ). ReadAs frames s (payloadSays kind id contents)) (sym (stands-front (t .2))) (read-as (payload-frame-reads kind id contents (reader contents) (t .0) k (t .1)));
     accepted = λ id contents out x n c a r.
-        let t = wrote-slip id contents out x n c in
-        let u = slip-carried kind id contents (reader contents) (t .0) (t .1) in
+        let t = wrote-payload id contents out x n c in
+        let u = payload-frame-carried kind id contents (reader contents) (t .0) (t .1) in
         (u .value, exactly .reason contents a r ∙ rule contents ∙ ap valueOf (u .accepted));
   }
 
 key-carries : Carries shards 0x4B Keyed
 key-carries =
     carries shards shards-exact 0x4B (inr (inl refl)) shardAt (λ s. refl) Keyed
-    (λ id contents out x a (k, i, c, o, l, e). rw (i, c, o, l, e) at (slip-key-link k))
+    (λ id contents out x a (k, i, c, o, l, e). rw (i, c, o, l, e) at (payload-frame-key-link k))
     (λ v lent y m w id i.
     let t = shards-ruled .writes v lent y m w in
     let h = shard-carried id i (v .signed .public) (v .signed .sig) (v .signed .hash) (v .kind) (v .share) (v .len) (v .quorum) (t .1) in
@@ -136,7 +136,7 @@ key-carries =
 auth-carries : Carries auths 0x41 Signed
 auth-carries =
     carries auths auths-exact 0x41 (inr (inr refl)) authAt (λ s. refl) Signed
-    (λ id contents out x a (k, i, c, o, l, e). rw (i, c, o, l, e) at (slip-auth-link k))
+    (λ id contents out x a (k, i, c, o, l, e). rw (i, c, o, l, e) at (payload-frame-auth-link k))
     (λ v lent y m w id i.
     let t = auths-ruled .writes v lent y m w in
     let h = auth-carried id i (v .public) (v .sig) (v .hash) (t .1) in

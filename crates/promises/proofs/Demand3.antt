@@ -8,15 +8,15 @@ use native.Mathlib.Omega.{arith}
 use lib.ListN.{length}
 use Rattle.wire.specs.Answer.{Answer, done, refused, bytesAfter}
 use Rattle.wire.specs.Over.{over}
-use Rattle.state.specs.Meaning.{BookIs}
+use Rattle.model.specs.Meaning.{BookIs}
 use Rattle.book.specs.Read.{idOf, readBook, okBook}
 use Rattle.collection.specs.Collection.{goodPage, offering, joining}
 use Rattle.collection.specs.Built.{Built, opened, offered, joined, bytesOf, In, Lent, offeredAll}
 use Rattle.collection.proofs.Demand as D
-use Rattle.closing.specs.Sets.{Answers}
-use Rattle.closing.specs.Mend.{Mends}
-use Rattle.closing.proofs.Demand.{finish-demand}
-use Rattle.closing.proofs.Repairs.{mend-says}
+use Rattle.finish.specs.Sets.{Answers}
+use Rattle.mend.specs.Mend.{Mends}
+use Rattle.finish.proofs.Demand.{finish-demand}
+use Rattle.mend.proofs.Repairs.{mend-says}
 use Rattle.status.specs.Line.{statusLine}
 use Rattle.status.specs.Sets.{LineIs}
 use Rattle.status.proofs.Sets.{status-line-is}
@@ -25,7 +25,7 @@ use Rattle.promises.specs.Collecting.{Interface, library, phone, Tells, 
 use Rattle.promises.specs.Demand3.{Left, SamePages, Demand3, Telling}
 use Rattle.promises.proofs.Interfaces.{Lawful, library-lawful, phone-lawful}
 use Rattle.promises.proofs.Writers.{written-room}
-use Rattle.promises.proofs.Links.Closing.{closing-mend-link}
+use Rattle.promises.proofs.Links.Finish.{mend-mend-link}
 use Rattle.promises.proofs.Links.Status.{status-status-link}
 
 swap : {A B : Type 0} → A ⊎ B → B ⊎ A
@@ -123,8 +123,8 @@ module _ (id : List ℕ) (eight : length id ≡ 8) where
 
   mend-tells : (c x : List ℕ) (a : Answer ℕ) → Mended c x a → Mends c x a
   mend-tells c x a (k, i, p, q) =
-      let l = closing-mend-link k in
-      mend-says c x a (sym q ∙ l .0 ∙ rw i) (sym p ∙ l .1 ∙ rw i)
+      let l = mend-mend-link k in
+      mend-says c x a (sym q ∙ l .answer ∙ rw i) (sym p ∙ l .bytes ∙ rw i)
 
   pub telling : Telling id
   telling = record { status = status-tells; mend = mend-tells }

@@ -9,8 +9,8 @@ use lib.Dec.{eqb}
 use lib.ListN.{length}
 use Rattle.wire.specs.Answer.{choose, Answer, done, refusedAt, Change, bytesAfter, answerOf}
 use Rattle.wire.proofs.Placeless.{Placeless}
-use Rattle.state.specs.Take.{Page}
-use Rattle.state.specs.Meaning.{BookIs}
+use Rattle.model.specs.Take.{Page}
+use Rattle.model.specs.Meaning.{BookIs}
 use Rattle.book.specs.Read.{readBook, okBook}
 use Rattle.collection.specs.Collection.{opening, offering, joining}
 use Rattle.collection.specs.Answer as answers
@@ -19,22 +19,22 @@ use Rattle.collection.specs.declared.Answered.the-variants as A
 use Rattle.collection.specs.declared.Offered.{Offered}
 use Rattle.collection.specs.declared.Offered.the-variants as O
 use Rattle.collection.proofs.Placeless.{open-placeless, offer-placeless, join-placeless}
-use Rattle.closing.specs.Finish.{finished, told, delivering, finishing}
-use Rattle.closing.specs.declared.Finished.{Finished}
-use Rattle.closing.specs.declared.Finished.the-variants as F
-use Rattle.closing.proofs.Demand.{finish-bytes}
+use Rattle.finish.specs.Finish.{finished, told, delivering, finishing}
+use Rattle.finish.specs.declared.Finished.{Finished}
+use Rattle.finish.specs.declared.Finished.the-variants as F
+use Rattle.finish.proofs.Demand.{finish-bytes}
 use Rattle.phone.specs.Packed.{packed, packedAnswer, packedKind, packedFinish, finishIn}
 use Rattle.collection.proofs.open as collection-open
 use Rattle.collection.proofs.offer as collection-offer
 use Rattle.collection.proofs.join as collection-join
-use Rattle.closing.proofs.finish as closing-finish
+use Rattle.finish.proofs.finish as finish-finish
 use Rattle.phone.proofs.stilt_open as phone-stilt-open
 use Rattle.phone.proofs.stilt_offer as phone-stilt-offer
 use Rattle.phone.proofs.stilt_join as phone-stilt-join
 use Rattle.phone.proofs.stilt_finish as phone-stilt-finish
 use Rattle.promises.specs.Collecting.{Interface, library, phone}
 use Rattle.promises.proofs.Writers.{secondLent, firstLent}
-use Rattle.promises.proofs.Links.Closing.{closing-finish-link}
+use Rattle.promises.proofs.Links.Finish.{finish-finish-link}
 use Rattle.promises.proofs.Links.Collection.{collection-join-link, collection-offer-link, collection-open-link}
 use Rattle.promises.proofs.Links.Phone.{phone-stilt-finish-link, phone-stilt-join-link, phone-stilt-offer-link, phone-stilt-open-link}
 
@@ -70,7 +70,7 @@ library-lawful = record {
   offers = λ c raw x (k, i, j, l). sym l ∙ collection-offer-link k .bytes ∙ rw (i, j);
   joins = λ c o x (k, i, j, l). sym l ∙ collection-join-link k .bytes ∙ rw (i, j);
   finishes = λ S c out x a ok m (k, i, j, l, e).
-      let w = closing-finish-link k in
+      let w = finish-finish-link k in
       (sym e ∙ w .answer ∙ rw (i, j), sym l ∙ w .bytes ∙ rw (i, j));
   can-open = λ id c.
       let r = answered (opening id c) (open-placeless id c) in
@@ -87,7 +87,7 @@ library-lawful = record {
   can-finish = λ c out.
       let r = ended out (finished c out) in
       let x : List ℕ = bytesAfter out (finishing c out) in
-      (x, told (r .0), (secondLent closing-finish.Kinds.r closing-finish.Reads.Learnt c out x (r .0) (record { answer = r .1; bytes = refl }), refl, refl, refl, refl));
+      (x, told (r .0), (secondLent finish-finish.Kinds.r finish-finish.Reads.Learnt c out x (r .0) (record { answer = r .1; bytes = refl }), refl, refl, refl, refl));
 }
 
 -- ---- the functions for C

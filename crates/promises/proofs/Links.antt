@@ -2,7 +2,7 @@
 -- contract that names another definition, or says less, is refused here, and `tests/loosened` tries that. A file for each crate; `tests/promises` sees that no
 -- function of a demand lacks its theorem.
 pub mod Collection
-pub mod Closing
+pub mod Finish
 pub mod Status
 pub mod Phone
 pub mod Frame
@@ -12,6 +12,6 @@ pub mod Manifest
 pub mod Auth
 pub mod Shard
 pub mod Page
-pub mod Slip
+pub mod PayloadFrame
 pub mod Scan
-pub mod Shelf
+pub mod PantryWork

@@ -1,4 +1,4 @@
--- One answer, by each contract itself: lent buffers, numbers, texts, paths and digests. Assumes nothing.
+-- One answer, by each contract itself: lent buffers, digits, numbers, texts, paths and digests. Assumes nothing.
 use mathlib.Core.Path.{refl, sym, _∙_}
 use Rattle.promises.specs.Once.{Once}
 use Rattle.promises.proofs.Lasts.{here, past}
@@ -11,11 +11,16 @@ use Rattle.lend.proofs.fill as lend-fill
 use Rattle.lend.proofs.clear as lend-clear
 use Rattle.lend.proofs.equal as lend-equal
 use Rattle.lend.proofs.give as lend-give
+use Rattle.digits.proofs.decimal as digits-decimal
+use Rattle.digits.proofs.refused_line as digits-refused-line
+use Rattle.digits.proofs.hex as digits-hex
+use Rattle.digits.proofs.all_hex as digits-all-hex
+use Rattle.digits.proofs.hex_read as digits-hex-read
 use Rattle.varint.proofs.read as varint-read
 use Rattle.varint.proofs.size as varint-size
 use Rattle.varint.proofs.write as varint-write
-use Rattle.varint.proofs.varint_no as varint-varint-no
-use Rattle.mark.proofs.mark_no as mark-mark-no
+use Rattle.varint.proofs.VarintRead.no as varint-VarintRead-no
+use Rattle.mark.proofs.MarkRead.no as mark-MarkRead-no
 use Rattle.mark.proofs.read as mark-read
 use Rattle.mark.proofs.lay as mark-lay
 use Rattle.path.proofs.allowed as path-allowed
@@ -28,6 +33,10 @@ use Rattle.crc.proofs.crc32 as crc-crc32
 use Rattle.crc.proofs.sum as crc-sum
 use Rattle.sha256.proofs.sha256 as sha256-sha256
 use Rattle.blake2b.proofs.blake2b as blake2b-blake2b
+use Rattle.document_id.proofs.of as document-id-of
+
+pub lend-equal-once : Once lend-equal.Kinds.ps lend-equal.Kinds.r lend-equal.Reads.Learnt
+lend-equal-once κs args x y u v p q = (p ∙ sym q, refl)
 
 pub lend-put-once : Once lend-put.Kinds.ps lend-put.Kinds.r lend-put.Reads.Learnt
 lend-put-once κs args x y u v p q = (refl, here (p ∙ sym q))
@@ -41,11 +50,23 @@ lend-fill-once κs args x y u v p q = (refl, here (p ∙ sym q))
 pub lend-clear-once : Once lend-clear.Kinds.ps lend-clear.Kinds.r lend-clear.Reads.Learnt
 lend-clear-once κs args x y u v p q = (refl, here (p ∙ sym q))
 
-pub lend-equal-once : Once lend-equal.Kinds.ps lend-equal.Kinds.r lend-equal.Reads.Learnt
-lend-equal-once κs args x y u v p q = (p ∙ sym q, refl)
-
 pub lend-give-once : Once lend-give.Kinds.ps lend-give.Kinds.r lend-give.Reads.Learnt
 lend-give-once κs args x y u v p q = let e = written-once x y p q in (e .0, past (here (e .1)))
+
+pub digits-decimal-once : Once digits-decimal.Kinds.ps digits-decimal.Kinds.r digits-decimal.Reads.Learnt
+digits-decimal-once κs args x y u v p q = (p .0 ∙ sym (q .0), here (p .2 ∙ sym (q .2)))
+
+pub digits-refused-line-once : Once digits-refused-line.Kinds.ps digits-refused-line.Kinds.r digits-refused-line.Reads.Learnt
+digits-refused-line-once κs args x y u v p q = let e = written-once x y p q in (e .0, past (here (e .1)))
+
+pub digits-hex-once : Once digits-hex.Kinds.ps digits-hex.Kinds.r digits-hex.Reads.Learnt
+digits-hex-once κs args x y u v p q = (refl, here (p ∙ sym q))
+
+pub digits-all-hex-once : Once digits-all-hex.Kinds.ps digits-all-hex.Kinds.r digits-all-hex.Reads.Learnt
+digits-all-hex-once κs args x y u v p q = (p ∙ sym q, refl)
+
+pub digits-hex-read-once : Once digits-hex-read.Kinds.ps digits-hex-read.Kinds.r digits-hex-read.Reads.Learnt
+digits-hex-read-once κs args x y u v p q = let e = written-once x y p q in (e .0, past (here (e .1)))
 
 pub varint-read-once : Once varint-read.Kinds.ps varint-read.Kinds.r varint-read.Reads.Learnt
 varint-read-once κs args x y u v p q = (varint.told-injective x y (p ∙ sym q), refl)
@@ -56,11 +77,11 @@ varint-size-once κs args x y u v p q = (p ∙ sym q, refl)
 pub varint-write-once : Once varint-write.Kinds.ps varint-write.Kinds.r varint-write.Reads.Learnt
 varint-write-once κs args x y u v p q = let e = written-once x y p q in (e .0, past (here (e .1)))
 
-pub varint-varint-no-once : Once varint-varint-no.Kinds.ps varint-varint-no.Kinds.r varint-varint-no.Reads.Learnt
-varint-varint-no-once κs args x y u v p q = (p ∙ sym q, refl)
+pub varint-VarintRead-no-once : Once varint-VarintRead-no.Kinds.ps varint-VarintRead-no.Kinds.r varint-VarintRead-no.Reads.Learnt
+varint-VarintRead-no-once κs args x y u v p q = (p ∙ sym q, refl)
 
-pub mark-mark-no-once : Once mark-mark-no.Kinds.ps mark-mark-no.Kinds.r mark-mark-no.Reads.Learnt
-mark-mark-no-once κs args x y u v p q = (p ∙ sym q, refl)
+pub mark-MarkRead-no-once : Once mark-MarkRead-no.Kinds.ps mark-MarkRead-no.Kinds.r mark-MarkRead-no.Reads.Learnt
+mark-MarkRead-no-once κs args x y u v p q = (p ∙ sym q, refl)
 
 pub mark-read-once : Once mark-read.Kinds.ps mark-read.Kinds.r mark-read.Reads.Learnt
 mark-read-once κs args x y u v p q = (mark.told-injective x y (p ∙ sym q), refl)
@@ -97,3 +118,6 @@ sha256-sha256-once κs args x y u v p q = (p ∙ sym q, refl)
 
 pub blake2b-blake2b-once : Once blake2b-blake2b.Kinds.ps blake2b-blake2b.Kinds.r blake2b-blake2b.Reads.Learnt
 blake2b-blake2b-once κs args x y u v p q = (p ∙ sym q, refl)
+
+pub document-id-of-once : Once document-id-of.Kinds.ps document-id-of.Kinds.r document-id-of.Reads.Learnt
+document-id-of-once κs args x y u v p q = (p ∙ sym q, refl)

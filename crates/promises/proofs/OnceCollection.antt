@@ -5,7 +5,8 @@ use Rattle.promises.proofs.Lasts.{here, past}
 use denote.Ref.{now}
 use Rattle.wire.proofs.Writes.{written-once, kept-once}
 use Rattle.collection.proofs.Answers.{told-injective, kind-injective}
-use Rattle.closing.proofs.Once.{closed-once, mended-injective}
+use Rattle.finish.proofs.Once.{finished-once}
+use Rattle.mend.proofs.Once.{mended-injective}
 use Rattle.block.proofs.seal as block-seal
 use Rattle.block.proofs.hold as block-hold
 use Rattle.block.proofs.dispute as block-dispute
@@ -16,18 +17,21 @@ use Rattle.block.proofs.holds as block-holds
 use Rattle.block.proofs.well_formed as block-well-formed
 use Rattle.book.proofs.place as book-place
 use Rattle.book.proofs.write_head as book-write-head
-use Rattle.book.proofs.head_ok as book-head-ok
+use Rattle.book.proofs.state as book-state
+use Rattle.book.proofs.total as book-total
+use Rattle.book.proofs.id as book-id
+use Rattle.book.proofs.id_copy as book-id-copy
+use Rattle.book.proofs.judge_head as book-judge-head
 use Rattle.book.proofs.page_ok as book-page-ok
-use Rattle.book.proofs.well_formed as book-well-formed
+use Rattle.book.proofs.judge as book-judge
 use Rattle.book.proofs.blank as book-blank
+use Rattle.book.proofs.tally.lowest as book-tally-lowest
+use Rattle.book.proofs.tally.count as book-tally-count
 use Rattle.collection.proofs.open as collection-open
 use Rattle.collection.proofs.offer as collection-offer
 use Rattle.collection.proofs.join as collection-join
-use Rattle.tally.proofs.lowest as tally-lowest
-use Rattle.tally.proofs.count as tally-count
-use Rattle.closing.proofs.finish as closing-finish
-use Rattle.closing.proofs.mend as closing-mend
-use Rattle.status.proofs.refused_line as status-refused-line
+use Rattle.finish.proofs.finish as finish-finish
+use Rattle.mend.proofs.mend as mend-mend
 use Rattle.status.proofs.status as status-status
 
 pub block-seal-once : Once block-seal.Kinds.ps block-seal.Kinds.r block-seal.Reads.Learnt
@@ -61,14 +65,27 @@ book-place-once κs args x y u v p q = (p ∙ sym q, refl)
 pub book-write-head-once : Once book-write-head.Kinds.ps book-write-head.Kinds.r book-write-head.Reads.Learnt
 book-write-head-once κs args x y u v p q = (refl, here (p ∙ sym q))
 
-pub book-head-ok-once : Once book-head-ok.Kinds.ps book-head-ok.Kinds.r book-head-ok.Reads.Learnt
-book-head-ok-once κs args x y u v p q = (p ∙ sym q, refl)
+pub book-state-once : Once book-state.Kinds.ps book-state.Kinds.r book-state.Reads.Learnt
+book-state-once κs args x y u v p q = (p ∙ sym q, refl)
+
+pub book-total-once : Once book-total.Kinds.ps book-total.Kinds.r book-total.Reads.Learnt
+book-total-once κs args x y u v p q = (p ∙ sym q, refl)
+
+-- as for `block::contents`
+pub book-id-once : OnceSeen book-id.Kinds.ps book-id.Kinds.r (λ κs x. now x) book-id.Reads.Learnt
+book-id-once κs args x y u v p q = (p ∙ sym q, refl)
+
+pub book-id-copy-once : Once book-id-copy.Kinds.ps book-id-copy.Kinds.r book-id-copy.Reads.Learnt
+book-id-copy-once κs args x y u v p q = (p ∙ sym q, refl)
+
+pub book-judge-head-once : Once book-judge-head.Kinds.ps book-judge-head.Kinds.r book-judge-head.Reads.Learnt
+book-judge-head-once κs args x y u v p q = (p ∙ sym q, refl)
 
 pub book-page-ok-once : Once book-page-ok.Kinds.ps book-page-ok.Kinds.r book-page-ok.Reads.Learnt
 book-page-ok-once κs args x y u v p q = (p ∙ sym q, refl)
 
-pub book-well-formed-once : Once book-well-formed.Kinds.ps book-well-formed.Kinds.r book-well-formed.Reads.Learnt
-book-well-formed-once κs args x y u v p q = (p ∙ sym q, refl)
+pub book-judge-once : Once book-judge.Kinds.ps book-judge.Kinds.r book-judge.Reads.Learnt
+book-judge-once κs args x y u v p q = (p ∙ sym q, refl)
 
 pub book-blank-once : Once book-blank.Kinds.ps book-blank.Kinds.r book-blank.Reads.Learnt
 book-blank-once κs args x y u v p q = (refl, here (p ∙ sym q))
@@ -82,20 +99,17 @@ collection-offer-once κs args x y u v p q = let e = kept-once p q in (kind-inje
 pub collection-join-once : Once collection-join.Kinds.ps collection-join.Kinds.r collection-join.Reads.Learnt
 collection-join-once κs args x y u v p q = let e = kept-once p q in (told-injective x y (e .0), here (e .1))
 
-pub tally-lowest-once : Once tally-lowest.Kinds.ps tally-lowest.Kinds.r tally-lowest.Reads.Learnt
-tally-lowest-once κs args x y u v p q = (p ∙ sym q, refl)
+pub book-tally-lowest-once : Once book-tally-lowest.Kinds.ps book-tally-lowest.Kinds.r book-tally-lowest.Reads.Learnt
+book-tally-lowest-once κs args x y u v p q = (p ∙ sym q, refl)
 
-pub tally-count-once : Once tally-count.Kinds.ps tally-count.Kinds.r tally-count.Reads.Learnt
-tally-count-once κs args x y u v p q = (p ∙ sym q, refl)
+pub book-tally-count-once : Once book-tally-count.Kinds.ps book-tally-count.Kinds.r book-tally-count.Reads.Learnt
+book-tally-count-once κs args x y u v p q = (p ∙ sym q, refl)
 
-pub closing-finish-once : Once closing-finish.Kinds.ps closing-finish.Kinds.r closing-finish.Reads.Learnt
-closing-finish-once κs args x y u v p q = let e = closed-once x y p q in (e .0, past (here (e .1)))
+pub finish-finish-once : Once finish-finish.Kinds.ps finish-finish.Kinds.r finish-finish.Reads.Learnt
+finish-finish-once κs args x y u v p q = let e = finished-once x y p q in (e .0, past (here (e .1)))
 
-pub closing-mend-once : Once closing-mend.Kinds.ps closing-mend.Kinds.r closing-mend.Reads.Learnt
-closing-mend-once κs args x y u v p q = (mended-injective x y (p .0 ∙ sym (q .0)), here (p .1 ∙ sym (q .1)))
-
-pub status-refused-line-once : Once status-refused-line.Kinds.ps status-refused-line.Kinds.r status-refused-line.Reads.Learnt
-status-refused-line-once κs args x y u v p q = let e = written-once x y p q in (e .0, past (here (e .1)))
+pub mend-mend-once : Once mend-mend.Kinds.ps mend-mend.Kinds.r mend-mend.Reads.Learnt
+mend-mend-once κs args x y u v p q = let e = kept-once p q in (mended-injective x y (e .0), here (e .1))
 
 pub status-status-once : Once status-status.Kinds.ps status-status.Kinds.r status-status.Reads.Learnt
 status-status-once κs args x y u v p q = let e = written-once x y p q in (e .0, past (here (e .1)))

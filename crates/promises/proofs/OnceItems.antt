@@ -4,10 +4,10 @@ use Rattle.promises.specs.Once.{Once}
 use Rattle.promises.proofs.Lasts.{here}
 use Rattle.cbor.proofs.Answers.{step-injective, number-injective, head-injective, string-injective}
 use Rattle.cbor.proofs.Runs.{put-once}
-use Rattle.cbor.proofs.step_no as cbor-step-no
-use Rattle.cbor.proofs.number_no as cbor-number-no
-use Rattle.cbor.proofs.head_no as cbor-head-no
-use Rattle.cbor.proofs.string_no as cbor-string-no
+use Rattle.cbor.proofs.StepRead.no as cbor-StepRead-no
+use Rattle.cbor.proofs.NumberRead.no as cbor-NumberRead-no
+use Rattle.cbor.proofs.HeadRead.no as cbor-HeadRead-no
+use Rattle.cbor.proofs.StringRead.no as cbor-StringRead-no
 use Rattle.cbor.proofs.read.byte as cbor-read-byte
 use Rattle.cbor.proofs.read.one_byte as cbor-read-one-byte
 use Rattle.cbor.proofs.read.head as cbor-read-head
@@ -26,17 +26,17 @@ use Rattle.cbor.proofs.write.double as cbor-write-double
 use Rattle.cbor.proofs.write.string_field as cbor-write-string-field
 use Rattle.cbor.proofs.write.number_field as cbor-write-number-field
 
-pub cbor-step-no-once : Once cbor-step-no.Kinds.ps cbor-step-no.Kinds.r cbor-step-no.Reads.Learnt
-cbor-step-no-once κs args x y u v p q = (p ∙ sym q, refl)
+pub cbor-StepRead-no-once : Once cbor-StepRead-no.Kinds.ps cbor-StepRead-no.Kinds.r cbor-StepRead-no.Reads.Learnt
+cbor-StepRead-no-once κs args x y u v p q = (p ∙ sym q, refl)
 
-pub cbor-number-no-once : Once cbor-number-no.Kinds.ps cbor-number-no.Kinds.r cbor-number-no.Reads.Learnt
-cbor-number-no-once κs args x y u v p q = (p ∙ sym q, refl)
+pub cbor-NumberRead-no-once : Once cbor-NumberRead-no.Kinds.ps cbor-NumberRead-no.Kinds.r cbor-NumberRead-no.Reads.Learnt
+cbor-NumberRead-no-once κs args x y u v p q = (p ∙ sym q, refl)
 
-pub cbor-head-no-once : Once cbor-head-no.Kinds.ps cbor-head-no.Kinds.r cbor-head-no.Reads.Learnt
-cbor-head-no-once κs args x y u v p q = (p ∙ sym q, refl)
+pub cbor-HeadRead-no-once : Once cbor-HeadRead-no.Kinds.ps cbor-HeadRead-no.Kinds.r cbor-HeadRead-no.Reads.Learnt
+cbor-HeadRead-no-once κs args x y u v p q = (p ∙ sym q, refl)
 
-pub cbor-string-no-once : Once cbor-string-no.Kinds.ps cbor-string-no.Kinds.r cbor-string-no.Reads.Learnt
-cbor-string-no-once κs args x y u v p q = (p ∙ sym q, refl)
+pub cbor-StringRead-no-once : Once cbor-StringRead-no.Kinds.ps cbor-StringRead-no.Kinds.r cbor-StringRead-no.Reads.Learnt
+cbor-StringRead-no-once κs args x y u v p q = (p ∙ sym q, refl)
 
 pub cbor-read-byte-once : Once cbor-read-byte.Kinds.ps cbor-read-byte.Kinds.r cbor-read-byte.Reads.Learnt
 cbor-read-byte-once κs args x y u v p q = (number-injective x y (p ∙ sym q), refl)

@@ -11,16 +11,16 @@ use Rattle.shard.proofs.Answers.{shard-injective}
 use Rattle.entry.proofs.Answers.{file-injective}
 use Rattle.cover.proofs.Answers as cover
 use Rattle.envelope.proofs.Answers as envelope
-use Rattle.auth.proofs.claim_no as auth-claim-no
+use Rattle.auth.proofs.ClaimRead.no as auth-ClaimRead-no
 use Rattle.auth.proofs.claim as auth-claim
 use Rattle.auth.proofs.read as auth-read
 use Rattle.auth.proofs.write as auth-write
 use Rattle.auth.proofs.signed as auth-signed
-use Rattle.shard.proofs.shard_no as shard-shard-no
+use Rattle.shard.proofs.ShardRead.no as shard-ShardRead-no
 use Rattle.shard.proofs.read as shard-read
 use Rattle.shard.proofs.write as shard-write
 use Rattle.shard.proofs.signed as shard-signed
-use Rattle.entry.proofs.file_no as entry-file-no
+use Rattle.entry.proofs.FileRead.no as entry-FileRead-no
 use Rattle.entry.proofs.read.integer as entry-read-integer
 use Rattle.entry.proofs.read.file as entry-read-file
 use Rattle.entry.proofs.write.part as entry-write-part
@@ -30,14 +30,14 @@ use Rattle.entry.proofs.write.integer as entry-write-integer
 use Rattle.entry.proofs.write.file as entry-write-file
 use Rattle.manifest.proofs.read as manifest-read
 use Rattle.manifest.proofs.write as manifest-write
-use Rattle.cover.proofs.cover_no as cover-cover-no
+use Rattle.cover.proofs.CoverRead.no as cover-CoverRead-no
 use Rattle.cover.proofs.read as cover-read
 use Rattle.cover.proofs.lay as cover-lay
 use Rattle.envelope.proofs.read as envelope-read
 use Rattle.envelope.proofs.write as envelope-write
 
-pub auth-claim-no-once : Once auth-claim-no.Kinds.ps auth-claim-no.Kinds.r auth-claim-no.Reads.Learnt
-auth-claim-no-once κs args x y u v p q = (p ∙ sym q, refl)
+pub auth-ClaimRead-no-once : Once auth-ClaimRead-no.Kinds.ps auth-ClaimRead-no.Kinds.r auth-ClaimRead-no.Reads.Learnt
+auth-ClaimRead-no-once κs args x y u v p q = (p ∙ sym q, refl)
 
 pub auth-claim-once : Once auth-claim.Kinds.ps auth-claim.Kinds.r auth-claim.Reads.Learnt
 auth-claim-once κs args x y u v p q = (claim-injective x y (p ∙ sym q), refl)
@@ -51,8 +51,8 @@ auth-write-once κs args x y u v p q = let e = written-once x y p q in (e .0, pa
 pub auth-signed-once : Once auth-signed.Kinds.ps auth-signed.Kinds.r auth-signed.Reads.Learnt
 auth-signed-once κs args x y u v p q = let e = written-once x y p q in (e .0, past (past (here (e .1))))
 
-pub shard-shard-no-once : Once shard-shard-no.Kinds.ps shard-shard-no.Kinds.r shard-shard-no.Reads.Learnt
-shard-shard-no-once κs args x y u v p q = (p ∙ sym q, refl)
+pub shard-ShardRead-no-once : Once shard-ShardRead-no.Kinds.ps shard-ShardRead-no.Kinds.r shard-ShardRead-no.Reads.Learnt
+shard-ShardRead-no-once κs args x y u v p q = (p ∙ sym q, refl)
 
 pub shard-read-once : Once shard-read.Kinds.ps shard-read.Kinds.r shard-read.Reads.Learnt
 shard-read-once κs args x y u v p q = (shard-injective x y (p ∙ sym q), refl)
@@ -63,8 +63,8 @@ shard-write-once κs args x y u v p q = let e = written-once x y p q in (e .0, p
 pub shard-signed-once : Once shard-signed.Kinds.ps shard-signed.Kinds.r shard-signed.Reads.Learnt
 shard-signed-once κs args x y u v p q = let e = written-once x y p q in (e .0, past3 (past3 (here (e .1))))
 
-pub entry-file-no-once : Once entry-file-no.Kinds.ps entry-file-no.Kinds.r entry-file-no.Reads.Learnt
-entry-file-no-once κs args x y u v p q = (p ∙ sym q, refl)
+pub entry-FileRead-no-once : Once entry-FileRead-no.Kinds.ps entry-FileRead-no.Kinds.r entry-FileRead-no.Reads.Learnt
+entry-FileRead-no-once κs args x y u v p q = (p ∙ sym q, refl)
 
 pub entry-read-integer-once : Once entry-read-integer.Kinds.ps entry-read-integer.Kinds.r entry-read-integer.Reads.Learnt
 entry-read-integer-once κs args x y u v p q = (head-injective x y (p ∙ sym q), refl)
@@ -94,8 +94,8 @@ manifest-read-once κs args x y u v p q = (p ∙ sym q, refl)
 pub manifest-write-once : Once manifest-write.Kinds.ps manifest-write.Kinds.r manifest-write.Reads.Learnt
 manifest-write-once κs args x y u v p q = let e = written-once x y p q in (e .0, past (past (here (e .1))))
 
-pub cover-cover-no-once : Once cover-cover-no.Kinds.ps cover-cover-no.Kinds.r cover-cover-no.Reads.Learnt
-cover-cover-no-once κs args x y u v p q = (p ∙ sym q, refl)
+pub cover-CoverRead-no-once : Once cover-CoverRead-no.Kinds.ps cover-CoverRead-no.Kinds.r cover-CoverRead-no.Reads.Learnt
+cover-CoverRead-no-once κs args x y u v p q = (p ∙ sym q, refl)
 
 pub cover-read-once : Once cover-read.Kinds.ps cover-read.Kinds.r cover-read.Reads.Learnt
 cover-read-once κs args x y u v p q = (cover.told-injective x y (p ∙ sym q), refl)

@@ -17,9 +17,9 @@ use Rattle.sheet.proofs.scans as sheet-scans
 use Rattle.sheet.proofs.typed as sheet-typed
 use Rattle.sheet.proofs.typed_page as sheet-typed-page
 use Rattle.sheet.proofs.page_asked as sheet-page-asked
-use Rattle.shelf.proofs.resume as shelf-resume
-use Rattle.shelf.proofs.refused_line as shelf-refused-line
-use Rattle.shelf.proofs.answer as shelf-answer
+use Rattle.pantry_work.proofs.resume as pantry-work-resume
+use Rattle.pantry_work.proofs.refused_line as pantry-work-refused-line
+use Rattle.pantry_work.proofs.answer as pantry-work-answer
 use Rattle.phone.proofs.stilt_open as phone-stilt-open
 use Rattle.phone.proofs.stilt_offer as phone-stilt-offer
 use Rattle.phone.proofs.stilt_join as phone-stilt-join
@@ -64,14 +64,14 @@ sheet-typed-page-once κs args x y u v p q = let e = written-once x y p q in (e 
 pub sheet-page-asked-once : Once sheet-page-asked.Kinds.ps sheet-page-asked.Kinds.r sheet-page-asked.Reads.Learnt
 sheet-page-asked-once κs args x y u v p q = (p ∙ sym q, refl)
 
-pub shelf-resume-once : Once shelf-resume.Kinds.ps shelf-resume.Kinds.r shelf-resume.Reads.Learnt
-shelf-resume-once κs args x y u v p q = let e = kept-once p q in (told-injective x y (e .0), past (past (here (e .1))))
+pub pantry-work-resume-once : Once pantry-work-resume.Kinds.ps pantry-work-resume.Kinds.r pantry-work-resume.Reads.Learnt
+pantry-work-resume-once κs args x y u v p q = let e = kept-once p q in (told-injective x y (e .0), past (past (here (e .1))))
 
-pub shelf-refused-line-once : Once shelf-refused-line.Kinds.ps shelf-refused-line.Kinds.r shelf-refused-line.Reads.Learnt
-shelf-refused-line-once κs args x y u v p q = let e = written-once x y p q in (e .0, past (past (here (e .1))))
+pub pantry-work-refused-line-once : Once pantry-work-refused-line.Kinds.ps pantry-work-refused-line.Kinds.r pantry-work-refused-line.Reads.Learnt
+pantry-work-refused-line-once κs args x y u v p q = let e = written-once x y p q in (e .0, past (past (here (e .1))))
 
-pub shelf-answer-once : Once shelf-answer.Kinds.ps shelf-answer.Kinds.r shelf-answer.Reads.Learnt
-shelf-answer-once κs args x y u v p q = let e = written-once x y p q in (e .0, past (past (here (e .1))))
+pub pantry-work-answer-once : Once pantry-work-answer.Kinds.ps pantry-work-answer.Kinds.r pantry-work-answer.Reads.Learnt
+pantry-work-answer-once κs args x y u v p q = let e = written-once x y p q in (e .0, past (past (here (e .1))))
 
 pub phone-stilt-open-once : Once phone-stilt-open.Kinds.ps phone-stilt-open.Kinds.r phone-stilt-open.Reads.Learnt
 phone-stilt-open-once κs args x y u v p q = (p .0 ∙ sym (q .0), past (here (p .1 ∙ sym (q .1))))

@@ -72,7 +72,7 @@ part-short : (k n : ℕ) (s : List ℕ) → length (take n (drop k s)) ≤ lengt
 part-short k n s = omega (arith, length-take n (drop k s), length-drop k s, min-le-right n (length (drop k s)))
 
 enclosed-only : (s : List ℕ) (p : Cover) → Slice s → envelopeAt s ≡ done p → EnvelopeForm (envelopes .says s p) s
-enclosed-only s p y e = (omega (arith, y .1, part-short (p .payload) (p .payload-len) s), envelope-only s p (y .0) e .rewritten)
+enclosed-only s p y e = (omega (arith, y .1, part-short (p .payload .start) (p .payload .len) s), envelope-only s p (y .0) e .rewritten)
 
 module _ (v : Enclosed) (s out : List ℕ) (e : verdict (v .manifest) (v .payload) ≡ done s) (h : length s ≤ length out) where
   abbrev enclosing : Call envelope-write.Kinds.ps envelope-write.Kinds.r envelope-write.Reads.Learnt

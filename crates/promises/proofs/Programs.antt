@@ -8,25 +8,27 @@ use borrow.Author.Tests.{ne-eqb}
 use lib.Dec.{eqb}
 use lib.ListN.{length}
 use Rattle.wire.specs.Answer.{choose, Answer, done, refusedAt, refused, Change, leaves, bytesAfter, answerOf}
-use Rattle.state.specs.State.{Book}
-use Rattle.state.specs.Meaning.{BookIs}
+use Rattle.digits.specs.Decimal.{refusedLine}
+use Rattle.digits.proofs.Decimals.{refused-most}
+use Rattle.model.specs.Book.{Book}
+use Rattle.model.specs.Meaning.{BookIs}
 use Rattle.book.specs.Encode.{encode}
 use Rattle.book.specs.Read.{readBook, okBook}
 use Rattle.collection.specs.Built.{opened, offeredAll, PageAmong, AllBytes}
 use Rattle.collection.proofs.Demand.{list-saved}
-use Rattle.status.specs.Line.{statusLine, refusedLine}
+use Rattle.status.specs.Line.{statusLine}
 use Rattle.status.specs.Sets.{LineIs}
 use Rattle.status.proofs.Sets.{status-line-is}
-use Rattle.status.proofs.Told.{status-most, refused-most}
+use Rattle.status.proofs.Told.{status-most}
 use Rattle.scan.specs.Id.{idVerdict}
 use Rattle.scan.specs.Session.{At, at, lineOf, scanned, started, ended, fed, closed, reported}
 use Rattle.scan.specs.declared.session.Session.{Session}
 use Rattle.scan.specs.Input.{documentOf, scansOf, collectionOf, new, session}
 use Rattle.scan.proofs.Inputs.{fed-append, session-collects, session-refused, all-bytes, document-eight, list-says}
-use Rattle.shelf.specs.Shelf.{resuming, answered}
-use Rattle.shelf.specs.Pantry.{takenUp, Prints}
-use Rattle.shelf.proofs.Answers.{answered-most}
-use Rattle.shelf.proofs.Pantry.{all-append, scans-print, alone-prints, file-joined, damaged-13, another-12, none-prints, none-19}
+use Rattle.pantry_work.specs.Steps.{resuming, answered}
+use Rattle.pantry_work.specs.Pantry.{takenUp, Prints}
+use Rattle.pantry_work.proofs.Answers.{answered-most}
+use Rattle.pantry_work.proofs.Pantry.{all-append, scans-print, alone-prints, file-joined, damaged-13, another-12, none-prints, none-19}
 use Rattle.scan.proofs.session.feed as scan-session-feed
 use Rattle.scan.proofs.session.close as scan-session-close
 use Rattle.promises.specs.Calls.{Call}
@@ -37,7 +39,7 @@ use Rattle.promises.proofs.Writers.{slice, written-room}
 use Rattle.promises.proofs.Interfaces.{library-lawful}
 use Rattle.promises.proofs.Demand3.{left-bytes}
 use Rattle.promises.proofs.Links.Scan.{scan-session-feed-link, scan-session-close-link, scan-session-report-link}
-use Rattle.promises.proofs.Links.Shelf.{shelf-resume-link, shelf-answer-link}
+use Rattle.promises.proofs.Links.PantryWork.{pantry-work-resume-link, pantry-work-answer-link}
 
 -- ---- a run is a session over the whole input
 
@@ -112,12 +114,12 @@ reports-laid phase c out x a h (k, i, j, l, m, e) = written-room (reported phase
 answers-laid : (phase : ℕ) (c out x : List ℕ) (a : Answer ℕ) → 46080 ≤ length out → Shows phase c out x a → Laid (answered phase c) out x a
 answers-laid phase c out x a h (k, i, j, l, m, e) =
     let n = answered-most phase c in
-    written-room (answered phase c) out x a (omega arith) (rw (i, j, l, m, e) at (shelf-answer-link k))
+    written-room (answered phase c) out x a (omega arith) (rw (i, j, l, m, e) at (pantry-work-answer-link k))
 
 resumes-says : (phase : ℕ) (c saved y : List ℕ) (r : Answer Unit) (d : Change Unit) → resuming phase c saved ≡ d → Resumes phase c saved y r
     → (r ≡ answerOf d) × (y ≡ bytesAfter c d)
 resumes-says phase c saved y r d q (k, i, j, l, m, e) =
-    let w = rw (i, j, l, m) at (shelf-resume-link k) in
+    let w = rw (i, j, l, m) at (pantry-work-resume-link k) in
     (sym e ∙ w .answer ∙ ap answerOf q, w .bytes ∙ ap (bytesAfter c) q)
 
 -- ---- an input that names a document

@@ -8,7 +8,8 @@ use lib.ListN.{length}
 use Rattle.wire.specs.Answer.{Answer, done, refusedAt, bytesAfter, Kept}
 use Rattle.wire.specs.Number.{Bytes}
 use Rattle.wire.specs.Over.{over}
-use Rattle.wire.specs.Writing.{told, writing}
+use Rattle.wire.specs.Writing.{told, writing, Written}
+use Rattle.wire.specs.declared.Wrote.{Wrote}
 use Rattle.wire.specs.declared.Wrote.the-variants.{Done}
 use Rattle.wire.proofs.Cases.{done-value}
 use Rattle.wire.proofs.Writes.{refused-why}
@@ -42,8 +43,8 @@ module _ (f : Form) (law : Lawful f) (s out x : List ℕ) (h : length s ≤ leng
 module _ (f : Form) (law : Lawful f) (Reader Writer : List ℕ → List ℕ → List ℕ → Answer ℕ → Type 0)
     (reader : (s out x : List ℕ) (a : Answer ℕ) → Reader s out x a → Kept (writing 0 out (readText f s)) out x a)
     (writer : (s out x : List ℕ) (a : Answer ℕ) → Writer s out x a → Kept (writing 0 out (done (textOf f s))) out x a)
-    (read : (s : List ℕ) → (x : List ℕ) × (a : Answer ℕ) × Reader s s x a)
-    (write : (s out : List ℕ) → length (textOf f s) ≤ length out → Writer s out (over 0 (textOf f s) out) (done (length (textOf f s)))) where
+    (read : (s out x : List ℕ) (r : Wrote) → Written 0 (readText f s) out x r → Reader s out x (told r))
+    (write : (s out x : List ℕ) (r : Wrote) → Written 0 (done (textOf f s)) out x r → Writer s out x (told r)) where
   abbrev TextForm : List ℕ → List ℕ → Type 0
   TextForm v s = Bytes v × (s ≡ textOf f v)
 
@@ -52,12 +53,17 @@ module _ (f : Form) (law : Lawful f) (Reader Writer : List ℕ → List ℕ → 
     back = λ v s (y, e). (v, ap (readText f) e ∙ read-written f law v y, refl);
     only = λ s p y e. let w = written-read f law s p e in (w .1, w .0);
     form = λ v s t a b. a .1 ∙ sym (b .1);
-    can-read = λ s. let r = read s in (textSaid (r .1) (r .0), (s, r .0, r .1, r .2, omega arith, refl));
+    can-read = λ s.
+        let r = can-answer (readText f s) (text-placeless f s) s in
+        let x : List ℕ = bytesAfter s (writing 0 s (readText f s)) in
+        (textSaid (told (r .0)) x, (s, x, told (r .0), read s s x (r .0) (r .1), omega arith, refl));
     reads = λ s a (out, x, r, k, h, e). sym e ∙ text-said f law s out x h r (reader s out x r k);
     writes = λ v out x n (y, k).
         let u = wrote-done (done (textOf f v)) out x n (writer v out x (done n) k) in
         (u .0, (y, sym (done-value (u .1))), u .2);
-    write = λ v s (y, e) out h. rw e (y, write v out (rw e at h));
+    write = λ v s (y, e) out h.
+        let t : List ℕ = textOf f v in
+        rw e (y, write v out (over 0 t out) (Done (length t)) (can-write (done t) t out refl (rw e at h)));
   }
 
   texts-exact : Exact (texts f Reader Writer)
@@ -65,26 +71,14 @@ module _ (f : Form) (law : Lawful f) (Reader Writer : List ℕ → List ℕ → 
 
 pub scans-exact : Exact scans
 scans-exact =
-    texts-exact base64 base64-lawful _ _
-    (λ s out x a (k, i, j, l, e). rw (i, j, l, e) at (text-base64-read-link k))
+    texts-exact base64 base64-lawful _ _ (λ s out x a (k, i, j, l, e). rw (i, j, l, e) at (text-base64-read-link k))
     (λ s out x a (k, i, j, l, e). rw (i, j, l, e) at (text-base64-write-link k))
-    (λ s.
-    let r = can-answer (readText base64 s) (text-placeless base64 s) s in
-    let x : List ℕ = bytesAfter s (writing 0 s (readText base64 s)) in
-    (x, told (r .0), (secondLent text-base64-read.Kinds.r text-base64-read.Reads.Learnt s s x (r .0) (r .1), refl, refl, refl, refl)))
-    (λ s out h.
-    let t : List ℕ = textOf base64 s in
-    (secondLent text-base64-write.Kinds.r text-base64-write.Reads.Learnt s out (over 0 t out) (Done (length t)) (can-write (done t) t out refl h), refl, refl, refl, refl))
+    (λ s out x r w. (secondLent text-base64-read.Kinds.r text-base64-read.Reads.Learnt s out x r w, refl, refl, refl, refl))
+    (λ s out x r w. (secondLent text-base64-write.Kinds.r text-base64-write.Reads.Learnt s out x r w, refl, refl, refl, refl))
 
 pub typing-exact : Exact typing
 typing-exact =
-    texts-exact zbase32 zbase32-lawful _ _
-    (λ s out x a (k, i, j, l, e). rw (i, j, l, e) at (text-zbase32-read-link k))
+    texts-exact zbase32 zbase32-lawful _ _ (λ s out x a (k, i, j, l, e). rw (i, j, l, e) at (text-zbase32-read-link k))
     (λ s out x a (k, i, j, l, e). rw (i, j, l, e) at (text-zbase32-write-link k))
-    (λ s.
-    let r = can-answer (readText zbase32 s) (text-placeless zbase32 s) s in
-    let x : List ℕ = bytesAfter s (writing 0 s (readText zbase32 s)) in
-    (x, told (r .0), (secondLent text-zbase32-read.Kinds.r text-zbase32-read.Reads.Learnt s s x (r .0) (r .1), refl, refl, refl, refl)))
-    (λ s out h.
-    let t : List ℕ = textOf zbase32 s in
-    (secondLent text-zbase32-write.Kinds.r text-zbase32-write.Reads.Learnt s out (over 0 t out) (Done (length t)) (can-write (done t) t out refl h), refl, refl, refl, refl))
+    (λ s out x r w. (secondLent text-zbase32-read.Kinds.r text-zbase32-read.Reads.Learnt s out x r w, refl, refl, refl, refl))
+    (λ s out x r w. (secondLent text-zbase32-write.Kinds.r text-zbase32-write.Reads.Learnt s out x r w, refl, refl, refl, refl))

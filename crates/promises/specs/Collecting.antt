@@ -6,14 +6,14 @@ use mathlib.Core.List.{List}
 use denote.Ref.{now}
 use Rattle.wire.specs.Answer.{Answer}
 use Rattle.wire.specs.Writing as writing
-use Rattle.closing.specs.Finish as finishing
-use Rattle.closing.specs.Mend as mending
+use Rattle.finish.specs.Finish as finishing
+use Rattle.mend.specs.Mend as mending
 use Rattle.phone.specs.Packed.{finishIn}
 use Rattle.collection.proofs.open as collection-open
 use Rattle.collection.proofs.offer as collection-offer
 use Rattle.collection.proofs.join as collection-join
-use Rattle.closing.proofs.finish as closing-finish
-use Rattle.closing.proofs.mend as closing-mend
+use Rattle.finish.proofs.finish as finish-finish
+use Rattle.mend.proofs.mend as mend-mend
 use Rattle.status.proofs.status as status-status
 use Rattle.phone.proofs.stilt_open as phone-stilt-open
 use Rattle.phone.proofs.stilt_offer as phone-stilt-offer
@@ -42,7 +42,7 @@ library = record {
       (k : Call collection-join.Kinds.ps collection-join.Kinds.r collection-join.Reads.Learnt)
       × (now (k .args .0) ≡ c) × (now (k .args .1 .0) ≡ o) × (k .left .0 ≡ x);
   Finishes = λ c out x a.
-      (k : Call closing-finish.Kinds.ps closing-finish.Kinds.r closing-finish.Reads.Learnt)
+      (k : Call finish-finish.Kinds.ps finish-finish.Kinds.r finish-finish.Reads.Learnt)
       × (now (k .args .0) ≡ c) × (now (k .args .1 .0) ≡ out) × (k .left .1 .0 ≡ x) × (finishing.told (k .answer) ≡ a);
 }
 
@@ -64,7 +64,7 @@ phone = record {
 }
 
 -- status was called on c, was lent out, left x there and answered a
-abbrev pub Tells : List ℕ → List ℕ → List ℕ → Answer ℕ → Type 0
+abbrev pub Tells : (c out x : List ℕ) (a : Answer ℕ) → Type 0
 Tells c out x a =
     (k : Call status-status.Kinds.ps status-status.Kinds.r status-status.Reads.Learnt)
     × (now (k .args .0) ≡ c) × (now (k .args .1 .0) ≡ out) × (k .left .1 .0 ≡ x) × (writing.told (k .answer) ≡ a)
@@ -72,5 +72,5 @@ Tells c out x a =
 -- mend was lent c, left x and answered a
 abbrev pub Mended : List ℕ → List ℕ → Answer ℕ → Type 0
 Mended c x a =
-    (k : Call closing-mend.Kinds.ps closing-mend.Kinds.r closing-mend.Reads.Learnt)
+    (k : Call mend-mend.Kinds.ps mend-mend.Kinds.r mend-mend.Reads.Learnt)
     × (now (k .args .0) ≡ c) × (k .left .0 ≡ x) × (mending.told (k .answer) ≡ a)

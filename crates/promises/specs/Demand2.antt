@@ -9,12 +9,13 @@ use borrow.Fn.Kinds.{Out}
 use Rattle.wire.specs.Answer.{Answer, done}
 use Rattle.wire.specs.Number.{Bytes}
 use Rattle.wire.specs.Writing.{told}
-use Rattle.page.specs.Page.{documentId, pageCount, pageData, Printed, joined}
+use Rattle.document_id.specs.Id.{documentId}
+use Rattle.page.specs.Page.{pageCount, pageData, Printed, joined}
 use Rattle.page.proofs.write as page-write
 use Rattle.page.proofs.write_base64 as page-write-base64
 use Rattle.page.proofs.write_zbase32 as page-write-zbase32
-use Rattle.slip.proofs.key as slip-key
-use Rattle.slip.proofs.auth as slip-auth
+use Rattle.payload_frame.proofs.key as payload-frame-key
+use Rattle.payload_frame.proofs.auth as payload-frame-auth
 use Rattle.promises.specs.Calls.{Call}
 use Rattle.promises.specs.Formats.{Format, Exact, Frame, frames, scans, typing, envelopes, manifests, auths, shards}
 
@@ -48,7 +49,7 @@ abbrev pub pageOf : List ℕ → ℕ → ℕ → Frame
 pageOf c size i = record { kind = 0x44; id = documentId c; index = i; total = pageCount (length c) size; contents = pageData c size i }
 
 -- page i's text is read as page i's frame
-abbrev pub ThroughText : Printing → (List ℕ → Answer (List ℕ) → Type 0) → List ℕ → ℕ → Type 0
+abbrev pub ThroughText : (Text : Printing) (Reads : List ℕ → Answer (List ℕ) → Type 0) (c : List ℕ) (size : ℕ) → Type 0
 ThroughText Text Reads c size =
     (i : ℕ) → i < pageCount (length c) size → (out x : List ℕ) (m : ℕ) (out' y : List ℕ) (n : ℕ) (a : Answer (List ℕ))
     → Framed c size i out x (done m) → Text c size i out' y (done n) → Reads (take n y) a → a ≡ done (take m x)
@@ -63,27 +64,27 @@ pub record Pages (c : List ℕ) (size : ℕ) : Type 0 where
 
 -- ---- key and auth frames
 
-abbrev pub SlipCall : Out 3 slip-key.Kinds.ps slip-key.Kinds.r → List ℕ → List ℕ → List ℕ → List ℕ → Answer ℕ → Type 0
-SlipCall contract id contents out x a =
-    (k : Call slip-key.Kinds.ps slip-key.Kinds.r contract)
+abbrev pub PayloadCall : (contract : Out 3 payload-frame-key.Kinds.ps payload-frame-key.Kinds.r) (id contents out x : List ℕ) (a : Answer ℕ) → Type 0
+PayloadCall contract id contents out x a =
+    (k : Call payload-frame-key.Kinds.ps payload-frame-key.Kinds.r contract)
     × (now (k .args .0) ≡ id) × (now (k .args .1 .0) ≡ contents) × (now (k .args .1 .1 .0) ≡ out) × (k .left .1 .1 .0 ≡ x) × (told (k .answer) ≡ a)
 
-abbrev pub Keyed : List ℕ → List ℕ → List ℕ → List ℕ → Answer ℕ → Type 0
-Keyed = SlipCall slip-key.Reads.Learnt
+abbrev pub Keyed : (id contents out x : List ℕ) (a : Answer ℕ) → Type 0
+Keyed = PayloadCall payload-frame-key.Reads.Learnt
 
-abbrev pub Signed : List ℕ → List ℕ → List ℕ → List ℕ → Answer ℕ → Type 0
-Signed = SlipCall slip-auth.Reads.Learnt
+abbrev pub Signed : (id contents out x : List ℕ) (a : Answer ℕ) → Type 0
+Signed = PayloadCall payload-frame-auth.Reads.Learnt
 
 -- a frame that stands alone: the first of one
-abbrev pub slipOf : ℕ → List ℕ → List ℕ → Frame
-slipOf kind id contents = record { kind = kind; id = id; index = 0; total = 1; contents = contents }
+abbrev pub payloadSays : ℕ → List ℕ → List ℕ → Frame
+payloadSays kind id contents = record { kind = kind; id = id; index = 0; total = 1; contents = contents }
 
--- no payload that was written is too long for a slip: under an id of 8 bytes it is taken where 500 bytes are lent. And a slip that is written reads back, and carries
+-- no payload that was written is too long for a key or auth frame: under an id of 8 bytes it is taken where 500 bytes are lent. And a key or auth frame that is written reads back, and carries
 -- what the payload's reader accepts
 pub record Carries (f : Format) (kind : ℕ) (Writer : List ℕ → List ℕ → List ℕ → List ℕ → Answer ℕ → Type 0) : Type 0 where
   pub taken : (v : f .Value) (lent y : List ℕ) (m : ℕ) → f .Writes v lent y (done m)
       → (id out x : List ℕ) (a : Answer ℕ) → length id ≡ 8 → 500 ≤ length out → Writer id (take m y) out x a → (n : ℕ) × (a ≡ done n)
-  pub back : (id contents out x : List ℕ) (n : ℕ) → Writer id contents out x (done n) → ReadAs frames (take n x) (slipOf kind id contents)
+  pub back : (id contents out x : List ℕ) (n : ℕ) → Writer id contents out x (done n) → ReadAs frames (take n x) (payloadSays kind id contents)
   pub accepted : (id contents out x : List ℕ) (n : ℕ) → Writer id contents out x (done n) → (a : Answer (f .Place)) → f .Reads contents a → (p : f .Place) × (a ≡ done p)
 
 pub record Demand2 : Type 0 where

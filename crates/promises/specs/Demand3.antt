@@ -10,20 +10,21 @@ use mathlib.Core.List.{List, _++_}
 use Prim.Native.Nat.{ℕ, _≤_}
 use lib.ListN.{length}
 use Rattle.wire.specs.Answer.{Answer, done, refused}
+use Rattle.wire.specs.Sizes.{collectionSize}
 use Rattle.wire.specs.Over.{over}
-use Rattle.state.specs.State.{Book}
-use Rattle.state.specs.Take.{Page}
-use Rattle.state.specs.Meaning.{BookIs}
+use Rattle.model.specs.Book.{Book}
+use Rattle.model.specs.Take.{Page}
+use Rattle.model.specs.Meaning.{BookIs}
 use Rattle.book.specs.Encode.{encode}
 use Rattle.collection.specs.Collection.{goodPage}
 use Rattle.collection.specs.Built.{Built, opened, offered, joined, In, Lent, offeredAll, PageAmong, AllBytes}
-use Rattle.closing.specs.Sets.{Answers}
-use Rattle.closing.specs.Mend.{Mends}
+use Rattle.finish.specs.Sets.{Answers}
+use Rattle.mend.specs.Mend.{Mends}
 use Rattle.status.specs.Sets.{LineIs}
 use Rattle.promises.specs.Collecting.{Interface, library, Tells, Mended}
 
 -- x is what calls of open, offer and join left, one after another, whatever each answered
-abbrev pub Left : Interface → List ℕ → Built → List ℕ → Type 0
+abbrev pub Left : (f : Interface) (id : List ℕ) (h : Built) (x : List ℕ) → Type 0
 Left f id (opened c) x = f .Opens id c x
 Left f id (offered raw h) x = (c : List ℕ) × Left f id h c × f .Offers c raw x
 Left f id (joined g h) x = (c : List ℕ) × (o : List ℕ) × Left f id g c × Left f id h o × f .Joins c o x
@@ -50,10 +51,10 @@ pub record Demand3 (f : Interface) (id : List ℕ) : Type 0 where
   pub grouping : (e g h : Built) (x y : List ℕ) → Lent e → Lent g → Lent h → Left f id (joined (joined e g) h) x → Left f id (joined e (joined g h)) y → x ≡ y
   pub again : (h : Built) (x y : List ℕ) → Lent h → Left f id h x → Left f id (joined h h) y → x ≡ y
   -- any list of scans, offered to a collection that was just opened, leaves the bytes that the set of its good pages says
-  pub list : (c x : List ℕ) (raws : List (List ℕ)) → length c ≡ 49664 → AllBytes raws → Left f id (offeredAll raws (opened c)) x
+  pub list : (c x : List ℕ) (raws : List (List ℕ)) → length c ≡ collectionSize → AllBytes raws → Left f id (offeredAll raws (opened c)) x
       → (b : Book) → BookIs (PageAmong id raws) b → x ≡ encode id b
   -- and two collections of two lists, joined, have the bytes of one to which both lists were offered
-  pub lists : (c d e x y : List ℕ) (xs ys : List (List ℕ)) → length c ≡ 49664 → length d ≡ 49664 → length e ≡ 49664 → AllBytes xs → AllBytes ys
+  pub lists : (c d e x y : List ℕ) (xs ys : List (List ℕ)) → length c ≡ collectionSize → length d ≡ collectionSize → length e ≡ collectionSize → AllBytes xs → AllBytes ys
       → Left f id (joined (offeredAll xs (opened c)) (offeredAll ys (opened d))) x → Left f id (offeredAll (xs ++ ys) (opened e)) y → x ≡ y
   -- finish: the ciphertext exactly when the set is complete, in one version, and its document id is the one that was opened; each refusal exactly when its
   -- condition holds; and with room enough never for want of room

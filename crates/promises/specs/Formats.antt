@@ -15,7 +15,7 @@ use Rattle.text.specs.Text.{Form, base64, zbase32, readText, kept}
 use Rattle.frame.specs.Frame as F
 use Rattle.frame.specs.Allowed.{Allowed}
 use Rattle.frame.specs.Answer as frame
-use Rattle.cover.specs.Cover.{Cover, manifestOf, payloadOf}
+use Rattle.cover.specs.Cover.{Cover}
 use Rattle.envelope.specs.Envelope.{envelopeAt}
 use Rattle.envelope.specs.Answer as envelope
 use Rattle.cbor.specs.declared.StepRead.{StepRead}
@@ -131,7 +131,7 @@ texts f Reader Writer = record {
 }
 
 -- a call of any of the four functions: all take a slice and are lent one
-abbrev pub TextCall : Out 2 text-base64-read.Kinds.ps text-base64-read.Kinds.r → List ℕ → List ℕ → List ℕ → Answer ℕ → Type 0
+abbrev pub TextCall : (contract : Out 2 text-base64-read.Kinds.ps text-base64-read.Kinds.r) (s out x : List ℕ) (a : Answer ℕ) → Type 0
 TextCall contract s out x a =
     (k : Call text-base64-read.Kinds.ps text-base64-read.Kinds.r contract)
     × (now (k .args .0) ≡ s) × (now (k .args .1 .0) ≡ out) × (k .left .1 .0 ≡ x) × (told (k .answer) ≡ a)
@@ -152,7 +152,7 @@ abbrev pub envelopes : Format
 envelopes = record {
   Place = Cover;
   Value = Enclosed;
-  says = λ s c. record { manifest = manifestOf s c; payload = payloadOf s c };
+  says = λ s c. record { manifest = partAt s (c .manifest); payload = partAt s (c .payload) };
   counting = λ s. s;
   read = envelopeAt;
   Reads = λ s a.

@@ -1,4 +1,4 @@
--- The third demand for the two programs that collect, `pier` and `pantry`: by the calls that they make of `scan` and `shelf`, over their whole input, in whatever parts
+-- The third demand for the two programs that collect, `pier` and `pantry`: by the calls that they make of `scan` and `pantry_work`, over their whole input, in whatever parts
 -- it was read. What the input says is `documentOf` and `scansOf` (scan, Input): cut at line feeds, the first line the document id, each further line of at most 1,024 bytes a
 -- base64 text, those that read the scans. The programs themselves read, print and keep files, which no contract can speak of: that is tested.
 use mathlib.Core.Path.{_≡_}
@@ -8,25 +8,26 @@ use Prim.Native.Nat.{ℕ, _≤_}
 use lib.ListN.{length}
 use denote.Ref.{now}
 use Rattle.wire.specs.Answer.{Answer, done, refused}
+use Rattle.wire.specs.Sizes.{collectionSize, mostCiphertext}
 use Rattle.wire.specs.Over.{over}
 use Rattle.wire.specs.Writing.{told}
-use Rattle.state.specs.State.{Book}
-use Rattle.state.specs.Meaning.{BookIs}
+use Rattle.digits.specs.Decimal.{refusedLine}
+use Rattle.model.specs.Book.{Book}
+use Rattle.model.specs.Meaning.{BookIs}
 use Rattle.book.specs.Encode.{encode}
 use Rattle.book.specs.Read.{idOf, okBook}
 use Rattle.collection.specs.Answer as collection
 use Rattle.collection.specs.Built.{opened, offeredAll, PageAmong, AllBytes}
-use Rattle.status.specs.Line.{refusedLine}
 use Rattle.status.specs.Sets.{LineIs}
 use Rattle.scan.specs.Session.{At, at}
 use Rattle.scan.specs.Input.{documentOf, scansOf, new}
-use Rattle.shelf.specs.Shelf.{refusalLine}
-use Rattle.shelf.specs.Pantry.{Prints}
+use Rattle.pantry_work.specs.Steps.{refusalLine}
+use Rattle.pantry_work.specs.Pantry.{Prints}
 use Rattle.scan.proofs.session.feed as scan-session-feed
 use Rattle.scan.proofs.session.close as scan-session-close
 use Rattle.scan.proofs.session.report as scan-session-report
-use Rattle.shelf.proofs.resume as shelf-resume
-use Rattle.shelf.proofs.answer as shelf-answer
+use Rattle.pantry_work.proofs.resume as pantry-work-resume
+use Rattle.pantry_work.proofs.answer as pantry-work-answer
 use Rattle.promises.specs.Calls.{Call}
 use Rattle.promises.specs.Collecting.{library}
 use Rattle.promises.specs.Demand3.{Left}
@@ -49,29 +50,29 @@ Closes s t =
     × (at (k .args .0) (now (k .args .1 .0)) (now (k .args .1 .1 .0)) ≡ s) × (at (k .answer) (now (k .args .1 .0)) (k .left .1 .1 .0) ≡ t)
 
 -- a session from its first byte to the end of its input, in a line buffer and a buffer for the collection
-abbrev pub Runs : List (List ℕ) → List ℕ → List ℕ → At → Type 0
+abbrev pub Runs : (parts : List (List ℕ)) (line c : List ℕ) (t : At) → Type 0
 Runs parts line c t = (s : At) × FeedsAll parts (new line c) s × Closes s t
 
 -- pier's line, of the session's phase and collection
-abbrev pub Reports : ℕ → List ℕ → List ℕ → List ℕ → Answer ℕ → Type 0
+abbrev pub Reports : (phase : ℕ) (c out x : List ℕ) (a : Answer ℕ) → Type 0
 Reports phase c out x a =
     (k : Call scan-session-report.Kinds.ps scan-session-report.Kinds.r scan-session-report.Reads.Learnt)
     × (k .args .0 .phase ≡ phase) × (now (k .args .1 .0) ≡ c) × (now (k .args .1 .1 .0) ≡ out) × (k .left .1 .1 .0 ≡ x) × (told (k .answer) ≡ a)
 
 -- the pantry takes up what was saved: x is then the session's collection, and what is kept
-abbrev pub Resumes : ℕ → List ℕ → List ℕ → List ℕ → Answer Unit → Type 0
+abbrev pub Resumes : (phase : ℕ) (c saved x : List ℕ) (a : Answer Unit) → Type 0
 Resumes phase c saved x a =
-    (k : Call shelf-resume.Kinds.ps shelf-resume.Kinds.r shelf-resume.Reads.Learnt)
+    (k : Call pantry-work-resume.Kinds.ps pantry-work-resume.Kinds.r pantry-work-resume.Reads.Learnt)
     × (k .args .0 .phase ≡ phase) × (now (k .args .1 .0) ≡ saved) × (now (k .args .1 .1 .0) ≡ c) × (k .left .1 .1 .0 ≡ x) × (collection.told (k .answer) ≡ a)
 
 -- what the pantry prints
-abbrev pub Shows : ℕ → List ℕ → List ℕ → List ℕ → Answer ℕ → Type 0
+abbrev pub Shows : (phase : ℕ) (c out x : List ℕ) (a : Answer ℕ) → Type 0
 Shows phase c out x a =
-    (k : Call shelf-answer.Kinds.ps shelf-answer.Kinds.r shelf-answer.Reads.Learnt)
+    (k : Call pantry-work-answer.Kinds.ps pantry-work-answer.Kinds.r pantry-work-answer.Reads.Learnt)
     × (k .args .0 .phase ≡ phase) × (now (k .args .1 .0) ≡ c) × (now (k .args .1 .1 .0) ≡ out) × (k .left .1 .1 .0 ≡ x) × (told (k .answer) ≡ a)
 
 -- the whole of a text was laid in front of out
-abbrev pub Laid : List ℕ → List ℕ → List ℕ → Answer ℕ → Type 0
+abbrev pub Laid : (text out x : List ℕ) (a : Answer ℕ) → Type 0
 Laid text out x a = (a ≡ done (length text)) × (x ≡ over 0 text out)
 
 -- ---- what they say
@@ -89,14 +90,14 @@ pub record Collects (id : List ℕ) (xs : List (List ℕ)) (t : At) : Type 0 whe
   -- pier's line says that set: 64 bytes are room for any
   pub pier : (out x : List ℕ) (a : Answer ℕ) → 64 ≤ length out → Reports (t .phase) (t .collection) out x a
       → (line : List ℕ) × LineIs (PageAmong id xs) line × Laid line out x a
-  -- the pantry without a file prints finish, or the status, of that set: 46,080 bytes are room for any
-  pub pantry : (out x : List ℕ) (a : Answer ℕ) → 46080 ≤ length out → Shows (t .phase) (t .collection) out x a
+  -- the pantry without a file prints finish, or the status, of that set: so many bytes are room for any
+  pub pantry : (out x : List ℕ) (a : Answer ℕ) → mostCiphertext ≤ length out → Shows (t .phase) (t .collection) out x a
       → (text : List ℕ) × Prints id (PageAmong id xs) text × Laid text out x a
   -- with a file that holds what calls with the scans ys left: it keeps the collection of both, and prints that
-  pub keeps : (ys : List (List ℕ)) (d saved y : List ℕ) (r : Answer Unit) → AllBytes ys → length d ≡ 49664 → Left library id (offeredAll ys (opened d)) saved
+  pub keeps : (ys : List (List ℕ)) (d saved y : List ℕ) (r : Answer Unit) → AllBytes ys → length d ≡ collectionSize → Left library id (offeredAll ys (opened d)) saved
       → Resumes (t .phase) (t .collection) saved y r → (r ≡ done tt) × ((b : Book) → BookIs (PageAmong id (xs ++ ys)) b → y ≡ encode id b)
-  pub prints : (ys : List (List ℕ)) (d saved y : List ℕ) (r : Answer Unit) (out x : List ℕ) (a : Answer ℕ) → AllBytes ys → length d ≡ 49664
-      → Left library id (offeredAll ys (opened d)) saved → Resumes (t .phase) (t .collection) saved y r → 46080 ≤ length out → Shows (t .phase) y out x a
+  pub prints : (ys : List (List ℕ)) (d saved y : List ℕ) (r : Answer Unit) (out x : List ℕ) (a : Answer ℕ) → AllBytes ys → length d ≡ collectionSize
+      → Left library id (offeredAll ys (opened d)) saved → Resumes (t .phase) (t .collection) saved y r → mostCiphertext ≤ length out → Shows (t .phase) y out x a
       → (text : List ℕ) × Prints id (PageAmong id (xs ++ ys)) text × Laid text out x a
   -- a file that is no collection is refused with 13, one of another document with 12, and the session's collection stays
   pub damaged : (saved y : List ℕ) (r : Answer Unit) → okBook saved ≡ false → Resumes (t .phase) (t .collection) saved y r → (r ≡ refused 13) × (y ≡ t .collection)
@@ -107,11 +108,11 @@ pub record Collects (id : List ℕ) (xs : List (List ℕ)) (t : At) : Type 0 whe
 pub record Waits (c : List ℕ) (t : At) : Type 0 where
   pub unchanged : t .collection ≡ c
   pub pier : (out x : List ℕ) (a : Answer ℕ) → 64 ≤ length out → Reports (t .phase) (t .collection) out x a → Laid (refusedLine 19) out x a
-  pub pantry : (out x : List ℕ) (a : Answer ℕ) → 46080 ≤ length out → Shows (t .phase) (t .collection) out x a → Laid (refusalLine 19 0) out x a
+  pub pantry : (out x : List ℕ) (a : Answer ℕ) → mostCiphertext ≤ length out → Shows (t .phase) (t .collection) out x a → Laid (refusalLine 19 0) out x a
   pub keeps : (saved y : List ℕ) (r : Answer Unit) → Resumes (t .phase) (t .collection) saved y r → (r ≡ refused 19) × (y ≡ t .collection)
 
 pub record Programs : Type 0 where
   pub parts : Parts
-  pub named : (ps : List (List ℕ)) (line c id : List ℕ) (t : At) → 1025 ≤ length line → length c ≡ 49664 → Runs ps line c t → documentOf (flatten ps) ≡ done id
+  pub named : (ps : List (List ℕ)) (line c id : List ℕ) (t : At) → 1025 ≤ length line → length c ≡ collectionSize → Runs ps line c t → documentOf (flatten ps) ≡ done id
       → Collects id (scansOf (flatten ps)) t
   pub unnamed : (ps : List (List ℕ)) (line c : List ℕ) (n : ℕ) (t : At) → 1025 ≤ length line → Runs ps line c t → documentOf (flatten ps) ≡ refused n → Waits c t

@@ -9,20 +9,22 @@ use borrow.Author.Tests.{ne-eqb}
 use lib.Dec.{eqb, leb}
 use lib.ListN.{length}
 use Rattle.wire.specs.Answer.{choose, Answer, done, refusedAt}
+use Rattle.digits.specs.Decimal.{refusedLine}
 use Rattle.text.specs.Text.{base64, readText}
 use Rattle.text.proofs.Forms.{base64-lawful}
 use Rattle.text.proofs.Round.{text-bytes}
-use Rattle.state.specs.State.{Book}
-use Rattle.state.specs.Take.{Page}
-use Rattle.state.specs.Meaning.{BookIs}
-use Rattle.state.proofs.Sets.{book-one}
-use Rattle.state.proofs.Valid.{Valid, book-valid}
+use Rattle.model.specs.Book.{Book}
+use Rattle.model.specs.Take.{Page}
+use Rattle.model.specs.Meaning.{BookIs}
+use Rattle.model.proofs.Sets.{book-one}
+use Rattle.model.proofs.Valid.{Valid, book-valid}
 use Rattle.book.specs.Read.{idOf, readBook, okBook}
+use Rattle.book.proofs.Judging.{judged-done}
 use Rattle.book.proofs.Round.{valid-fits, encode-ok, encode-id, encode-read}
 use Rattle.collection.specs.Built.{Built, opened, offered, bytesOf, offeredAll, PageAmong, AllBytes}
 use Rattle.collection.proofs.Demand.{list-saved, list-meant}
 use Rattle.collection.proofs.Good.{good-page}
-use Rattle.status.specs.Line.{bookLine, statusLine, refusedLine}
+use Rattle.status.specs.Line.{bookLine, statusLine}
 use Rattle.scan.specs.Id.{idVerdict}
 use Rattle.scan.specs.Session as S
 use Rattle.scan.specs.Session.{scanned, At, ended, next, fed, reported}
@@ -158,7 +160,7 @@ module _ (id : List ℕ) (eight : length id ≡ 8) (c : List ℕ) (size : length
 -- its status line is that of any collection that says the same set
 pub status-says : (S : Page → Type 0) (x : List ℕ) → okBook x ≡ true → BookIs S (readBook x) → (b : Book) → BookIs S b → statusLine x ≡ bookLine b
 unfolding statusLine
-status-says S x ok m b w = rw ok (ap bookLine (book-one S (readBook x) b m w))
+status-says S x ok m b w = rw (judged-done x ok) (ap bookLine (book-one S (readBook x) b m w))
 
 -- For the reader: what is printed depends on nothing else: whatever was in the lent buffer, and in whatever order and number the scans came
 pub prints-set : (c input id : List ℕ) → length c ≡ 49664 → documentOf input ≡ done id → (b : Book) → BookIs (PageAmong id (scansOf input)) b

@@ -1,4 +1,3 @@
-pub mod Hex
 pub mod Scans
 pub mod Sessions
 pub mod Sound

@@ -2,27 +2,27 @@
 use Prim.Native.Nat.{ℕ, _-_, _≤_, _<_}
 use mathlib.Core.Path.{_≡_, sym, ap, _∙_}
 use mathlib.Core.Logic.{_⊎_, ⊎-elim}
-use mathlib.Core.Bool.{_&&_}
 use mathlib.Core.List.{List}
 use native.Mathlib.Nat.{sub-zero}
 use native.Mathlib.Omega.{arith}
-use borrow.Author.Tests.{le-leb, lt-leb}
+use borrow.Author.Tests.{le-leb, lt-leb, eq-eqb, ne-eqb, eqb-true}
 use lib.Dec.{eqb}
 use lib.ListN.{length, take}
 use Rattle.wire.specs.Answer.{Answer, done, refused, bytesAfter, Kept}
-use Rattle.wire.specs.Writing.{Written}
+use Rattle.wire.specs.Writing.{Written, writing}
 use Rattle.wire.specs.declared.Wrote.{Wrote}
 use Rattle.wire.specs.declared.Wrote.the-variants.{Done, Refused}
 use Rattle.wire.proofs.Overs.{over-all, read-over}
-use Rattle.wire.proofs.Cases.{passed, done-value}
-use Rattle.wire.proofs.Writes.{done-stood, refused-why}
+use Rattle.wire.proofs.Cases.{passed}
+use Rattle.wire.proofs.Writes.{done-stood, refused-why, denied}
+use Rattle.digits.specs.Hex.{hexVerdict}
+use Rattle.digits.proofs.Hexes.{read-length}
 use Rattle.text.specs.Text.{base64, readText}
 use Rattle.text.proofs.Forms.{base64-lawful}
 use Rattle.text.proofs.Round.{text-short}
 use Rattle.collection.specs.Collection.{offering}
-use Rattle.scan.specs.Id.{allHex, eightOf, idVerdict}
+use Rattle.scan.specs.Id.{idVerdict}
 use Rattle.scan.specs.Session.{offered, scanned}
-use Rattle.scan.proofs.Hex.{length-eight}
 
 -- a refusal, with room for all, is the verdict's own
 module _ (v : Answer (List ℕ)) (x y : List ℕ) (room : (bs : List ℕ) → v ≡ done bs → length bs ≤ length x) where
@@ -30,8 +30,8 @@ module _ (v : Answer (List ℕ)) (x y : List ℕ) (room : (bs : List ℕ) → v 
   own-fault r e w h =
       ⊎-elim (λ f. f) (λ s. absurd (omega (arith, s .2, room (s .0) (s .1)))) (refused-why 0 v x y e 0 (rw h at w))
 
-pub done-fits : (v : Answer (List ℕ)) (x y : List ℕ) (r : Wrote) (n : ℕ) → Written 0 v x y r → r ≡ Done n → n ≤ length x
-done-fits v x y r n w h = omega (arith, done-stood 0 v x y n (rw h at w) .fits)
+pub done-fits : (v : Answer (List ℕ)) (x y : List ℕ) (r : Wrote) (n : ℕ) → Written 0 v x y r → r ≡ Done n → length y ≡ length x → n ≤ length y
+done-fits v x y r n w h l = omega (arith, done-stood 0 v x y n (rw h at w) .fits)
 
 -- ---- a scan
 
@@ -60,9 +60,20 @@ module _ (line c : List ℕ) where
 
 -- ---- the id
 
+module _ (line x : List ℕ) where
+  pub id-length : (length line ≡ 16 → ⊥) → Written 0 (idVerdict line) x x (Refused 19)
+  unfolding idVerdict
+  id-length h = rw (ne-eqb (length line) 16 h) (denied 0 x 19)
+
+  pub id-hex : length line ≡ 16 → (z : List ℕ) (r : Answer ℕ) → Kept (writing 0 x (hexVerdict line)) x z r → Kept (writing 0 x (idVerdict line)) x z r
+  unfolding idVerdict
+  id-hex h z r w = rw (eq-eqb (length line) 16 h) w
+
 pub id-eight : (line bs : List ℕ) → idVerdict line ≡ done bs → length bs ≡ 8
 unfolding idVerdict
-id-eight line bs h = sym (ap length (done-value (passed (eqb (length line) 16 && allHex line) (done (eightOf line)) 19 h .1))) ∙ length-eight line
+id-eight line bs h =
+    let (l, q) = passed (eqb (length line) 16) (hexVerdict line) 19 h in
+    omega (arith, eqb-true (length line) 16 l, read-length line bs q)
 
 module _ (first x y : List ℕ) (k : length x ≡ 8) (r : Wrote) (w : Written 0 (idVerdict first) x y r) where
   pub id-refused : (e : ℕ) → r ≡ Refused e → idVerdict first ≡ refused e

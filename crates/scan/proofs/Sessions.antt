@@ -13,8 +13,9 @@ use Rattle.wire.specs.Answer.{Answer, done, refusedAt, Kept}
 use Rattle.wire.specs.Writing.{Written, writing}
 use Rattle.wire.specs.declared.Wrote.{Wrote}
 use Rattle.wire.specs.declared.Wrote.the-variants.{Done, Refused}
+use Rattle.digits.specs.Decimal.{refusedLine}
 use Rattle.collection.specs.Collection.{opening}
-use Rattle.status.specs.Line.{statusLine, refusedLine}
+use Rattle.status.specs.Line.{statusLine}
 use Rattle.scan.specs.Id.{idVerdict}
 use Rattle.scan.specs.Session.{scanned, At, lineOf, started, ended, longer, next, fed, closed, reported, at}
 use Rattle.scan.specs.declared.session.Session.{Session}

@@ -5,9 +5,10 @@ use Prim.Native.Nat.{ℕ}
 use lib.Dec.{eqb, leb}
 use lib.ListN.{length}
 use Rattle.wire.specs.Answer.{choose, Answer, done, refusedAt, refused}
+use Rattle.digits.specs.Decimal.{refusedLine}
 use Rattle.text.specs.Text.{base64, readText}
 use Rattle.collection.specs.Built.{opened, bytesOf, offeredAll}
-use Rattle.status.specs.Line.{statusLine, refusedLine}
+use Rattle.status.specs.Line.{statusLine}
 use Rattle.scan.specs.Id.{idVerdict}
 use Rattle.scan.specs.Session.{At, fed, closed}
 

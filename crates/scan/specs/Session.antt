@@ -5,9 +5,10 @@ use lib.Dec.{eqb, ltb, leb}
 use lib.ListN.{length, take}
 use Rattle.wire.specs.Answer.{choose, Answer, done, refusedAt, bytesAfter}
 use Rattle.wire.specs.Over.{over}
+use Rattle.digits.specs.Decimal.{refusedLine}
 use Rattle.text.specs.Text.{base64, readText}
 use Rattle.collection.specs.Collection.{opening, offering}
-use Rattle.status.specs.Line.{statusLine, refusedLine}
+use Rattle.status.specs.Line.{statusLine}
 use Rattle.scan.specs.Id.{idVerdict}
 use Rattle.scan.specs.declared.session.Session.{Session}
 

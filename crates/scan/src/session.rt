@@ -58,7 +58,7 @@ fn line_of(s: Session, line: &[u8]) -> &[u8]
 fn start(first: &[u8], s: Session, c: &mut [u8]) -> Session
     ensures { λ r. ⌜ at r [] (now (c .exit)) ≡ started (at s [] (now (c .entry))) (idVerdict (now (first .entry))) ⌝ }
 {
-    let mut id = [0u8; 8];
+    let mut id = [0u8; wire::ID_SIZE];
     let read = super::id(first, &mut id);
     let Wrote::Done { len: _ } = read else {
         return Session {
@@ -139,5 +139,5 @@ pub fn report(s: Session, c: &[u8], out: &mut [u8]) -> Wrote
     if s.phase == COLLECTING {
         return status::status(c, out);
     }
-    status::refused_line(wire::OUT_OF_RANGE, out)
+    digits::refused_line(wire::OUT_OF_RANGE, out)
 }

@@ -11,7 +11,8 @@ use Rattle.wire.specs.Number.{bigEndian}
 use Rattle.wire.proofs.Digits.{length-digits, digits-at}
 use Rattle.sha256.specs.declared.State.{State}
 use Rattle.sha256.specs.Message.{zeros, pad, block}
-use Rattle.sha256.specs.Sha.{blocks}
+use Rattle.sha256.specs.Constants.{start}
+use Rattle.sha256.specs.Sha.{blocks, listed, joined, sha256}
 
 -- a digit of w bits, at the bit s, is the same in the lowest k bits, where they hold it
 pub digit-low : (n w s k : ℕ) → w + s ≤ k → n % 2 ^ k / 2 ^ s % 2 ^ w ≡ n / 2 ^ s % 2 ^ w
@@ -108,7 +109,7 @@ blocks-add n (suc m) b s =
     rw add-suc (cc (blocks-add n m b s, drop-drop (m * 64) (n * 64) b))
 
 -- the whole blocks of the message itself, and then those of a buffer t that starts with the rest of the padded message
-pub whole : (bs t : List ℕ) (s : State) (len : ℕ) → len ≡ length bs % 64 + 9 + zeros (length bs)
+whole : (bs t : List ℕ) (s : State) (len : ℕ) → len ≡ length bs % 64 + 9 + zeros (length bs)
     → take len t ≡ drop (length bs / 64 * 64) (pad bs) → len ≤ length t
     → blocks (length (pad bs) / 64) (pad bs) s ≡ blocks (len / 64) t (blocks (length bs / 64) bs s)
 unfolding pad
@@ -123,3 +124,13 @@ whole bs t s len el et h =
     ∙ ap (λ (b : List ℕ). blocks m b x) (sym et)
     ∙ sym (blocks-append m (take len t) (drop len t) x (rw (length-take-le len t h) (omega arith)))
     ∙ ap (λ (b : List ℕ). blocks m b x) (take-append-drop len t)
+
+-- so the digest is that of the message's own blocks and then of the blocks of such a buffer
+pub in-two : (bs t d : List ℕ) (z : ℕ) (x y : State) → (z ≡ zeros (length bs)) × (z < 64)
+    → (take (length bs % 64 + 9 + z) t ≡ drop (length bs / 64 * 64) (pad bs)) × (length t ≡ 128)
+    → x ≡ blocks (length bs / 64) bs start → y ≡ blocks ((length bs % 64 + 9 + z) / 64) t x → d ≡ joined (listed y) → d ≡ sha256 bs
+unfolding sha256
+in-two bs t d z x y (ez, _) (et, l) ex ey ed =
+    let e : length bs % 64 + 9 + z ≡ length bs % 64 + 9 + zeros (length bs) = omega arith in
+    let h : length bs % 64 + 9 + z ≤ length t = omega (arith, tail-fits (length bs)) in
+    cc (whole bs t start (length bs % 64 + 9 + z) e et h)

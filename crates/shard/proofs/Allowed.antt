@@ -1,17 +1,18 @@
 -- The values that document 01 allows a shard, and the writer's tests that say so. Assumes nothing.
 use Prim.Native.Nat.{ℕ, _≤_}
-use mathlib.Core.Path.{_≡_, refl, sym}
+use mathlib.Core.Path.{_≡_, refl, sym, _∙_}
 use mathlib.Core.Logic.{_⊎_, inl, inr, ⊎-elim}
-use mathlib.Core.Bool.{Bool, true, false, _||_}
-use mathlib.Core.List.{List}
+use mathlib.Core.Bool.{Bool, true, false, not, _&&_, _||_, false≢true}
+use mathlib.Core.List.{List, []}
 use native.Mathlib.Omega.{arith}
 use borrow.Author.Tests.{le-leb, eq-eqb, leb-true, leb-false, eqb-true}
 use lib.Dec.{leb, eqb}
 use lib.ListN.{length}
-use Rattle.wire.proofs.Cases.{both-hold}
+use Rattle.wire.specs.Answer.{Answer, done, numberOf, demand}
+use Rattle.wire.proofs.Cases.{both-hold, said-yes, said-no}
 use Rattle.lend.specs.Same.{same}
 use Rattle.lend.proofs.Sames.{same-refl, same-eq}
-use Rattle.shard.specs.Shard.{passphrase, signingSeed, known, padded, contentFits, small, quorumFits, restFits}
+use Rattle.shard.specs.Shard.{passphrase, signingSeed, known, padded, small, restVerdict}
 use Rattle.shard.specs.declared.Quorum.{Quorum}
 
 abbrev pub Kind : List ℕ → Type 0
@@ -40,10 +41,22 @@ pub record Allowed (public sig hash kind share : List ℕ) (len : ℕ) (q : Quor
   pub sig-long : length sig ≡ 64
   pub rest : AllowedRest hash kind share len q
 
--- for the code's returns: a test that only allowed values pass says no to any other
-says-no : {P : Type 0} (t : Bool) → (t ≡ true → P) → (P → ⊥) → false ≡ t
-says-no true f n = absurd (n (f refl))
-says-no false f n = refl
+-- ---- the rules from `hash` on as one test
+
+unfoldable pub contentFits : List ℕ → List ℕ → ℕ → Bool
+contentFits kind share len = known kind && (leb (length share) 224 && (leb 1 len && eqb (length share) (padded len)))
+
+unfoldable pub quorumFits : Quorum → Bool
+quorumFits q =
+    small (q .threshold) && (small (q .count) && (leb (q .threshold) (q .count) && (small (q .index) && leb (q .index) (q .count))))
+
+unfoldable pub restFits : (hash kind share : List ℕ) (len : ℕ) (q : Quorum) → Bool
+restFits hash kind share len q = eqb (length hash) 32 && (contentFits kind share len && quorumFits q)
+
+-- two rules in turn are one
+both-demanded : {A : Type 0} (a b : Bool) (x : Answer A) → demand (a && b) 19 x ≡ demand a 19 (demand b 19 x)
+both-demanded true b x = refl
+both-demanded false b x = refl
 
 -- ---- type
 
@@ -93,9 +106,6 @@ module _ (kind share : List ℕ) (len : ℕ) where
         whole = eqb-true (length share) (padded len) (c .1);
       }
 
-  pub content-no : (AllowedContent kind share len → ⊥) → false ≡ contentFits kind share len
-  content-no = says-no (contentFits kind share len) content-passed
-
   -- the whole is no longer than a share may be
   pub length-most : AllowedContent kind share len → len ≤ 224
   unfolding padded
@@ -138,17 +148,6 @@ module _ (q : Quorum) where
         last = leb-true (q .index) (q .count) (d .1);
       }
 
-  pub quorum-no : (AllowedQuorum q → ⊥) → false ≡ quorumFits q
-  quorum-no = says-no (quorumFits q) quorum-passed
-
-  -- for the code, which asks less: what is at most `share_count` needs no bound of its own above
-  pub quorum-last : 1 ≤ q .threshold → q .threshold ≤ q .count → 1 ≤ q .index → q .index ≤ q .count → leb (q .count) 255 ≡ quorumFits q
-  quorum-last a b c d = go (leb (q .count) 255) refl
-    where
-      go : (t : Bool) → leb (q .count) 255 ≡ t → t ≡ quorumFits q
-      go true e = sym (quorum-yes (record { some = a; enough = b; most = leb-true (q .count) 255 e; first = c; last = d }))
-      go false e = quorum-no (λ (h : AllowedQuorum q). omega (arith, h .most, leb-false (q .count) 255 e))
-
 -- ---- from `hash` on
 
 module _ (hash kind share : List ℕ) (len : ℕ) (q : Quorum) where
@@ -166,3 +165,55 @@ module _ (hash kind share : List ℕ) (len : ℕ) (q : Quorum) where
         content = content-passed kind share len (b .0);
         quorum = quorum-passed q (b .1);
       }
+
+  pub rest-listed : (form : List ℕ) → restVerdict hash kind share len q form ≡ demand (restFits hash kind share len q) 19 (done form)
+  unfolding restVerdict restFits contentFits quorumFits
+  rest-listed form = simp both-demanded
+
+-- ---- what the code answers for it
+
+module _ (hash kind share : List ℕ) (len : ℕ) (q : Quorum) where
+  abbrev Told : Bool → Type 0
+  Told r = r ≡ eqb (numberOf (restVerdict hash kind share len q [])) 0
+
+  fits-told : Told (restFits hash kind share len q)
+  fits-told = rw (rest-listed hash kind share len q []) (go (restFits hash kind share len q))
+    where
+      go : (t : Bool) → t ≡ eqb (numberOf (demand {A = List ℕ} t 19 (done []))) 0
+      go true = refl
+      go false = refl
+
+  pub told-fits : (r : Bool) → Told r → r ≡ restFits hash kind share len q
+  told-fits r e = e ∙ sym fits-told
+
+  -- a rule is broken
+  pub rest-no : (AllowedRest hash kind share len q → ⊥) → Told false
+  rest-no n = go (restFits hash kind share len q) refl
+    where
+      go : (t : Bool) → restFits hash kind share len q ≡ t → Told false
+      go true e = absurd (n (rest-passed hash kind share len q e))
+      go false e = sym e ∙ fits-told
+
+  pub rest-unknown : (r : Bool) → r ≡ known kind → not r ≡ true → Told false
+  rest-unknown r e h = rest-no (λ a. false≢true (sym (said-no r (known kind) e h) ∙ known-yes kind (a .content .type)))
+
+  pub rest-unfilled : (r : Bool) → r ≡ eqb (length share) (padded len) → not r ≡ true → Told false
+  rest-unfilled r e h = rest-no (λ a. false≢true (sym (said-no r _ e h) ∙ eq-eqb (length share) (padded len) (a .content .whole)))
+
+  -- all that the code asks before its last test: what is at most `share_count` needs no bound of its own above
+  pub rest-last : (k f : Bool) → length hash ≡ 32 → k ≡ known kind → not k ≡ false → length share ≤ 224 → 1 ≤ len
+      → f ≡ eqb (length share) (padded len) → not f ≡ false
+      → 1 ≤ q .threshold → q .threshold ≤ q .count → 1 ≤ q .index → q .index ≤ q .count → Told (leb (q .count) 255)
+  rest-last k f h ke kh m l fe fh some enough first last = go (leb (q .count) 255) refl
+    where
+      content : AllowedContent kind share len
+      content = record { type = known-passed kind (said-yes k _ ke kh); most = m; least = l; whole = eqb-true (length share) (padded len) (said-yes f _ fe fh) }
+
+      go : (t : Bool) → leb (q .count) 255 ≡ t → Told t
+      go true e =
+          sym (rest-yes hash kind share len q (record {
+            hash-long = h;
+            content = content;
+            quorum = record { some = some; enough = enough; most = leb-true (q .count) 255 e; first = first; last = last };
+          })) ∙ fits-told
+      go false e = rest-no (λ a. omega (arith, a .quorum .most, leb-false (q .count) 255 e))

@@ -6,15 +6,16 @@ use Rattle.wire.proofs.Branch.{go, stop}
 use Rattle.wire.proofs.Cases.{got-value, got-next}
 use Rattle.auth.proofs.Answers.{claims}
 use Rattle.shard.specs.Shard.{Shard}
-use Rattle.shard.specs.Answer.{shardTold, contentTold, quorumTold}
+use Rattle.shard.specs.Answer.{shardTold}
+use Rattle.shard.specs.Private.{contentTold, quorumTold}
 use Rattle.shard.specs.declared.Content.{Content}
 use Rattle.shard.specs.declared.Quorum.{Quorum}
 use Rattle.shard.specs.declared.ShardRead.{ShardRead}
 use Rattle.shard.specs.declared.ShardRead.the-variants as shard
-use Rattle.shard.specs.declared.part.ContentRead.{ContentRead}
-use Rattle.shard.specs.declared.part.ContentRead.the-variants as content
-use Rattle.shard.specs.declared.part.QuorumRead.{QuorumRead}
-use Rattle.shard.specs.declared.part.QuorumRead.the-variants as quorum
+use Rattle.shard.specs.declared.fields.ContentRead.{ContentRead}
+use Rattle.shard.specs.declared.fields.ContentRead.the-variants as content
+use Rattle.shard.specs.declared.fields.QuorumRead.{QuorumRead}
+use Rattle.shard.specs.declared.fields.QuorumRead.the-variants as quorum
 
 -- the enum says no more than 01's answer does
 pub shard-injective : (r q : ShardRead) → shardTold r ≡ shardTold q → r ≡ q

@@ -7,7 +7,7 @@ use native.Mathlib.Omega.{arith}
 use lib.ListN.{length, length-append}
 use Rattle.wire.proofs.Cases.{lt-or-le}
 use Rattle.cbor.specs.Form.{headSize, stringFieldOf, numberFieldOf}
-use Rattle.cbor.specs.Names.{pubKey, sigKey, hashKey, typeKey, shareKey, lengthKey, versionKey, thresholdKey, shareCountKey, shareIndexKey}
+use Rattle.wire.specs.Ascii.{ascii}
 use Rattle.cbor.proofs.Sizes.{size-one, size-two, size-most, length-string-field, length-number-field, length-field-two, length-number-field-one}
 use Rattle.shard.specs.Shard.{signingSeed, padded, contentOf, quorumOf, restOf, shardOf, signedOf}
 use Rattle.shard.specs.declared.Quorum.{Quorum}
@@ -20,16 +20,16 @@ number-field-length name n k = omega (arith, length-number-field name n, size-on
 content-length : (kind share : List ℕ) (len : ℕ) → length kind ≤ 12 → length (contentOf kind share len) ≡ 19 + length kind + headSize (length share) + length share + headSize len
 unfolding contentOf
 content-length kind share len k =
-    let K : List ℕ = stringFieldOf typeKey 3 kind in
-    let S : List ℕ = stringFieldOf shareKey 2 share in
-    let L : List ℕ = numberFieldOf lengthKey len in
+    let K : List ℕ = stringFieldOf (ascii "type") 3 kind in
+    let S : List ℕ = stringFieldOf (ascii "share") 2 share in
+    let L : List ℕ = numberFieldOf (ascii "length") len in
     omega (
       arith,
       length-append K (S ++ L),
       length-append S L,
-      length-string-field typeKey 3 kind,
-      length-string-field shareKey 2 share,
-      number-field-length lengthKey len (omega arith),
+      length-string-field (ascii "type") 3 kind,
+      length-string-field (ascii "share") 2 share,
+      number-field-length (ascii "length") len (omega arith),
       size-one 4 (omega arith),
       size-one 5 (omega arith),
       size-one (length kind) (omega arith),
@@ -38,16 +38,16 @@ content-length kind share len k =
 quorum-length : (q : Quorum) → length (quorumOf q) ≡ 34 + headSize (q .threshold) + headSize (q .count) + headSize (q .index)
 unfolding quorumOf
 quorum-length q =
-    let T : List ℕ = numberFieldOf thresholdKey (q .threshold) in
-    let C : List ℕ = numberFieldOf shareCountKey (q .count) in
-    let I : List ℕ = numberFieldOf shareIndexKey (q .index) in
+    let T : List ℕ = numberFieldOf (ascii "threshold") (q .threshold) in
+    let C : List ℕ = numberFieldOf (ascii "share_count") (q .count) in
+    let I : List ℕ = numberFieldOf (ascii "share_index") (q .index) in
     omega (
       arith,
       length-append T (C ++ I),
       length-append C I,
-      number-field-length thresholdKey (q .threshold) (omega arith),
-      number-field-length shareCountKey (q .count) (omega arith),
-      number-field-length shareIndexKey (q .index) (omega arith),
+      number-field-length (ascii "threshold") (q .threshold) (omega arith),
+      number-field-length (ascii "share_count") (q .count) (omega arith),
+      number-field-length (ascii "share_index") (q .index) (omega arith),
     )
 
 module _ (hash kind share : List ℕ) (len : ℕ) (q : Quorum) where
@@ -55,18 +55,18 @@ module _ (hash kind share : List ℕ) (len : ℕ) (q : Quorum) where
       ≡ 101 + length kind + headSize (length share) + length share + (headSize len + headSize (q .threshold) + headSize (q .count) + headSize (q .index))
   unfolding restOf
   rest-length h k =
-      let H : List ℕ = stringFieldOf hashKey 2 hash in
+      let H : List ℕ = stringFieldOf (ascii "hash") 2 hash in
       let C : List ℕ = contentOf kind share len in
-      let N : List ℕ = numberFieldOf versionKey 1 in
+      let N : List ℕ = numberFieldOf (ascii "version") 1 in
       let Q : List ℕ = quorumOf q in
       omega (
         arith,
         length-append H (C ++ (N ++ Q)),
         length-append C (N ++ Q),
         length-append N Q,
-        length-field-two hashKey 2 hash (omega arith) (omega arith) (omega arith),
+        length-field-two (ascii "hash") 2 hash (omega arith) (omega arith) (omega arith),
         content-length kind share len k,
-        length-number-field-one versionKey 1 (omega arith) (omega arith),
+        length-number-field-one (ascii "version") 1 (omega arith) (omega arith),
         quorum-length q,
       )
 
@@ -74,23 +74,23 @@ module _ (hash kind share : List ℕ) (len : ℕ) (q : Quorum) where
     pub shard-length : (sig : List ℕ) → length sig ≡ 64 → length (shardOf public sig hash kind share len q) ≡ 109 + length (restOf hash kind share len q)
     unfolding shardOf
     shard-length sig g =
-        let P : List ℕ = stringFieldOf pubKey 2 public in
-        let G : List ℕ = stringFieldOf sigKey 2 sig in
+        let P : List ℕ = stringFieldOf (ascii "pub") 2 public in
+        let G : List ℕ = stringFieldOf (ascii "sig") 2 sig in
         let R : List ℕ = restOf hash kind share len q in
         omega (
           arith,
           length-append P (G ++ R),
           length-append G R,
-          length-field-two pubKey 2 public (omega arith) (omega arith) (omega arith),
-          length-field-two sigKey 2 sig (omega arith) (omega arith) (omega arith),
+          length-field-two (ascii "pub") 2 public (omega arith) (omega arith) (omega arith),
+          length-field-two (ascii "sig") 2 sig (omega arith) (omega arith) (omega arith),
         )
 
     pub signed-length : length (signedOf public hash kind share len q) ≡ 57 + length (restOf hash kind share len q)
     unfolding signedOf
     signed-length =
-        let P : List ℕ = stringFieldOf pubKey 2 public in
+        let P : List ℕ = stringFieldOf (ascii "pub") 2 public in
         let R : List ℕ = restOf hash kind share len q in
-        omega (arith, length-append P R, length-field-two pubKey 2 public (omega arith) (omega arith) (omega arith))
+        omega (arith, length-append P R, length-field-two (ascii "pub") 2 public (omega arith) (omega arith) (omega arith))
 
 -- ---- as the code adds it up: each head is at most 9 bytes, so that no sum wraps
 

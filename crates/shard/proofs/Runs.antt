@@ -6,7 +6,7 @@ use native.Mathlib.Omega.{arith}
 use lib.ListN.{length, length-append}
 use Rattle.wire.specs.Over.{over}
 use Rattle.cbor.specs.Form.{stringFieldOf, numberFieldOf}
-use Rattle.cbor.specs.Names.{pubKey, sigKey, hashKey, typeKey, shareKey, lengthKey, versionKey, thresholdKey, shareCountKey, shareIndexKey}
+use Rattle.wire.specs.Ascii.{ascii}
 use Rattle.cbor.specs.Put.{Put}
 use Rattle.cbor.proofs.Runs.{Left, left-all, left-on, left-last}
 use Rattle.shard.specs.Shard.{contentOf, quorumOf, restOf, shardOf, shardDomain, signedOf}
@@ -17,26 +17,26 @@ room-first : {at p : ℕ} {all x y : List ℕ} (form rest : List ℕ) → Left a
 room-first form rest h = omega (arith, h .room, length-append form rest)
 
 module _ (at a b c : ℕ) (x x₁ x₂ z : List ℕ) where
-  pub content-run : (kind share : List ℕ) (len : ℕ) → at + length (contentOf kind share len) ≤ length x → Put at (stringFieldOf typeKey 3 kind) x x₁ a
-      → Put a (stringFieldOf shareKey 2 share) x₁ x₂ b → Put b (numberFieldOf lengthKey len) x₂ z c → Put at (contentOf kind share len) x z c
+  pub content-run : (kind share : List ℕ) (len : ℕ) → at + length (contentOf kind share len) ≤ length x → Put at (stringFieldOf (ascii "type") 3 kind) x x₁ a
+      → Put a (stringFieldOf (ascii "share") 2 share) x₁ x₂ b → Put b (numberFieldOf (ascii "length") len) x₂ z c → Put at (contentOf kind share len) x z c
   unfolding contentOf
   content-run kind share len l w₁ w₂ w₃ = left-last l (left-on (left-on (left-all at (contentOf kind share len) x l) w₁) w₂) w₃
 
-  pub quorum-run : (q : Quorum) → at + length (quorumOf q) ≤ length x → Put at (numberFieldOf thresholdKey (q .threshold)) x x₁ a
-      → Put a (numberFieldOf shareCountKey (q .count)) x₁ x₂ b → Put b (numberFieldOf shareIndexKey (q .index)) x₂ z c → Put at (quorumOf q) x z c
+  pub quorum-run : (q : Quorum) → at + length (quorumOf q) ≤ length x → Put at (numberFieldOf (ascii "threshold") (q .threshold)) x x₁ a
+      → Put a (numberFieldOf (ascii "share_count") (q .count)) x₁ x₂ b → Put b (numberFieldOf (ascii "share_index") (q .index)) x₂ z c → Put at (quorumOf q) x z c
   unfolding quorumOf
   quorum-run q l w₁ w₂ w₃ = left-last l (left-on (left-on (left-all at (quorumOf q) x l) w₁) w₂) w₃
 
 module _ (hash kind share : List ℕ) (len : ℕ) (q : Quorum) where
-  module _ (at : ℕ) (x : List ℕ) (l : at + length (restOf hash kind share len q) ≤ length x) (a : ℕ) (x₁ : List ℕ) (w₁ : Put at (stringFieldOf hashKey 2 hash) x x₁ a) where
-    after-hash : Left at (restOf hash kind share len q) x x₁ a (contentOf kind share len ++ (numberFieldOf versionKey 1 ++ quorumOf q))
+  module _ (at : ℕ) (x : List ℕ) (l : at + length (restOf hash kind share len q) ≤ length x) (a : ℕ) (x₁ : List ℕ) (w₁ : Put at (stringFieldOf (ascii "hash") 2 hash) x x₁ a) where
+    after-hash : Left at (restOf hash kind share len q) x x₁ a (contentOf kind share len ++ (numberFieldOf (ascii "version") 1 ++ quorumOf q))
     unfolding restOf
     after-hash = left-on (left-all at (restOf hash kind share len q) x l) w₁
 
     pub content-room : a + length (contentOf kind share len) ≤ length x₁
-    content-room = room-first (contentOf kind share len) (numberFieldOf versionKey 1 ++ quorumOf q) after-hash
+    content-room = room-first (contentOf kind share len) (numberFieldOf (ascii "version") 1 ++ quorumOf q) after-hash
 
-    module _ (b c : ℕ) (x₂ x₃ : List ℕ) (w₂ : Put a (contentOf kind share len) x₁ x₂ b) (w₃ : Put b (numberFieldOf versionKey 1) x₂ x₃ c) where
+    module _ (b c : ℕ) (x₂ x₃ : List ℕ) (w₂ : Put a (contentOf kind share len) x₁ x₂ b) (w₃ : Put b (numberFieldOf (ascii "version") 1) x₂ x₃ c) where
       after-version : Left at (restOf hash kind share len q) x x₃ c (quorumOf q)
       after-version = left-on (left-on after-hash w₂) w₃
 
@@ -48,7 +48,7 @@ module _ (hash kind share : List ℕ) (len : ℕ) (q : Quorum) where
 
   module _ (public x : List ℕ) where
     module _ (sig : List ℕ) (l : length (shardOf public sig hash kind share len q) ≤ length x) (a b c : ℕ) (x₁ x₂ x₃ : List ℕ)
-        (w₁ : Put 0 (0xAA ∷ []) x x₁ a) (w₂ : Put a (stringFieldOf pubKey 2 public) x₁ x₂ b) (w₃ : Put b (stringFieldOf sigKey 2 sig) x₂ x₃ c) where
+        (w₁ : Put 0 (0xAA ∷ []) x x₁ a) (w₂ : Put a (stringFieldOf (ascii "pub") 2 public) x₁ x₂ b) (w₃ : Put b (stringFieldOf (ascii "sig") 2 sig) x₂ x₃ c) where
       shard-fits : 0 + length (shardOf public sig hash kind share len q) ≤ length x
       shard-fits = omega arith
 
@@ -63,7 +63,7 @@ module _ (hash kind share : List ℕ) (len : ℕ) (q : Quorum) where
       shard-run d z w₄ = left-last shard-fits after-sig w₄ .output
 
     module _ (l : length (signedOf public hash kind share len q) ≤ length x) (a b c : ℕ) (x₁ x₂ x₃ : List ℕ) (w₁ : Put 0 shardDomain x x₁ a)
-        (w₂ : Put a (0xA9 ∷ []) x₁ x₂ b) (w₃ : Put b (stringFieldOf pubKey 2 public) x₂ x₃ c) where
+        (w₂ : Put a (0xA9 ∷ []) x₁ x₂ b) (w₃ : Put b (stringFieldOf (ascii "pub") 2 public) x₂ x₃ c) where
       signed-fits : 0 + length (signedOf public hash kind share len q) ≤ length x
       signed-fits = omega arith
 

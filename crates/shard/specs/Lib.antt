@@ -1,2 +1,3 @@
 pub mod Shard
 pub mod Answer
+pub mod Private

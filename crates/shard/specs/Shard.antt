@@ -12,7 +12,6 @@ use Rattle.wire.specs.Span.{partAt}
 use Rattle.lend.specs.Same.{same}
 use Rattle.cbor.specs.Form.{stringFieldOf, numberFieldOf}
 use Rattle.cbor.specs.Item.{oneAt, keyAt, numberAt, contentsAt, stringFieldAt, numberFieldAt}
-use Rattle.cbor.specs.Names.{pubKey, sigKey, hashKey, typeKey, shareKey, lengthKey, versionKey, thresholdKey, shareCountKey, shareIndexKey}
 use Rattle.auth.specs.Auth.{Claim, claimAt}
 use Rattle.shard.specs.declared.Content.{Content}
 use Rattle.shard.specs.declared.Quorum.{Quorum}
@@ -38,7 +37,7 @@ padded len = (len + 15) / 16 * 16
 -- `type`: a text of 10 or 12 bytes, judged before its contents are looked at; then the contents
 unfoldable pub kindAt : List ℕ → ℕ → Got Span
 kindAt s at =
-    then (keyAt s at typeKey) (λ (_, a).
+    then (keyAt s at (ascii "type")) (λ (_, a).
     then (numberAt s a 3 10 12 19) (λ (len, b).
     choose (eqb len 11) (refused 19)
     (then (contentsAt s b len) (λ (kind, next).
@@ -48,18 +47,18 @@ kindAt s at =
 unfoldable pub contentAt : List ℕ → ℕ → Got Content
 contentAt s at =
     then (kindAt s at) (λ (kind, a).
-    then (stringFieldAt s a shareKey 2 0 mostShare 19) (λ (share, b).
-    then (numberFieldAt s b lengthKey 1 (2 ^ 64 - 1)) (λ (len, next).
+    then (stringFieldAt s a (ascii "share") 2 0 mostShare 19) (λ (share, b).
+    then (numberFieldAt s b (ascii "length") 1 (2 ^ 64 - 1)) (λ (len, next).
     demand (eqb (share .len) (padded len)) 19
     (got (record { kind = kind; share = share; length = len }) next))))
 
 -- `threshold`, `share_count` and `share_index`, each 1 to 255, the first and last of them at most share_count
 unfoldable pub quorumAt : List ℕ → ℕ → Got Quorum
 quorumAt s at =
-    then (numberFieldAt s at thresholdKey 1 255) (λ (threshold, a).
-    then (numberFieldAt s a shareCountKey 1 255) (λ (count, b).
+    then (numberFieldAt s at (ascii "threshold") 1 255) (λ (threshold, a).
+    then (numberFieldAt s a (ascii "share_count") 1 255) (λ (count, b).
     demand (leb threshold count) 19
-    (then (numberFieldAt s b shareIndexKey 1 255) (λ (index, next).
+    (then (numberFieldAt s b (ascii "share_index") 1 255) (λ (index, next).
     demand (leb index count) 19
     (got (record { threshold = threshold; count = count; index = index }) next)))))
 
@@ -73,7 +72,7 @@ pub record Shard : Type 0 where
 unfoldable pub bodyAt : List ℕ → ℕ → Claim → Got Shard
 bodyAt s at claim =
     then (contentAt s at) (λ (content, a).
-    then (numberFieldAt s a versionKey 1 1) (λ (_, b).
+    then (numberFieldAt s a (ascii "version") 1 1) (λ (_, b).
     then (quorumAt s b) (λ (quorum, next).
     demand (eqb next (length s)) 3 (got (record { claim = claim; content = content; quorum = quorum }) next))))
 
@@ -84,40 +83,47 @@ shardAt s = then (oneAt s 0 0xAA) (λ (_, a). then (claimAt s a) (λ (claim, b).
 -- ---- the payload, written
 
 unfoldable pub contentOf : List ℕ → List ℕ → ℕ → List ℕ
-contentOf kind share len = stringFieldOf typeKey 3 kind ++ (stringFieldOf shareKey 2 share ++ numberFieldOf lengthKey len)
+contentOf kind share len = stringFieldOf (ascii "type") 3 kind ++ (stringFieldOf (ascii "share") 2 share ++ numberFieldOf (ascii "length") len)
 
 unfoldable pub quorumOf : Quorum → List ℕ
 quorumOf q =
-    numberFieldOf thresholdKey (q .threshold) ++ (numberFieldOf shareCountKey (q .count) ++ numberFieldOf shareIndexKey (q .index))
+    numberFieldOf (ascii "threshold") (q .threshold) ++ (numberFieldOf (ascii "share_count") (q .count) ++ numberFieldOf (ascii "share_index") (q .index))
 
 -- from `hash` on the payload and the signed bytes are the same
 unfoldable pub restOf : (hash kind share : List ℕ) (len : ℕ) (q : Quorum) → List ℕ
-restOf hash kind share len q = stringFieldOf hashKey 2 hash ++ (contentOf kind share len ++ (numberFieldOf versionKey 1 ++ quorumOf q))
+restOf hash kind share len q = stringFieldOf (ascii "hash") 2 hash ++ (contentOf kind share len ++ (numberFieldOf (ascii "version") 1 ++ quorumOf q))
 
 unfoldable pub shardOf : (public sig hash kind share : List ℕ) (len : ℕ) (q : Quorum) → List ℕ
 shardOf public sig hash kind share len q =
-    (0xAA ∷ []) ++ (stringFieldOf pubKey 2 public ++ (stringFieldOf sigKey 2 sig ++ restOf hash kind share len q))
+    (0xAA ∷ []) ++ (stringFieldOf (ascii "pub") 2 public ++ (stringFieldOf (ascii "sig") 2 sig ++ restOf hash kind share len q))
 
--- ---- what a writer judges, in the order of the keys
-
-unfoldable pub contentFits : List ℕ → List ℕ → ℕ → Bool
-contentFits kind share len = known kind && (leb (length share) mostShare && (leb 1 len && eqb (length share) (padded len)))
+-- ---- what a writer judges: a value outside its range is 19, in the order of the keys
 
 -- 1 to 255
 unfoldable pub small : ℕ → Bool
 small n = leb 1 n && leb n 255
 
-unfoldable pub quorumFits : Quorum → Bool
-quorumFits q =
-    small (q .threshold) && (small (q .count) && (leb (q .threshold) (q .count) && (small (q .index) && leb (q .index) (q .count))))
+-- from `hash` on the payload and the signed bytes have the same values: the form is written where they may be
+unfoldable pub restVerdict : (hash kind share : List ℕ) (len : ℕ) (q : Quorum) (form : List ℕ) → Answer (List ℕ)
+restVerdict hash kind share len q form =
+    demand (eqb (length hash) 32) 19
+    (demand (known kind) 19
+    (demand (leb (length share) mostShare) 19
+    (demand (leb 1 len) 19
+    (demand (eqb (length share) (padded len)) 19
+    (demand (small (q .threshold)) 19
+    (demand (small (q .count)) 19
+    (demand (leb (q .threshold) (q .count)) 19
+    (demand (small (q .index)) 19
+    (demand (leb (q .index) (q .count)) 19
+    (done form))))))))))
 
-unfoldable pub restFits : (hash kind share : List ℕ) (len : ℕ) (q : Quorum) → Bool
-restFits hash kind share len q = eqb (length hash) 32 && (contentFits kind share len && quorumFits q)
-
--- a value outside its range is 19. There is no 9: the payload of values in their ranges has at most 456 bytes (`shard-most`: proofs/Lengths; 02, Ticket 11)
+-- there is no 9: the payload of values in their ranges has at most 456 bytes (`shard-most`: proofs/Lengths; 02, Ticket 11)
 unfoldable pub shardVerdict : (public sig hash kind share : List ℕ) (len : ℕ) (q : Quorum) → Answer (List ℕ)
 shardVerdict public sig hash kind share len q =
-    choose (eqb (length public) 32 && (eqb (length sig) 64 && restFits hash kind share len q)) (done (shardOf public sig hash kind share len q)) (refused 19)
+    demand (eqb (length public) 32) 19
+    (demand (eqb (length sig) 64) 19
+    (restVerdict hash kind share len q (shardOf public sig hash kind share len q)))
 
 -- ---- the bytes that get signed
 
@@ -127,9 +133,10 @@ shardDomain = ascii "ETHERNITY-SHARD-V1"
 -- the domain, then the map without `sig`, head A9
 unfoldable pub signedOf : (public hash kind share : List ℕ) (len : ℕ) (q : Quorum) → List ℕ
 signedOf public hash kind share len q =
-    shardDomain ++ ((0xA9 ∷ []) ++ (stringFieldOf pubKey 2 public ++ restOf hash kind share len q))
+    shardDomain ++ ((0xA9 ∷ []) ++ (stringFieldOf (ascii "pub") 2 public ++ restOf hash kind share len q))
 
 -- the values are judged as by the writer, sig apart
 unfoldable pub signedVerdict : (public hash kind share : List ℕ) (len : ℕ) (q : Quorum) → Answer (List ℕ)
 signedVerdict public hash kind share len q =
-    choose (eqb (length public) 32 && restFits hash kind share len q) (done (signedOf public hash kind share len q)) (refused 19)
+    demand (eqb (length public) 32) 19
+    (restVerdict hash kind share len q (signedOf public hash kind share len q))

@@ -1,7 +1,7 @@
 // The shard payload, read and written, and the bytes that get signed: document 01, "CBOR payloads".
+mod fields;
 mod form;
-mod part;
-mod rule;
+mod judge;
 
 ghost use mathlib.Core.Path.{_≡_};
 ghost use Rattle.wire.specs.Answer.{numberOf};
@@ -9,13 +9,10 @@ ghost use Rattle.wire.specs.Writing.{Written};
 ghost use Rattle.shard.specs.Shard.{bodyAt, shardAt, shardVerdict, signedVerdict};
 ghost use Rattle.shard.specs.Answer.{shardTold};
 use auth::ClaimRead;
-use auth::claim_no;
 use cbor::NumberRead;
 use cbor::StepRead;
-use cbor::number_no;
-use cbor::step_no;
-use part::ContentRead;
-use part::QuorumRead;
+use fields::ContentRead;
+use fields::QuorumRead;
 use wire::OUT_OF_RANGE;
 use wire::Span;
 use wire::Wrote;
@@ -50,20 +47,15 @@ pub enum ShardRead {
     },
 }
 
-// The number of a refusal, for a caller's `else`.
-pub fn shard_no(r: ShardRead) -> u8
-    ensures { λ n. ⌜ n ≡ numberOf (shardTold r) ⌝ }
-{
-    match r {
-        ShardRead::Value {
-            public: _,
-            sig: _,
-            hash: _,
-            content: _,
-            quorum: _,
-            next: _,
-        } => 0,
-        ShardRead::Refused { no } => no,
+impl ShardRead {
+    // The number of a refusal, for a caller's `else`.
+    pub fn no(self) -> u8
+        ensures { λ n. ⌜ n ≡ numberOf (shardTold self) ⌝ }
+    {
+        match self {
+            ShardRead::Refused { no } => no,
+            _ => 0,
+        }
     }
 }
 
@@ -71,21 +63,17 @@ pub fn shard_no(r: ShardRead) -> u8
 fn body(s: &[u8], at: usize, public: usize, sig: usize, hash: usize) -> ShardRead
     ensures { λ r. ⌜ shardTold r ≡ bodyAt (now (s .entry)) at (record { public = public; sig = sig; hash = hash }) ⌝ }
 {
-    let t = part::content(s, at);
+    let t = fields::content(s, at);
     let ContentRead::Value { content, next: a } = t else {
-        return ShardRead::Refused {
-            no: part::content_no(t),
-        };
+        return ShardRead::Refused { no: t.no() };
     };
     let v = cbor::read::number_field(s, a, b"version", 1, 1);
     let NumberRead::Value { n: _, next: b } = v else {
-        return ShardRead::Refused { no: number_no(v) };
+        return ShardRead::Refused { no: v.no() };
     };
-    let q = part::quorum(s, b);
+    let q = fields::quorum(s, b);
     let QuorumRead::Value { quorum, next } = q else {
-        return ShardRead::Refused {
-            no: part::quorum_no(q),
-        };
+        return ShardRead::Refused { no: q.no() };
     };
     if next != s.len() {
         return ShardRead::Refused {
@@ -108,7 +96,7 @@ pub fn read(s: &[u8]) -> ShardRead
 {
     let m = cbor::read::one_byte(s, 0, 0xAA);
     let StepRead::Past { next: a } = m else {
-        return ShardRead::Refused { no: step_no(m) };
+        return ShardRead::Refused { no: m.no() };
     };
     let c = auth::claim(s, a);
     let ClaimRead::Value {
@@ -118,7 +106,7 @@ pub fn read(s: &[u8]) -> ShardRead
         next: b,
     } = c
     else {
-        return ShardRead::Refused { no: claim_no(c) };
+        return ShardRead::Refused { no: c.no() };
     };
     body(s, b, public, sig, hash)
 }
@@ -142,7 +130,7 @@ pub fn write(
     if sig.len() != 64 {
         return Wrote::Refused { no: OUT_OF_RANGE };
     }
-    if !rule::rest_fits(hash, kind, share, length, quorum) {
+    if !judge::rest_fits(hash, kind, share, length, quorum) {
         return Wrote::Refused { no: OUT_OF_RANGE };
     }
     let len = form::PAYLOAD_FRONT + form::rest_size(hash, kind, share, length, quorum);
@@ -168,7 +156,7 @@ pub fn signed(
     if public.len() != 32 {
         return Wrote::Refused { no: OUT_OF_RANGE };
     }
-    if !rule::rest_fits(hash, kind, share, length, quorum) {
+    if !judge::rest_fits(hash, kind, share, length, quorum) {
         return Wrote::Refused { no: OUT_OF_RANGE };
     }
     let len = form::MESSAGE_FRONT + form::rest_size(hash, kind, share, length, quorum);

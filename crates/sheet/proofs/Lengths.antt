@@ -1,6 +1,5 @@
 -- How long a sheet is at most, so that the room that the program lends always suffices: 11 is never its answer. Assumes nothing.
 use mathlib.Core.Path.{_≡_, sym, ap}
-use mathlib.Core.Logic.{⊎-elim}
 use mathlib.Core.List.{List}
 use Prim.Native.Nat.{ℕ, zero, suc, _*_, _≤_, _<_}
 use native.Mathlib.Nat.{suc-mul}
@@ -9,22 +8,19 @@ use borrow.Author.Tests.{ltb-true}
 use lib.Dec.{ltb}
 use lib.ListN.{length, length-append}
 use Rattle.wire.specs.Answer.{done}
-use Rattle.wire.proofs.Cases.{lt-or-le, passed, then-done, done-value}
+use Rattle.wire.proofs.Cases.{passed, then-done, done-value}
+use Rattle.digits.specs.Decimal.{lineFeed}
+use Rattle.digits.proofs.Decimals.{decimal-short}
 use Rattle.text.specs.Text.{base64, zbase32, textOf}
 use Rattle.text.proofs.Forms.{base64-lawful, zbase32-lawful}
 use Rattle.text.proofs.Counts.{filled, filling-lt}
 use Rattle.page.specs.Page.{pageCount, pageFrame, countOf, joined}
 use Rattle.page.proofs.Typing.{frame-short}
-use Rattle.status.specs.Line.{decimal, lineFeed}
-use Rattle.status.proofs.Numbers.{decimal-one, decimal-two}
 use Rattle.sheet.specs.Sheet.{idLine, textLine, scanLine, placeLine, typedLines, scanSheet, typedSheet, scanVerdict, typedVerdict, placeVerdict}
-use Rattle.sheet.specs.Parts.{There}
+use Rattle.sheet.specs.Private.{There}
 use Rattle.sheet.proofs.Ids.{id-line-length}
 use Rattle.sheet.proofs.Texts.{text-length, frame-there, page-short}
 use Rattle.sheet.proofs.Sheets.{total-is, total-most, page-there}
-
-decimal-short : (n : ℕ) → n < 100 → length (decimal n) ≤ 2
-decimal-short n h = ⊎-elim (λ a. rw (decimal-one n a) (omega arith)) (λ a. rw (decimal-two n a h) (omega arith)) (lt-or-le n 10)
 
 pub place-short : (k n : ℕ) → k < 100 → n < 100 → length (placeLine k n) ≤ 14
 unfolding placeLine

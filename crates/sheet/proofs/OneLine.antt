@@ -11,14 +11,15 @@ use lib.ListN.{length, getD}
 use Rattle.wire.specs.Answer.{choose, done}
 use Rattle.wire.specs.Number.{Bytes, Digits, digits, number}
 use Rattle.wire.proofs.Digits.{digits-small}
+use Rattle.digits.specs.Decimal.{digit, decimal}
+use Rattle.digits.specs.Hex.{hexDigit, hexOf}
 use Rattle.text.specs.Text.{Form, base64, zbase32, skipped, letter, characters, filling, textOf, readText}
 use Rattle.text.proofs.Forms.{Lawful, base64-lawful, zbase32-lawful}
 use Rattle.page.specs.Page.{pageCount, pageFrame, Printed}
 use Rattle.page.proofs.Cutting.{counted-facts}
 use Rattle.page.proofs.Round.{page-typed}
-use Rattle.status.specs.Line.{digit, decimal}
-use Rattle.sheet.specs.Sheet.{hexDigit, hexOf, pageWord, ofWord}
-use Rattle.sheet.specs.Parts.{There}
+use Rattle.sheet.specs.Sheet.{pageWord, ofWord}
+use Rattle.sheet.specs.Private.{There}
 
 -- ---- no line feed inside a line
 

@@ -6,7 +6,7 @@ use native.Mathlib.Numerals.{add-one}
 use native.Mathlib.Omega.{arith}
 use borrow.Author.Tests.{lt-ltb, le-ltb}
 use lib.Dec.{ltb}
-use lib.ListN.{length, take, drop}
+use lib.ListN.{length, take, drop, replicate, length-replicate}
 use Rattle.wire.specs.Over.{over}
 use Rattle.wire.specs.Answer.{Answer, done, refused, Kept, demand}
 use Rattle.wire.specs.Writing.{Written, writing}
@@ -21,7 +21,7 @@ use Rattle.page.specs.declared.PageCount.the-variants.{Pages}
 use Rattle.page.specs.declared.PageCount.the-variants as page
 use Rattle.page.proofs.Cutting.{counted-facts}
 use Rattle.sheet.specs.Sheet.{idLine, placeLine, textLine, scanLine, typedLines, placeVerdict}
-use Rattle.sheet.specs.Parts.{There, textForm, linesOf, sheetOf, sheetVerdict, Laid}
+use Rattle.sheet.specs.Private.{There, textForm, linesOf, sheetOf, sheetVerdict, Laid}
 use Rattle.sheet.specs.declared.Form.{Form}
 use Rattle.sheet.specs.declared.Form.the-variants.{Square, Below}
 use Rattle.sheet.proofs.Ids.{id-line-length}
@@ -55,45 +55,56 @@ module _ (c : List ℕ) (n : ℕ) (h : done n ≡ countOf (length c) 480) where
 
 -- ---- the loop
 
--- the lines of the first k pages stand in x behind the id
+-- the lines of the first k pages stand in x behind the id, and there is room for those of all
 pub record Stacked (f : Form) (c : List ℕ) (n : ℕ) (l : List ℕ) (at k : ℕ) (x : List ℕ) : Type 0 where
+  pub counted : done n ≡ countOf (length c) 480
+  pub room : 78257 ≤ length l
   pub most : k ≤ n
   pub size : length x ≡ length l
   pub laid : Laid 17 (k * 815) (joined k (linesOf f c)) l x at
 
 module _ (f : Form) (c : List ℕ) (n : ℕ) (l : List ℕ) where
-  pub stacked-none : Stacked f c n l 17 0 l
+  pub stacked-none : done n ≡ countOf (length c) 480 → 78257 ≤ length l → Stacked f c n l 17 0 l
   unfolding joined
-  stacked-none = record { most = omega arith; size = refl; laid = laid-one 17 0 [] l l 17 refl (omega arith) (sym (over-none 17 l)) }
+  stacked-none h room = record { counted = h; room = room; most = omega arith; size = refl; laid = laid-one 17 0 [] l l 17 refl (omega arith) (sym (over-none 17 l)) }
 
-  pub stacked-on : (k at r : ℕ) (x y : List ℕ) → n ≤ 96 → 78257 ≤ length l → k < n → length y ≡ length x → Laid at 815 (linesOf f c k) x y r
-      → Stacked f c n l at k x → Stacked f c n l r (k + 1) y
-  unfolding joined
-  stacked-on k at r x y top room h s p g =
-      let b : at ≤ 17 + k * 815 = omega (arith, g .laid .next, g .laid .short) in
-      record {
-        most = omega arith;
-        size = s ∙ g .size;
-        laid = laid-as 17 (k * 815 + 815) ((k + 1) * 815) r (joined k (linesOf f c) ++ linesOf f c k) (joined (k + 1) (linesOf f c)) l y
-            (laid-then 17 (k * 815) at 815 r (joined k (linesOf f c)) (linesOf f c k) l x y (g .laid) p (omega arith)) (rw (add-one k)) (omega arith);
-      }
+  module _ (k at : ℕ) (x : List ℕ) (g : Stacked f c n l at k x) where
+    top : n ≤ 96
+    top = total-most c n (g .counted)
 
-  pub stacked-end : (l₀ : List ℕ) (k at : ℕ) (x : List ℕ) → done n ≡ countOf (length c) 480 → 78257 ≤ length l₀ → l ≡ over 0 (idLine c) l₀ → n ≤ k
-      → Stacked f c n l at k x → Laid 0 78257 (sheetOf f c) l₀ x at
-  unfolding sheetOf
-  stacked-end l₀ k at x h room i o g =
-      let e : k ≡ pageCount (length c) 480 = omega (arith, g .most, total-is c n h) in
-      let m : k ≤ 96 = omega (arith, g .most, total-most c n h) in
-      let d = id-line-length c in
-      let first = laid-one 0 17 (idLine c) l₀ l 17 (omega arith) (omega arith) i in
-      laid-as 0 (17 + k * 815) 78257 at (idLine c ++ joined k (linesOf f c)) (idLine c ++ joined (pageCount (length c) 480) (linesOf f c)) l₀ x
-      (laid-then 0 17 17 (k * 815) at (idLine c) (joined k (linesOf f c)) l₀ l x first (g .laid) (omega arith))
-      (ap (λ (i : ℕ). idLine c ++ joined i (linesOf f c)) e) (omega arith)
+    behind : at ≤ 17 + k * 815
+    behind = omega (arith, g .laid .next, g .laid .short)
+
+    pub stacked-room : k < n → at + 815 ≤ length x
+    stacked-room h = omega (arith, top, behind, g .room, g .size)
+
+    pub stacked-on : (r : ℕ) (y : List ℕ) → k < n → length y ≡ length x → Laid at 815 (linesOf f c k) x y r → Stacked f c n l r (k + 1) y
+    unfolding joined
+    stacked-on r y h s p =
+        record {
+          counted = g .counted;
+          room = g .room;
+          most = omega arith;
+          size = s ∙ g .size;
+          laid = laid-as 17 (k * 815 + 815) ((k + 1) * 815) r (joined k (linesOf f c) ++ linesOf f c k) (joined (k + 1) (linesOf f c)) l y
+              (laid-then 17 (k * 815) at 815 r (joined k (linesOf f c)) (linesOf f c k) l x y (g .laid) p (omega (arith, g .size, stacked-room h))) (rw (add-one k)) (omega arith);
+        }
+
+    pub stacked-end : (l₀ : List ℕ) → 78257 ≤ length l₀ → l ≡ over 0 (idLine c) l₀ → n ≤ k → Laid 0 78257 (sheetOf f c) l₀ x at
+    unfolding sheetOf
+    stacked-end l₀ room i o =
+        let e : k ≡ pageCount (length c) 480 = omega (arith, g .most, total-is c n (g .counted)) in
+        let m : k ≤ 96 = omega (arith, g .most, top) in
+        let d = id-line-length c in
+        let first = laid-one 0 17 (idLine c) l₀ l 17 (omega arith) (omega arith) i in
+        laid-as 0 (17 + k * 815) 78257 at (idLine c ++ joined k (linesOf f c)) (idLine c ++ joined (pageCount (length c) 480) (linesOf f c)) l₀ x
+        (laid-then 0 17 17 (k * 815) at (idLine c) (joined k (linesOf f c)) l₀ l x first (g .laid) (omega arith))
+        (ap (λ (i : ℕ). idLine c ++ joined i (linesOf f c)) e) (omega arith)
 
 -- what was laid in front is what is given
-pub given : (m n : ℕ) (bs l x out out' : List ℕ) (r : Answer ℕ) → m ≤ length l → Laid 0 m bs l x n → Kept (writing 0 out (done (take (n - 0) (drop 0 x)))) out out' r
+pub given : (m n : ℕ) (bs x out out' : List ℕ) (r : Answer ℕ) → Laid 0 m bs (replicate m 0) x n → Kept (writing 0 out (done (take (n - 0) (drop 0 x)))) out out' r
     → Kept (writing 0 out (done bs)) out out' r
-given m n bs l x out out' r room p w = rw (laid-part m n bs l x room p) at w
+given m n bs x out out' r p w = rw (laid-part m n bs (replicate m 0) x (omega (arith, length-replicate {A = ℕ} m 0)) p) at w
 
 -- ---- the answers
 
@@ -105,9 +116,10 @@ told-none p q = rw (← q, p)
 
 module _ (c : List ℕ) (n : ℕ) where
   module _ (out out' : List ℕ) (r : Answer ℕ) where
-    pub all-printed : (f : Form) → done n ≡ countOf (length c) 480 → Kept (writing 0 out (done (sheetOf f c))) out out' r → Kept (writing 0 out (sheetVerdict f c)) out out' r
+    pub all-printed : (f : Form) (p : PageCount) → p ≡ Pages n → told p ≡ countOf (length c) 480 → Kept (writing 0 out (done (sheetOf f c))) out out' r
+        → Kept (writing 0 out (sheetVerdict f c)) out out' r
     unfolding sheetVerdict
-    all-printed f h w = rw (← h) w
+    all-printed f p e h w = rw (← told-pages e h) w
 
     pub one-printed : (k : ℕ) → done n ≡ countOf (length c) 480 → Kept (writing 0 out (demand (ltb k n) 8 (done (typedLines c k)))) out out' r → Kept (writing 0 out (placeVerdict c k)) out out' r
     unfolding placeVerdict

@@ -4,7 +4,7 @@ use mathlib.Core.Logic.{_⊎_, inl, inr, ⊎-elim}
 use mathlib.Core.List.{List}
 use Prim.Native.Nat.{ℕ, _+_, _-_, _*_, _^_, _≤_, _<_}
 use native.Mathlib.Omega.{arith}
-use lib.ListN.{length, take, drop, length-map}
+use lib.ListN.{length, take, drop, replicate, length-map, length-replicate}
 use Rattle.wire.specs.Number.{digits, number}
 use Rattle.wire.specs.Over.{over}
 use Rattle.wire.specs.Answer.{Answer, done, Kept}
@@ -14,15 +14,15 @@ use Rattle.wire.specs.declared.Wrote.the-variants.{Done, Refused}
 use Rattle.wire.proofs.Digits.{length-digits}
 use Rattle.wire.proofs.Cases.{done-value}
 use Rattle.wire.proofs.Writes.{done-stood, refused-why}
+use Rattle.digits.specs.Decimal.{lineFeed}
 use Rattle.text.specs.Text.{Form, base64, zbase32, letter, characters, filling, textOf}
 use Rattle.text.proofs.Forms.{Lawful, base64-lawful, zbase32-lawful}
 use Rattle.text.proofs.Counts.{filled, filling-lt}
 use Rattle.page.specs.Page.{pageCount, pageFrame, pageVerdict, typed}
 use Rattle.page.proofs.Cutting.{page-is}
 use Rattle.page.proofs.Typing.{frame-short}
-use Rattle.status.specs.Line.{lineFeed}
 use Rattle.sheet.specs.Sheet.{textLine}
-use Rattle.sheet.specs.Parts.{There, textForm, Laid}
+use Rattle.sheet.specs.Private.{There, textForm, Laid}
 use Rattle.sheet.specs.declared.Form as own
 use Rattle.sheet.specs.declared.Form.the-variants.{Square, Below}
 use Rattle.sheet.proofs.Laying.{laid-one, laid-then, laid-part}
@@ -76,7 +76,7 @@ module _ (c : List ℕ) (k : ℕ) (t : There c k) where
       written-here = rw frame-there at w
 
       -- it is not refused
-      pub text-never : {P : Type 0} (e : ℕ) → r ≡ Refused e → P
+      pub text-never : (e : ℕ) → r ≡ Refused e → Laid 0 800 here x y 0
       text-never e q =
           ⊎-elim (λ o. let z : _≡_ {A = ℕ} 0 1 = cc in absurd (omega arith))
           (λ o. absurd (omega (arith, o .2, ap length (done-value (o .1)), here-short)))
@@ -89,11 +89,12 @@ module _ (c : List ℕ) (k : ℕ) (t : There c k) where
           let e : s .what ≡ here = done-value (sym (s .meant)) in
           record { next = omega (arith, s .count, ap length e); short = here-short; stands = s .stands ∙ ap (λ (b : List ℕ). over 0 b x) e }
 
-    -- and with its line feed it is the line
-    pub line-laid : (n at : ℕ) (x y l u v : List ℕ) → 800 ≤ length x → Laid 0 800 here x y n → at + 801 ≤ length l → u ≡ over at (take (n - 0) (drop 0 y)) l → v ≡ over (at + n) lineFeed u
-        → Laid at 801 (textLine (textForm f) c k) l v (at + n + 1)
-    unfolding textLine
-    line-laid n at x y l u v room p fits a b =
-        laid-then at 800 (at + n) 1 (at + n + 1) here lineFeed l u v
-        (laid-one at 800 here l u (at + n) (omega (arith, p .next)) here-short (a ∙ rw (laid-part 800 n here x y room p)))
-        (laid-one (at + n) 1 lineFeed u v (at + n + 1) refl (omega arith) b) (omega (arith, p .next, p .short))
+-- with its line feed it is the line
+pub line-laid : (f : Form) (c : List ℕ) (k n at : ℕ) (y l u v : List ℕ) → v ≡ over (at + n) lineFeed u → u ≡ over at (take (n - 0) (drop 0 y)) l
+    → Laid 0 800 (textOf f (pageFrame c 480 k)) (replicate 800 0) y n → at + 801 ≤ length l → Laid at 801 (textLine f c k) l v (at + n + 1)
+unfolding textLine
+line-laid f c k n at y l u v b a p fits =
+    let text : List ℕ = textOf f (pageFrame c 480 k) in
+    laid-then at 800 (at + n) 1 (at + n + 1) text lineFeed l u v
+    (laid-one at 800 text l u (at + n) (omega (arith, p .next)) (p .short) (a ∙ rw (laid-part 800 n text (replicate 800 0) y (omega (arith, length-replicate {A = ℕ} 800 0)) p)))
+    (laid-one (at + n) 1 lineFeed u v (at + n + 1) refl (omega arith) b) (omega (arith, p .next, p .short))

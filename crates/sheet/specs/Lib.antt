@@ -1,3 +1,3 @@
 pub mod Sheet
-pub mod Parts
+pub mod Private
 pub mod Word

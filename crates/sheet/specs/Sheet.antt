@@ -1,23 +1,16 @@
 -- A document as it is printed: document 01, "Frames", the paragraph "Printing". Every page but the last is as long as a page may be.
-use Prim.Native.Nat.{ℕ, _+_, _/_, _%_}
-use mathlib.Core.List.{List, [], _∷_, _++_}
+use Prim.Native.Nat.{ℕ}
+use mathlib.Core.List.{List, _++_}
 use lib.Dec.{ltb}
 use lib.ListN.{length}
-use Rattle.wire.specs.Answer.{choose, Answer, done, then, demand}
+use Rattle.wire.specs.Answer.{Answer, done, then, demand}
 use Rattle.wire.specs.Ascii.{ascii}
 use Rattle.wire.specs.Sizes.{mostData}
+use Rattle.digits.specs.Decimal.{decimal, lineFeed}
+use Rattle.digits.specs.Hex.{hexOf}
 use Rattle.text.specs.Text.{Form, base64, zbase32, textOf}
-use Rattle.page.specs.Page.{documentId, pageCount, pageFrame, countOf, joined}
-use Rattle.status.specs.Line.{decimal, lineFeed}
-
--- a lower-case hex digit: 0 to 9 are 30 to 39 hex, 10 to 15 are 61 to 66 hex
-unfoldable pub hexDigit : ℕ → ℕ
-hexDigit d = choose (ltb d 10) (0x30 + d) (0x57 + d)
-
--- two digits a byte, the higher first
-unfoldable pub hexOf : List ℕ → List ℕ
-hexOf [] = []
-hexOf (b ∷ bs) = hexDigit (b / 16) ∷ hexDigit (b % 16) ∷ hexOf bs
+use Rattle.document_id.specs.Id.{documentId}
+use Rattle.page.specs.Page.{pageCount, pageFrame, countOf, joined}
 
 -- "the first line is the document id in 16 lower-case hex digits"
 unfoldable pub idLine : List ℕ → List ℕ

@@ -8,12 +8,11 @@ ghost use Rattle.wire.specs.Over.{over};
 ghost use Rattle.wire.specs.Answer.{done, demand};
 ghost use Rattle.wire.specs.Sizes.{mostPages, mostData};
 ghost use Rattle.wire.specs.Writing.{Written};
-ghost use Rattle.status.specs.Line.{decimal};
 ghost use Rattle.text.specs.Text.{textOf};
 ghost use Rattle.page.specs.Page.{countOf, pageFrame, pageVerdict};
 ghost use Rattle.page.specs.Page.{typed as textVerdict};
-ghost use Rattle.sheet.specs.Sheet.{hexDigit, hexOf, idLine, placeLine, textLine, scanVerdict, typedVerdict, typedLines, placeVerdict};
-ghost use Rattle.sheet.specs.Parts.{There, textForm, linesOf, sheetOf, sheetVerdict, Laid};
+ghost use Rattle.sheet.specs.Sheet.{idLine, placeLine, textLine, scanVerdict, typedVerdict, typedLines, placeVerdict};
+ghost use Rattle.sheet.specs.Private.{There, textForm, linesOf, sheetOf, sheetVerdict, Laid};
 ghost use Rattle.sheet.specs.Word.{askedOf};
 use page::PageCount;
 use wire::Wrote;
@@ -48,60 +47,24 @@ pub enum Asked {
 
 // ---- the parts of a line
 
-fn hex_digit(d: u8) -> u8
-    requires { ⌜ d < 16 ⌝ }
-    ensures { λ r. ⌜ r ≡ hexDigit d ⌝ }
-{
-    if d < 10 {
-        return b'0' + d;
-    }
-    d - 10 + b'a'
-}
-
-// Two hex digits for each byte of src, from the front of out on.
-fn hex(src: &[u8], out: &mut [u8])
-    requires { ⌜ 2 * length (now src) ≤ length (now out) ⌝ }
-    ensures { λ _. ⌜ now (out .exit) ≡ over 0 (hexOf (now (src .entry))) (now (out .entry)) ⌝ }
-{
-    let mut i = 0;
-    while i < src.len() {
-        lend::put(out, 2 * i, hex_digit(src[i] / 16));
-        lend::put(out, 2 * i + 1, hex_digit(src[i] % 16));
-        i += 1;
-    }
-}
-
 fn id_line(c: &[u8], out: &mut [u8])
     requires { ⌜ 17 ≤ length (now out) ⌝ }
     ensures { λ _. ⌜ now (out .exit) ≡ over 0 (idLine (now (c .entry))) (now (out .entry)) ⌝ }
 {
-    let id = page::document_id(c);
-    hex(&id, out);
+    let id = document_id::of(c);
+    digits::hex(out, 0, &id);
     lend::put(out, ID_LINE - 1, b'\n');
 }
 
-// The digits of n from index at on. Answers the index behind them, as all functions with an index do here.
-fn number(out: &mut [u8], at: usize, n: u8) -> usize
-    requires { ⌜ (n < 100) × (at + 3 ≤ length (now out)) ⌝ }
-    ensures { λ r. ⌜ Laid at 2 (decimal n) (now (out .entry)) (now (out .exit)) r ⌝ }
-{
-    if n < 10 {
-        lend::put(out, at, b'0' + n);
-        return at + 1;
-    }
-    lend::put(out, at, b'0' + n / 10);
-    lend::put(out, at + 1, b'0' + n % 10);
-    at + 2
-}
-
+// Answers the index behind the line, as all functions with an index do here.
 fn place(out: &mut [u8], at: usize, k: u8, n: u8) -> usize
     requires { ⌜ (k < 100) × (n < 100) × (at + 14 ≤ length (now out)) ⌝ }
     ensures { λ r. ⌜ Laid at 14 (placeLine k n) (now (out .entry)) (now (out .exit)) r ⌝ }
 {
     lend::copy(out, at, b"page ");
-    let after = number(out, at + 5, k);
+    let after = at + 5 + digits::decimal(out, at + 5, k);
     lend::copy(out, after, b" of ");
-    let end = number(out, after + 4, n);
+    let end = after + 4 + digits::decimal(out, after + 4, n);
     lend::put(out, end, b'\n');
     end + 1
 }

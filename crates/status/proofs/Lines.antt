@@ -4,20 +4,22 @@ use mathlib.Core.Bool.{Bool, true, false}
 use mathlib.Core.List.{List, _++_}
 use Prim.Native.Nat.{ℕ, _+_, _-_, _≤_, _<_}
 use native.Mathlib.Omega.{arith}
-use borrow.Author.Tests.{lt-ltb, le-ltb, ne-eqb}
-use lib.ListN.{length, take, getD, replicate, length-replicate, length-append}
+use borrow.Author.Tests.{lt-ltb, le-ltb}
+use lib.ListN.{length, take, replicate, length-replicate, length-append}
 use Rattle.wire.specs.Over.{over}
-use Rattle.wire.specs.Answer.{done, Answer, Kept}
+use Rattle.wire.specs.Answer.{done, Answer, numberOf, Kept}
 use Rattle.wire.specs.Writing.{writing}
 use Rattle.wire.proofs.Overs.{over-append, read-over}
-use Rattle.state.specs.State.{Slot, Book, empty, collecting, disagree}
-use Rattle.state.specs.Finish.{isAbsent, isHeld, isDisputed, lowest, count}
+use Rattle.digits.specs.Decimal.{decimal, lineFeed, refusedLine}
+use Rattle.model.specs.Book.{Slot, Book, empty, collecting, disagree}
+use Rattle.model.specs.Finish.{isAbsent, isHeld, isDisputed, lowest, count}
 use Rattle.book.specs.Head.{readHead}
-use Rattle.book.specs.Read.{readPages, bookFor, readBook, okBook}
-use Rattle.book.proofs.Decode.{ok-size, ok-head, head-allowed, total-range, book-0, book-1}
-use Rattle.tally.specs.State.{inState}
-use Rattle.tally.proofs.Pages.{in-absent, in-held, in-disputed, lowest-as, count-as, take-read}
-use Rattle.status.specs.Line.{decimal, field, pagesName, heldName, missingName, disputedName, firstName, noFirst, refusedName, emptyLine, disagreeLine, lineFeed, firstField, pagesLine, bookLine, refusedLine, statusLine}
+use Rattle.book.specs.Read.{readPages, readBook, bookIn}
+use Rattle.book.specs.Tally.{inState}
+use Rattle.book.proofs.Judging.{judged-done, judge-passed, judge-refused}
+use Rattle.book.proofs.Decode.{ok-state, ok-head, head-allowed, total-range, book-0, book-1, book-2}
+use Rattle.book.proofs.Below.{in-absent, in-held, in-disputed, lowest-as, count-as, take-read}
+use Rattle.status.specs.Line.{field, pagesName, heldName, missingName, disputedName, firstName, noFirst, emptyLine, disagreeLine, firstField, pagesLine, bookLine, statusLine}
 
 -- a promise for what is the same
 pub written-as : (xs ys out out' : List ℕ) (r : Answer ℕ) → xs ≡ ys → Kept (writing 0 out (done ys)) out out' r → Kept (writing 0 out (done xs)) out out' r
@@ -29,12 +31,12 @@ written-as xs ys out out' r e w = rw e w
 abbrev pub Named : ℕ → List ℕ → ℕ → ℕ → List ℕ → List ℕ → Type 0
 Named at name n r l x = (r ≡ at + length (field name n)) × (r ≤ at + length name + 3) × (x ≡ over at (field name n) l)
 
-pub name-put : (at n r : ℕ) (name l x y : List ℕ) → at + length name + 3 ≤ length l → x ≡ over at name l
-    → (r ≡ at + length name + length (decimal n)) × (r ≤ at + length name + 3) × (y ≡ over (at + length name) (decimal n) x) → Named at name n r l y
+pub name-put : (at n k : ℕ) (name l x y : List ℕ) → at + length name + 3 ≤ length l → x ≡ over at name l
+    → (k ≡ length (decimal n)) × (k ≤ 3) × (y ≡ over (at + length name) (decimal n) x) → Named at name n (at + length name + k) l y
 unfolding field
-name-put at n r name l x y room e (f, g, h) = (
+name-put at n k name l x y room e (f, g, h) = (
   omega (arith, length-append name (decimal n)),
-  g,
+  omega arith,
   h ∙ ap (over (at + length name) (decimal n)) e ∙ over-append at name (decimal n) l (at + length name) refl (omega arith),
 )
 
@@ -104,40 +106,32 @@ counted t h m d f ss eh em ed ef =
     let e : f ≡ lowest isAbsent ss = ef ∙ lowest-as (inState 0) isAbsent in-absent ss in
     rw (a, b, c, e)
 
--- ---- the line of a refusal
+-- ---- the line of a collection: n is what the judge answered
 
-pub refused-laid : (e a : ℕ) (x y : List ℕ) → Named 0 refusedName e a (replicate 64 0) x → y ≡ over a lineFeed x → take (a + 1 - 0) y ≡ refusedLine e
-unfolding refusedLine
-refused-laid e a x y p f = grown-end (field refusedName e) y x a (omega (arith, p .1)) (grown-start (field refusedName e) x a 11 (p .0, omega (arith, p .1), p .2)) f
-
--- ---- the line of a collection
-
-module _ (c : List ℕ) (q : Bool) (e : q ≡ okBook c) where
-  pub line-refused : q ≡ false → statusLine c ≡ refusedLine 13
+module _ (c : List ℕ) (n : ℕ) (e : n ≡ numberOf (bookIn c)) where
+  pub line-refused : (n ≡ 0 → ⊥) → statusLine c ≡ refusedLine n
   unfolding statusLine
-  line-refused f = rw (← e, f)
+  line-refused z = rw (judge-refused c n e z)
 
-  module _ (f : q ≡ true) where
-    fine : okBook c ≡ true
-    fine = sym e ∙ f
-
-    pub size-known : length c ≡ 49664
-    size-known = ok-size c fine
-
+  -- s is the state of a head that passed
+  module _ (z : n ≡ 0) (s : ℕ) (es : s ≡ readHead c .state) where
     said : (b : Book) → readBook c ≡ b → statusLine c ≡ bookLine b
     unfolding statusLine
-    said b h = rw (← e, f, h)
+    said b h = rw (judged-done c (judge-passed c n e z), h)
 
-    pub line-empty : getD c 3 0 ≡ 0 → statusLine c ≡ emptyLine
+    pub line-empty : s ≡ 0 → statusLine c ≡ emptyLine
     unfolding bookLine
-    line-empty s = said empty (book-0 c s)
+    line-empty f = said empty (book-0 c (sym es ∙ f))
 
-    pub line-disagree : (getD c 3 0 ≡ 0 → ⊥) → (getD c 3 0 ≡ 1 → ⊥) → statusLine c ≡ disagreeLine
-    unfolding bookLine readBook bookFor readHead
-    line-disagree m n = said disagree (rw (ne-eqb (getD c 3 0) 0 m, ne-eqb (getD c 3 0) 1 n))
+    pub line-disagree : (s ≡ 0 → ⊥) → (s ≡ 1 → ⊥) → statusLine c ≡ disagreeLine
+    unfolding bookLine
+    line-disagree f g =
+        let two : readHead c .state ≡ 2 = omega (arith, ok-state c (judge-passed c n e z)) in
+        said disagree (book-2 c two)
 
-    pub line-pages : getD c 3 0 ≡ 1 → statusLine c ≡ pagesLine (getD c 12 0) (readPages 0 (getD c 12 0) c)
-    unfolding bookLine readHead
-    line-pages s =
-        let t = total-range (getD c 12 0) (rw s at (head-allowed c (ok-head c fine))) in
-        said (collecting (getD c 12 0) (readPages 0 96 c)) (book-1 c s) ∙ ap (pagesLine (getD c 12 0)) (take-read 0 96 (getD c 12 0) c (t .1))
+    pub line-pages : (t : ℕ) → s ≡ 1 → t ≡ readHead c .total → statusLine c ≡ pagesLine t (readPages 0 t c)
+    unfolding bookLine
+    line-pages t f et =
+        let r = total-range (readHead c .total) (rw (sym es ∙ f) at (head-allowed c (ok-head c (judge-passed c n e z)))) in
+        let b : readBook c ≡ collecting t (readPages 0 96 c) = rw et (book-1 c (sym es ∙ f)) in
+        said (collecting t (readPages 0 96 c)) b ∙ ap (pagesLine t) (take-read 0 96 t c (rw et (r .1)))

@@ -9,16 +9,17 @@ use borrow.Author.Tests.{lt-ltb, le-ltb}
 use lib.ListN.{length, take, getD}
 use lib.Seq.{getD-take, length-take-le}
 use Rattle.wire.proofs.Cases.{lt-or-le}
-use Rattle.state.specs.State.{Slot, absent, Book, empty, collecting, disagree}
-use Rattle.state.specs.Take.{Page}
-use Rattle.state.specs.Meaning.{SlotIs, BookIs}
-use Rattle.state.specs.Complete.{Missing}
-use Rattle.state.specs.Finish.{isAbsent, isHeld, isDisputed, lowest, count}
-use Rattle.state.proofs.Valid.{ValidPages, Valid}
-use Rattle.state.proofs.Counts.{lowest-has, lowest-lacks}
-use Rattle.state.proofs.Complete.{is-absent, not-absent}
-use Rattle.state.proofs.Counted.{held-counted, missing-counted, disputed-counted}
+use Rattle.model.specs.Book.{Slot, absent, Book, empty, collecting, disagree}
+use Rattle.model.specs.Take.{Page}
+use Rattle.model.specs.Meaning.{SlotIs, BookIs}
+use Rattle.model.specs.Complete.{Missing}
+use Rattle.model.specs.Finish.{isAbsent, isHeld, isDisputed, lowest, count}
+use Rattle.model.proofs.Valid.{ValidPages, Valid}
+use Rattle.model.proofs.Counts.{lowest-has, lowest-lacks}
+use Rattle.model.proofs.Complete.{is-absent, not-absent}
+use Rattle.model.proofs.Counted.{held-counted, missing-counted, disputed-counted}
 use Rattle.book.specs.Read.{readBook, okBook}
+use Rattle.book.proofs.Judging.{judged-done}
 use Rattle.book.proofs.Decode.{decoded-valid}
 use Rattle.status.specs.Line.{firstField, pagesLine, bookLine, statusLine}
 use Rattle.status.specs.Sets.{FirstIs, Standing, LineIs}
@@ -77,4 +78,4 @@ book-line-is S disagree v m = inr (inl (m, refl))
 -- the line of a collection that is what the set S says
 pub status-line-is : (S : Page → Type 0) (c : List ℕ) → okBook c ≡ true → BookIs S (readBook c) → LineIs S (statusLine c)
 unfolding statusLine
-status-line-is S c ok m = rw ok (book-line-is S (readBook c) (decoded-valid c ok) m)
+status-line-is S c ok m = rw (judged-done c ok) (book-line-is S (readBook c) (decoded-valid c ok) m)

@@ -3,9 +3,10 @@ use mathlib.Core.Path.{_≡_}
 use mathlib.Core.Logic.{_⊎_}
 use mathlib.Core.List.{List, _++_}
 use Prim.Native.Nat.{ℕ, _<_}
-use Rattle.state.specs.Take.{Page}
-use Rattle.state.specs.Complete.{NoPages, OneTotal, TwoTotals, TwoVersions, Missing, Agreed, Counted}
-use Rattle.status.specs.Line.{field, pagesName, heldName, missingName, disputedName, firstName, noFirst, emptyLine, disagreeLine, lineFeed}
+use Rattle.digits.specs.Decimal.{lineFeed}
+use Rattle.model.specs.Take.{Page}
+use Rattle.model.specs.Complete.{NoPages, OneTotal, TotalsDisagree, DisputedAt, Missing, Agreed, Counted}
+use Rattle.status.specs.Line.{field, pagesName, heldName, missingName, disputedName, firstName, noFirst, emptyLine, disagreeLine}
 
 -- the lowest index below the total t without a page; `-` where each has one
 abbrev pub FirstIs : (Page → Type 0) → ℕ → List ℕ → Type 0
@@ -13,7 +14,7 @@ FirstIs S t text =
     ((k : ℕ) × (k < t) × Missing S k × ((j : ℕ) → j < k → Missing S j → ⊥) × (text ≡ field firstName k))
     ⊎ (((k : ℕ) → k < t → Missing S k → ⊥) × (text ≡ noFirst))
 
--- all pages name the total t: how many indices below it are agreed on, without a page, and in two versions
+-- all pages name the total t: how many indices below it are agreed on, without a page, and disputed
 pub record Standing (S : Page → Type 0) (t : ℕ) (line : List ℕ) : Type 0 where
   pub held : ℕ
   pub missing : ℕ
@@ -21,10 +22,10 @@ pub record Standing (S : Page → Type 0) (t : ℕ) (line : List ℕ) : Type 0 w
   pub first : List ℕ
   pub held-are : Counted (Agreed S) t held
   pub missing-are : Counted (Missing S) t missing
-  pub disputed-are : Counted (TwoVersions S) t disputed
+  pub disputed-are : Counted (DisputedAt S) t disputed
   pub first-is : FirstIs S t first
   pub whole : line ≡ field pagesName t ++ field heldName held ++ field missingName missing ++ field disputedName disputed ++ first ++ lineFeed
 
 -- the whole line: no page, two totals, or one
 abbrev pub LineIs : (Page → Type 0) → List ℕ → Type 0
-LineIs S line = (NoPages S × (line ≡ emptyLine)) ⊎ ((TwoTotals S × (line ≡ disagreeLine)) ⊎ ((t : ℕ) × OneTotal S t × Standing S t line))
+LineIs S line = (NoPages S × (line ≡ emptyLine)) ⊎ ((TotalsDisagree S × (line ≡ disagreeLine)) ⊎ ((t : ℕ) × OneTotal S t × Standing S t line))

@@ -6,31 +6,13 @@ ghost use Rattle.wire.specs.Over.{over};
 ghost use Rattle.wire.specs.Answer.{done};
 ghost use Rattle.wire.specs.Writing.{Written};
 ghost use Rattle.book.specs.Read.{readPages};
-ghost use Rattle.status.specs.Line.{decimal, field, firstField, pagesLine, refusedLine, statusLine};
+ghost use Rattle.status.specs.Line.{field, firstField, pagesLine, statusLine};
+use book::tally;
+use digits::refused_line;
 use wire::Wrote;
 
 // Room for the longest line.
 const ROOM: usize = 64;
-
-// The digits of n from index at on. Answers the index behind them.
-fn number(out: &mut [u8], at: usize, n: u8) -> usize
-    requires { ⌜ at + 3 ≤ length (now out) ⌝ }
-    ensures { λ r. ⌜ (r ≡ at + length (decimal n)) × (r ≤ at + 3) × (now (out .exit) ≡ over at (decimal n) (now (out .entry))) ⌝ }
-{
-    if n < 10 {
-        lend::put(out, at, b'0' + n);
-        return at + 1;
-    }
-    if n < 100 {
-        lend::put(out, at, b'0' + n / 10);
-        lend::put(out, at + 1, b'0' + n % 10);
-        return at + 2;
-    }
-    lend::put(out, at, b'0' + n / 100);
-    lend::put(out, at + 1, b'0' + n / 10 % 10);
-    lend::put(out, at + 2, b'0' + n % 10);
-    at + 3
-}
 
 // A name and a number, from index at on. Answers the index behind them.
 fn named(out: &mut [u8], at: usize, name: &[u8], n: u8) -> usize
@@ -38,7 +20,8 @@ fn named(out: &mut [u8], at: usize, name: &[u8], n: u8) -> usize
     ensures { λ r. ⌜ (r ≡ at + length (field (now (name .entry)) n)) × (r ≤ at + length (now (name .entry)) + 3) × (now (out .exit) ≡ over at (field (now (name .entry)) n) (now (out .entry))) ⌝ }
 {
     lend::copy(out, at, name);
-    number(out, at + name.len(), n)
+    let number = at + name.len();
+    number + digits::decimal(out, number, n)
 }
 
 // The lowest missing page, from index at on. Answers the index behind it.
@@ -72,30 +55,20 @@ fn pages_line(c: &[u8], total: u8, out: &mut [u8]) -> Wrote
     lend::give(&room[0..end], out)
 }
 
-// The line of a refusal: of a collection that is not well formed, and of a program that refuses its input.
-pub fn refused_line(no: u8, out: &mut [u8]) -> Wrote
-    ensures { λ r. ⌜ Written 0 (done (refusedLine no)) (now (out .entry)) (now (out .exit)) r ⌝ }
-{
-    let mut room = [0u8; ROOM];
-    let at = named(&mut room, 0, b"refused ", no);
-    lend::put(&mut room, at, b'\n');
-    let end = at + 1;
-    lend::give(&room[0..end], out)
-}
-
 // The status line at the front of out.
 pub fn status(c: &[u8], out: &mut [u8]) -> Wrote
     ensures { λ r. ⌜ Written 0 (done (statusLine (now (c .entry)))) (now (out .entry)) (now (out .exit)) r ⌝ }
 {
-    if !book::well_formed(c) {
-        return refused_line(wire::BAD_COLLECTION, out);
+    let no = book::judge(c);
+    if no != wire::DONE {
+        return refused_line(no, out);
     }
-    let state = c[3];
+    let state = book::state(c);
     if state == book::EMPTY {
         return lend::give(b"empty\n", out);
     }
     if state != book::COLLECTING {
         return lend::give(b"totals disagree\n", out);
     }
-    pages_line(c, c[12], out)
+    pages_line(c, book::total(c), out)
 }

@@ -17,7 +17,7 @@ use Rattle.wire.specs.Number.{digits, number, Bytes}
 use Rattle.wire.proofs.Cases.{lt-or-le}
 use Rattle.wire.proofs.Digits.{number-snoc}
 use Rattle.text.specs.Text.{characters, filling, letter, textOf}
-use Rattle.text.specs.Parts.{Narrow, formOf, refilled}
+use Rattle.text.specs.Private.{Narrow, formOf, refilled}
 use Rattle.text.specs.declared.write.Source.{Source}
 use Rattle.text.proofs.Counts.{narrow-bounds, filled, filling-lt}
 use Rattle.text.proofs.Flow.{Flow, flow-none, flow-in, flow-out, flow-digits}

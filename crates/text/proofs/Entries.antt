@@ -6,7 +6,7 @@ use native.Mathlib.Nat.{add-zero, add-suc, suc-add, zero-add, le-of-suc-le-suc}
 use native.Mathlib.Omega.{arith}
 use lib.ListN.{getD}
 use Rattle.text.specs.Text.{Form}
-use Rattle.text.specs.Parts.{formOf, sort, Sorted}
+use Rattle.text.specs.Private.{formOf, sort, Sorted}
 
 -- n entries, from that of the byte i on
 abbrev pub entries : Form → ℕ → ℕ → List ℕ

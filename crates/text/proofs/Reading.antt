@@ -16,7 +16,7 @@ use Rattle.wire.specs.Number.{Digits}
 use Rattle.wire.proofs.Digits.{length-digits, small-snoc}
 use Rattle.wire.specs.Every.{within}
 use Rattle.text.specs.Text.{skipped, kept, value, values, leftover}
-use Rattle.text.specs.Parts.{Narrow, formOf, fed, stepped, emitted, decoded, judged}
+use Rattle.text.specs.Private.{Narrow, formOf, fed, stepped, emitted, decoded, judged}
 use Rattle.text.specs.declared.read.Seen.{Seen}
 use Rattle.text.specs.declared.read.Step.the-variants.{On, Bad}
 use Rattle.text.specs.declared.read.Judged.the-variants as J

@@ -8,7 +8,7 @@ use borrow.Author.Tests.{ltb-true}
 use lib.Dec.{ltb}
 use Rattle.wire.specs.Answer.{choose}
 use Rattle.text.specs.Text.{base64, zbase32, skipped, value}
-use Rattle.text.specs.Parts.{Narrow, formOf, sort, fed, stepped}
+use Rattle.text.specs.Private.{Narrow, formOf, sort, fed, stepped}
 use Rattle.text.specs.declared.read.Seen.{Seen}
 use Rattle.text.specs.declared.read.Step.the-variants.{On, Bad}
 use Rattle.text.proofs.Forms.{Lawful, base64-lawful, zbase32-lawful}

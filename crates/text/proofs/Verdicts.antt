@@ -16,7 +16,7 @@ use Rattle.wire.proofs.Digits.{length-digits}
 use Rattle.wire.proofs.Writes.{written, no-room, denied}
 use Rattle.wire.specs.Every.{within}
 use Rattle.text.specs.Text.{values, leftover, readValues, readText}
-use Rattle.text.specs.Parts.{Narrow, formOf, decoded, judged}
+use Rattle.text.specs.Private.{Narrow, formOf, decoded, judged}
 use Rattle.text.specs.declared.read.Judged.{Judged}
 use Rattle.text.specs.declared.read.Judged.the-variants.{Good, Bad}
 use Rattle.text.proofs.Sorts.{form-width, form-lawful}

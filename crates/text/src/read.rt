@@ -7,7 +7,7 @@ ghost use Rattle.wire.specs.Every.{within};
 ghost use Rattle.wire.specs.Over.{over};
 ghost use Rattle.wire.specs.Writing.{Written};
 ghost use Rattle.text.specs.Text.{readText, values};
-ghost use Rattle.text.specs.Parts.{Narrow, formOf, Sorted, fed, stepped, judged, decoded, emitted};
+ghost use Rattle.text.specs.Private.{Narrow, formOf, Sorted, fed, stepped, judged, decoded, emitted};
 use super::pack;
 use super::tables;
 use wire::Wrote;

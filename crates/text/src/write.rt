@@ -6,7 +6,7 @@ ghost use Rattle.wire.specs.Over.{over};
 ghost use Rattle.wire.specs.Answer.{done};
 ghost use Rattle.wire.specs.Writing.{Written};
 ghost use Rattle.text.specs.Text.{textOf, characters};
-ghost use Rattle.text.specs.Parts.{Narrow, formOf, refilled};
+ghost use Rattle.text.specs.Private.{Narrow, formOf, refilled};
 use super::pack;
 use wire::Wrote;
 

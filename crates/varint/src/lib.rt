@@ -16,13 +16,15 @@ pub enum VarintRead {
     Refused { no: u8 },
 }
 
-// The number of a refusal, for a caller's `else`.
-pub fn varint_no(r: VarintRead) -> u8
-    ensures { λ n. ⌜ n ≡ numberOf (told r) ⌝ }
-{
-    match r {
-        VarintRead::Value { n: _, next: _ } => 0,
-        VarintRead::Refused { no } => no,
+impl VarintRead {
+    // The number of a refusal, for a caller's `else`.
+    pub fn no(self) -> u8
+        ensures { λ n. ⌜ n ≡ numberOf (told self) ⌝ }
+    {
+        match self {
+            VarintRead::Refused { no } => no,
+            _ => 0,
+        }
     }
 }
 

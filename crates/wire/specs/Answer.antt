@@ -18,11 +18,12 @@ pub data Answer (A : Type 0) : Type 0 where
 abbrev pub refused : {A : Type 0} → ℕ → Answer A
 refused e = refusedAt e 0
 
--- 01's number, which is 0 where the call is done, and its place
+-- 01's number, which is 0 where the call is done
 abbrev pub numberOf : {A : Type 0} → Answer A → ℕ
 numberOf (done a) = 0
 numberOf (refusedAt e place) = e
 
+-- For the reader: its place
 abbrev pub placeOf : {A : Type 0} → Answer A → ℕ
 placeOf (done a) = 0
 placeOf (refusedAt e place) = place

@@ -2,7 +2,11 @@
 // bytes stand.
 // The definitions that contracts cite are in specs/, their laws in proofs/.
 
-// Document 01, "Numbers a call may answer". Each refusal is its number, named here and nowhere else.
+// ---- document 01, "Numbers a call may answer", each named here and nowhere else
+
+// Of texts, frames and outputs.
+pub const DONE: u8 = 0;
+
 pub const BAD_CHARACTER: u8 = 1;
 
 pub const BAD_TEXT_LENGTH: u8 = 2;
@@ -25,6 +29,13 @@ pub const BAD_CHECKSUM: u8 = 10;
 
 pub const NO_ROOM: u8 = 11;
 
+// The answer of a call that writes into lent output: how many bytes it wrote, or the refusal, which wrote none.
+pub enum Wrote {
+    Done { len: usize },
+    Refused { no: u8 },
+}
+
+// Of collections.
 pub const OTHER_DOCUMENT: u8 = 12;
 
 pub const BAD_COLLECTION: u8 = 13;
@@ -37,6 +48,13 @@ pub const PAGE_MISSING: u8 = 16;
 
 pub const OTHER_CIPHERTEXT: u8 = 17;
 
+// Where bytes stand in a buffer: in the input, for what was read.
+pub struct Span {
+    pub start: usize,
+    pub len: usize,
+}
+
+// Of payloads, whose parts are such places.
 pub const NOT_CANONICAL: u8 = 18;
 
 pub const OUT_OF_RANGE: u8 = 19;
@@ -45,7 +63,7 @@ pub const BAD_PATH: u8 = 20;
 
 pub const BAD_CONTENTS: u8 = 21;
 
-// Document 01, "House sizes", and what follows from them: specs/Sizes.antt has a line on each.
+// ---- document 01, "House sizes", and what follows from them: specs/Sizes.antt has a line on each.
 pub const MOST_PAGES: usize = 96;
 
 pub const MOST_DATA: usize = 480;
@@ -69,15 +87,3 @@ pub const SUMMED_SIZE: usize = BLOCK_SIZE - 4;
 pub const COLLECTION_SIZE: usize = (1 + MOST_PAGES) * BLOCK_SIZE;
 
 pub const MOST_CIPHERTEXT: usize = MOST_PAGES * MOST_DATA;
-
-// The answer of a call that writes into lent output: how many bytes it wrote, or the refusal, which wrote none.
-pub enum Wrote {
-    Done { len: usize },
-    Refused { no: u8 },
-}
-
-// Where bytes stand in a buffer: in the input, for what was read.
-pub struct Span {
-    pub start: usize,
-    pub len: usize,
-}

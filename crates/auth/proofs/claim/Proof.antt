@@ -5,6 +5,24 @@ use borrow.Author.Needs.{needs}
 use Rattle.auth.proofs.claim.Statement.{statement}
 use Rattle.auth.proofs.claim.Tie as tie
 
+returns : tie.Need-returns
+unfolding claimAt
+returns c = search chain depth 40
+
+returns-2 : tie.Need-returns-2
+unfolding claimAt
+returns-2 c = search chain depth 40
+
+returns-3 : tie.Need-returns-3
+unfolding claimAt
+returns-3 c = search chain depth 40
+
+returns-4 : tie.Need-returns-4
+unfolding claimAt
+returns-4 c = search chain depth 40
+
+-- Found by search:
+
 slice-aggregate-string-field : tie.Need-slice-aggregate-string-field
 slice-aggregate-string-field c = search needs
 
@@ -17,12 +35,8 @@ enum-known-p c = search needs
 enum-told : tie.Need-enum-told
 enum-told c = search needs
 
-string-no-requires : tie.Need-string-no-requires
-string-no-requires c κs = search needs
-
-returns : tie.Need-returns
-unfolding claimAt
-returns c = search chain depth 40
+no-requires : tie.Need-no-requires
+no-requires c κs = search needs
 
 slice-aggregate-string-field-2 : tie.Need-slice-aggregate-string-field-2
 slice-aggregate-string-field-2 c = search needs
@@ -36,12 +50,8 @@ enum-known-g c = search needs
 enum-told-2 : tie.Need-enum-told-2
 enum-told-2 c = search needs
 
-string-no-requires-2 : tie.Need-string-no-requires-2
-string-no-requires-2 c κs = search needs
-
-returns-2 : tie.Need-returns-2
-unfolding claimAt
-returns-2 c = search chain depth 40
+no-requires-2 : tie.Need-no-requires-2
+no-requires-2 c κs = search needs
 
 slice-aggregate-string-field-3 : tie.Need-slice-aggregate-string-field-3
 slice-aggregate-string-field-3 c = search needs
@@ -55,16 +65,8 @@ enum-known-h c = search needs
 enum-told-3 : tie.Need-enum-told-3
 enum-told-3 c = search needs
 
-string-no-requires-3 : tie.Need-string-no-requires-3
-string-no-requires-3 c κs = search needs
-
-returns-3 : tie.Need-returns-3
-unfolding claimAt
-returns-3 c = search chain depth 40
-
-returns-4 : tie.Need-returns-4
-unfolding claimAt
-returns-4 c = search chain depth 40
+no-requires-3 : tie.Need-no-requires-3
+no-requires-3 c κs = search needs
 
 pub claim-spec : {M : Type 1} → statement M
 claim-spec =
@@ -74,18 +76,18 @@ claim-spec =
     string-field-requires
     enum-known-p
     enum-told
-    string-no-requires
+    no-requires
     returns
     slice-aggregate-string-field-2
     string-field-requires-2
     enum-known-g
     enum-told-2
-    string-no-requires-2
+    no-requires-2
     returns-2
     slice-aggregate-string-field-3
     string-field-requires-3
     enum-known-h
     enum-told-3
-    string-no-requires-3
+    no-requires-3
     returns-3
     returns-4)

@@ -5,52 +5,13 @@ use borrow.Author.Needs.{needs}
 use Rattle.auth.proofs.read.Statement.{statement}
 use Rattle.auth.proofs.read.Tie as tie
 
-one-byte-requires : tie.Need-one-byte-requires
-one-byte-requires c κs = search needs
-
-enum-known-m : tie.Need-enum-known-m
-enum-known-m c = search needs
-
-enum-told : tie.Need-enum-told
-enum-told c = search needs
-
-step-no-requires : tie.Need-step-no-requires
-step-no-requires c κs = search needs
-
 returns : tie.Need-returns
 unfolding authAt
 returns c = search claims depth 40
 
-claim-requires : tie.Need-claim-requires
-claim-requires c κs = search needs
-
-enum-known-c : tie.Need-enum-known-c
-enum-known-c c = search needs
-
-enum-told-2 : tie.Need-enum-told-2
-enum-told-2 c = search needs
-
-claim-no-requires : tie.Need-claim-no-requires
-claim-no-requires c κs = search needs
-
 returns-2 : tie.Need-returns-2
 unfolding authAt
 returns-2 c = search claims depth 40
-
-slice-aggregate-number-field : tie.Need-slice-aggregate-number-field
-slice-aggregate-number-field c = search needs
-
-number-field-requires : tie.Need-number-field-requires
-number-field-requires c κs = search needs
-
-enum-known-v : tie.Need-enum-known-v
-enum-known-v c = search needs
-
-enum-told-3 : tie.Need-enum-told-3
-enum-told-3 c = search needs
-
-number-no-requires : tie.Need-number-no-requires
-number-no-requires c κs = search needs
 
 returns-3 : tie.Need-returns-3
 unfolding authAt
@@ -64,6 +25,47 @@ returns-5 : tie.Need-returns-5
 unfolding authAt
 returns-5 c = search claims depth 40
 
+-- Found by search:
+
+one-byte-requires : tie.Need-one-byte-requires
+one-byte-requires c κs = search needs
+
+enum-known-m : tie.Need-enum-known-m
+enum-known-m c = search needs
+
+enum-told : tie.Need-enum-told
+enum-told c = search needs
+
+no-requires : tie.Need-no-requires
+no-requires c κs = search needs
+
+claim-requires : tie.Need-claim-requires
+claim-requires c κs = search needs
+
+enum-known-c : tie.Need-enum-known-c
+enum-known-c c = search needs
+
+enum-told-2 : tie.Need-enum-told-2
+enum-told-2 c = search needs
+
+no-requires-2 : tie.Need-no-requires-2
+no-requires-2 c κs = search needs
+
+slice-aggregate-number-field : tie.Need-slice-aggregate-number-field
+slice-aggregate-number-field c = search needs
+
+number-field-requires : tie.Need-number-field-requires
+number-field-requires c κs = search needs
+
+enum-known-v : tie.Need-enum-known-v
+enum-known-v c = search needs
+
+enum-told-3 : tie.Need-enum-told-3
+enum-told-3 c = search needs
+
+no-requires-3 : tie.Need-no-requires-3
+no-requires-3 c κs = search needs
+
 pub read-spec : {M : Type 1} → statement M
 read-spec =
     tie.close
@@ -71,18 +73,18 @@ read-spec =
     one-byte-requires
     enum-known-m
     enum-told
-    step-no-requires
+    no-requires
     returns
     claim-requires
     enum-known-c
     enum-told-2
-    claim-no-requires
+    no-requires-2
     returns-2
     slice-aggregate-number-field
     number-field-requires
     enum-known-v
     enum-told-3
-    number-no-requires
+    no-requires-3
     returns-3
     returns-4
     returns-5)

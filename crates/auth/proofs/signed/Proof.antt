@@ -16,11 +16,13 @@ returns-3 c = search signed-short
 signed-fitting-requires : tie.Need-signed-fitting-requires
 signed-fitting-requires c κs = search signed-fits
 
-same-length : tie.Need-same-length
-same-length c = search needs
-
 returns-4 : tie.Need-returns-4
 returns-4 c = search signed-done
+
+-- Found by search:
+
+same-length : tie.Need-same-length
+same-length c = search needs
 
 pub signed-spec : {M : Type 1} → statement M
 signed-spec =

@@ -19,11 +19,13 @@ returns-4 c = search auth-short
 write-fitting-requires : tie.Need-write-fitting-requires
 write-fitting-requires c κs = search auth-fits
 
-same-length : tie.Need-same-length
-same-length c = search needs
-
 returns-5 : tie.Need-returns-5
 returns-5 c = search auth-done
+
+-- Found by search:
+
+same-length : tie.Need-same-length
+same-length c = search needs
 
 pub write-spec : {M : Type 1} → statement M
 write-spec =

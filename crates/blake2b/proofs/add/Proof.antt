@@ -4,6 +4,12 @@ use Rattle.blake2b.specs.Blake2b.{add}
 use Rattle.blake2b.proofs.add.Statement.{statement}
 use Rattle.blake2b.proofs.add.Tie as tie
 
+returns : tie.Need-returns
+unfolding add
+returns c = cc
+
+-- Found by search:
+
 mul-plus : tie.Need-mul-plus
 mul-plus c = search needs
 
@@ -27,10 +33,6 @@ mul-v c = search needs
 
 element-write-v : tie.Need-element-write-v
 element-write-v c = search needs
-
-returns : tie.Need-returns
-unfolding add
-returns c = cc
 
 pub add-spec : {M : Type 1} → statement M
 add-spec =

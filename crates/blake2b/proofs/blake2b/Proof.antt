@@ -11,15 +11,6 @@ use Rattle.blake2b.proofs.Reading.{dd-blocks, whole}
 use Rattle.blake2b.proofs.blake2b.Statement.{statement}
 use Rattle.blake2b.proofs.blake2b.Tie as tie
 
-last-block-requires : tie.Need-last-block-requires
-last-block-requires c κs = search needs
-
-array-read-h : tie.Need-array-read-h
-array-read-h c = search needs
-
-array-write-h : tie.Need-array-write-h
-array-write-h c = search needs
-
 blocks-requires : tie.Need-blocks-requires
 blocks-requires c κs = omega (arith, dd-blocks (length (c .before .before .args .s .now)))
 
@@ -28,18 +19,6 @@ mul-tail c = omega (arith, dd-blocks (length (c .before .before .before .args .s
 
 tail-requires : tie.Need-tail-requires
 tail-requires c κs = omega (arith, dd-blocks (length (c .before .before .before .args .s .now)))
-
-slice-aggregate-words : tie.Need-slice-aggregate-words
-slice-aggregate-words c = search needs
-
-words-requires : tie.Need-words-requires
-words-requires c κs = search needs
-
-compress-requires : tie.Need-compress-requires
-compress-requires c κs = search needs
-
-digest-requires : tie.Need-digest-requires
-digest-requires c κs = search needs
 
 returns : tie.Need-returns
 unfolding iv start blake2b
@@ -52,6 +31,29 @@ returns c =
     (c .before .compress .ensures
     ∙ ap₂ (λ (h m : List ℕ). F h m (length s) true) (t .before .blocks2 .ensures) (c .before .before .before .words .ensures)
     ∙ whole s (t .tail .result) (n .result) (n .ensures) (t .tail .ensures))
+
+-- Found by search:
+
+last-block-requires : tie.Need-last-block-requires
+last-block-requires c κs = search needs
+
+array-read-h : tie.Need-array-read-h
+array-read-h c = search needs
+
+array-write-h : tie.Need-array-write-h
+array-write-h c = search needs
+
+slice-aggregate-words : tie.Need-slice-aggregate-words
+slice-aggregate-words c = search needs
+
+words-requires : tie.Need-words-requires
+words-requires c κs = search needs
+
+compress-requires : tie.Need-compress-requires
+compress-requires c κs = search needs
+
+digest-requires : tie.Need-digest-requires
+digest-requires c κs = search needs
 
 pub blake2b-spec : {M : Type 1} → statement M
 blake2b-spec =

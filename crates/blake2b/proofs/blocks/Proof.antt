@@ -18,6 +18,15 @@ loop-holds : tie.Need-loop-holds Inv-loop μ-loop
 unfolding blocks
 loop-holds c = (search needs, refl)
 
+loop-again : tie.Need-loop-again Inv-loop μ-loop
+unfolding blocks
+loop-again c = (omega arith, rw add-one (cc))
+
+returns : tie.Need-returns Inv-loop μ-loop
+returns c = let e : c .before .loop .k ≡ c .before .before .before .args .n = omega arith in cc
+
+-- Found by search:
+
 mul-words : tie.Need-mul-words Inv-loop μ-loop
 mul-words c = omega arith
 
@@ -38,15 +47,6 @@ add-k c = omega arith
 
 loop-less : tie.Need-loop-less Inv-loop μ-loop
 loop-less c = omega arith
-
-loop-again : tie.Need-loop-again Inv-loop μ-loop
-unfolding blocks
-loop-again c = (omega arith, rw add-one (cc))
-
-returns : tie.Need-returns Inv-loop μ-loop
-returns c =
-    let e : c .before .loop .k ≡ c .before .before .before .args .n = omega arith in
-    cc
 
 pub blocks-spec : {M : Type 1} → statement M
 blocks-spec =

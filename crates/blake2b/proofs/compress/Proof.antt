@@ -5,19 +5,21 @@ use Rattle.blake2b.specs.Blake2b.{sigma, F}
 use Rattle.blake2b.proofs.compress.Statement.{statement}
 use Rattle.blake2b.proofs.compress.Tie as tie
 
-begin-requires : tie.Need-begin-requires
-begin-requires c κs = search needs
-
 rounds-requires : tie.Need-rounds-requires
 unfolding sigma
 rounds-requires c κs = refl
 
-fold-requires : tie.Need-fold-requires
-fold-requires c κs = search needs
-
 returns : tie.Need-returns
 unfolding F
 returns c = cc
+
+-- Found by search:
+
+begin-requires : tie.Need-begin-requires
+begin-requires c κs = search needs
+
+fold-requires : tie.Need-fold-requires
+fold-requires c κs = search needs
 
 pub compress-spec : {M : Type 1} → statement M
 compress-spec = tie.close (tie.spec begin-requires rounds-requires fold-requires returns)

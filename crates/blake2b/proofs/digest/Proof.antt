@@ -22,6 +22,24 @@ loop-holds : tie.Need-loop-holds Inv-loop μ-loop
 unfolding vector
 loop-holds c = (search needs, refl, refl)
 
+loop-again : tie.Need-loop-again Inv-loop μ-loop
+unfolding byteOf
+loop-again c =
+    let l = c .before .loop in (
+      omega arith,
+      simp length-set (search needs),
+      vector-more (byteOf (c .before .before .args .t1)) (l .d) (l .i) _ (omega arith) (l .inv .2) refl,
+    )
+
+returns : tie.Need-returns Inv-loop μ-loop
+returns c =
+    let l = c .before .loop in
+    let a = c .before .before in
+    vector-whole (byteOf (a .args .t1)) (l .d) 32 (l .i) (l .inv .1) (omega arith) (l .inv .2)
+    ∙ sym (digest-vector (a .args .t1) (good-length (eInt w64) 8 (a .args .t1) _ (a .good .0)))
+
+-- Found by search:
+
 mul-d : tie.Need-mul-d Inv-loop μ-loop
 mul-d c = omega arith
 
@@ -45,22 +63,6 @@ add-i c = omega arith
 
 loop-less : tie.Need-loop-less Inv-loop μ-loop
 loop-less c = omega arith
-
-loop-again : tie.Need-loop-again Inv-loop μ-loop
-unfolding byteOf
-loop-again c =
-    let l = c .before .loop in (
-      omega arith,
-      simp length-set (search needs),
-      vector-more (byteOf (c .before .before .args .t1)) (l .d) (l .i) _ (omega arith) (l .inv .2) refl,
-    )
-
-returns : tie.Need-returns Inv-loop μ-loop
-returns c =
-    let l = c .before .loop in
-    let a = c .before .before in
-    vector-whole (byteOf (a .args .t1)) (l .d) 32 (l .i) (l .inv .1) (omega arith) (l .inv .2)
-    ∙ sym (digest-vector (a .args .t1) (good-length (eInt w64) 8 (a .args .t1) _ (a .good .0)))
 
 pub digest-spec : {M : Type 1} → statement M
 digest-spec =

@@ -24,6 +24,24 @@ loop-holds : tie.Need-loop-holds Inv-loop μ-loop
 unfolding vector
 loop-holds c = (search needs, refl, refl)
 
+loop-again : tie.Need-loop-again Inv-loop μ-loop
+loop-again c =
+    let p = c .before .before .before in
+    let a = p .before .args in (
+      omega arith,
+      simp length-set (search needs),
+      vector-more (xored (a .t1) (a .v .now)) (p .loop .x) (p .loop .i) _ (omega arith) (p .loop .inv .2) refl,
+    )
+
+returns : tie.Need-returns Inv-loop μ-loop
+unfolding fold
+returns c =
+    let l = c .before .loop in
+    let a = c .before .before .args in
+    vector-whole (xored (a .t1) (a .v .now)) (l .x) 8 (l .i) (l .inv .1) (omega arith) (l .inv .2)
+
+-- Found by search:
+
 mul-x : tie.Need-mul-x Inv-loop μ-loop
 mul-x c = omega arith
 
@@ -56,22 +74,6 @@ add-i c = omega arith
 
 loop-less : tie.Need-loop-less Inv-loop μ-loop
 loop-less c = omega arith
-
-loop-again : tie.Need-loop-again Inv-loop μ-loop
-loop-again c =
-    let p = c .before .before .before in
-    let a = p .before .args in (
-      omega arith,
-      simp length-set (search needs),
-      vector-more (xored (a .t1) (a .v .now)) (p .loop .x) (p .loop .i) _ (omega arith) (p .loop .inv .2) refl,
-    )
-
-returns : tie.Need-returns Inv-loop μ-loop
-unfolding fold
-returns c =
-    let l = c .before .loop in
-    let a = c .before .before .args in
-    vector-whole (xored (a .t1) (a .v .now)) (l .x) 8 (l .i) (l .inv .1) (omega arith) (l .inv .2)
 
 pub fold-spec : {M : Type 1} → statement M
 fold-spec =

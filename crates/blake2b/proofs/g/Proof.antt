@@ -6,6 +6,27 @@ use Rattle.blake2b.proofs.Mixing.{added, turned}
 use Rattle.blake2b.proofs.g.Statement.{statement}
 use Rattle.blake2b.proofs.g.Tie as tie
 
+returns : tie.Need-returns
+unfolding G
+returns c =
+    let c7 = c .before .before in
+    let c6 = c7 .before .before in
+    let c5 = c6 .before .before in
+    let c4 = c5 .before .before in
+    let c3 = c4 .before .before in
+    let c2 = c3 .before .before in
+    let c1 = c2 .before .before in
+    turned _ _ _ (c .turn4 .ensures)
+    (added _ _ _ (c7 .add4 .ensures)
+    (turned _ _ _ (c6 .turn3 .ensures)
+    (added _ _ _ (c5 .add3 .ensures)
+    (turned _ _ _ (c4 .turn2 .ensures)
+    (added _ _ _ (c3 .add2 .ensures)
+    (turned _ _ _ (c2 .turn .ensures)
+    (added _ _ _ (c1 .add .ensures) refl)))))))
+
+-- Found by search:
+
 add-requires : tie.Need-add-requires
 add-requires c κs = search needs
 
@@ -29,25 +50,6 @@ add-requires-4 c κs = search needs
 
 turn-requires-4 : tie.Need-turn-requires-4
 turn-requires-4 c κs = search needs
-
-returns : tie.Need-returns
-unfolding G
-returns c =
-    let c7 = c .before .before in
-    let c6 = c7 .before .before in
-    let c5 = c6 .before .before in
-    let c4 = c5 .before .before in
-    let c3 = c4 .before .before in
-    let c2 = c3 .before .before in
-    let c1 = c2 .before .before in
-    turned _ _ _ (c .turn4 .ensures)
-    (added _ _ _ (c7 .add4 .ensures)
-    (turned _ _ _ (c6 .turn3 .ensures)
-    (added _ _ _ (c5 .add3 .ensures)
-    (turned _ _ _ (c4 .turn2 .ensures)
-    (added _ _ _ (c3 .add2 .ensures)
-    (turned _ _ _ (c2 .turn .ensures)
-    (added _ _ _ (c1 .add .ensures) refl)))))))
 
 pub g-spec : {M : Type 1} → statement M
 g-spec =

@@ -9,6 +9,12 @@ use Rattle.blake2b.proofs.Vector.{as-vector}
 use Rattle.blake2b.proofs.join.Statement.{statement}
 use Rattle.blake2b.proofs.join.Tie as tie
 
+returns : tie.Need-returns
+unfolding vector
+returns c = sym (ap₂ _++_ (as-vector 8 (c .args .t1) (good-length (eInt w64) 8 (c .args .t1) _ (c .good .0))) (as-vector 8 (c .args .t2) (good-length (eInt w64) 8 (c .args .t2) _ (c .good .1 .0))))
+
+-- Found by search:
+
 array-read-t7 : tie.Need-array-read-t7
 array-read-t7 c = search needs
 
@@ -56,10 +62,6 @@ array-read-t49 c = search needs
 
 array-read-t52 : tie.Need-array-read-t52
 array-read-t52 c = search needs
-
-returns : tie.Need-returns
-unfolding vector
-returns c = sym (ap₂ _++_ (as-vector 8 (c .args .t1) (good-length (eInt w64) 8 (c .args .t1) _ (c .good .0))) (as-vector 8 (c .args .t2) (good-length (eInt w64) 8 (c .args .t2) _ (c .good .1 .0))))
 
 pub join-spec : {M : Type 1} → statement M
 join-spec =

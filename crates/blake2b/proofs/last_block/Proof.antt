@@ -10,12 +10,14 @@ returns : tie.Need-returns
 unfolding dd
 returns c = rw (eq-eqb (c .before .args .n) 0 (c .if1 .taken))
 
-sub-result : tie.Need-sub-result
-sub-result c = search needs
-
 returns-2 : tie.Need-returns-2
 unfolding dd
 returns-2 c = rw (ne-eqb (c .before .args .n) 0 (c .if1 .left)) (omega arith)
+
+-- Found by search:
+
+sub-result : tie.Need-sub-result
+sub-result c = search needs
 
 pub last-block-spec : {M : Type 1} → statement M
 last-block-spec = tie.close (tie.spec returns sub-result returns-2)

@@ -1,8 +1,13 @@
 -- `blake2b::le64` meets its contract. A word is the sum of its eight bytes, each at its weight. Assumes nothing.
 use borrow.Author.Needs.{needs}
-use Rattle.blake2b.proofs.Reading.{wordAt-sum}
+use Rattle.blake2b.proofs.Reading.{word-sum}
 use Rattle.blake2b.proofs.le64.Statement.{statement}
 use Rattle.blake2b.proofs.le64.Tie as tie
+
+returns : tie.Need-returns
+returns c = search word-sum
+
+-- Found by search:
 
 shared-slice-read-wide : tie.Need-shared-slice-read-wide
 shared-slice-read-wide c = search needs
@@ -114,11 +119,6 @@ mul-result-7 c = search needs
 
 add-result-7 : tie.Need-add-result-7
 add-result-7 c = search needs
-
-returns : tie.Need-returns
-returns c =
-    let a = c .before .before .before .before .before .before .before .before .before .before .before .before .before .before .before .before .before .args in
-    cc (wordAt-sum (a .b .now) (a .i) (c .before .before .before .before .before .before .before .before .before .before .before .before .before .before .before .before .before .pre))
 
 pub le64-spec : {M : Type 1} → statement M
 le64-spec =

@@ -4,12 +4,14 @@ use Rattle.bits.specs.Word.{plus}
 use Rattle.blake2b.proofs.plus.Statement.{statement}
 use Rattle.blake2b.proofs.plus.Tie as tie
 
-wrapping-add-u64-requires : tie.Need-wrapping-add-u64-requires
-wrapping-add-u64-requires c κs = search needs
-
 returns : tie.Need-returns
 unfolding plus
 returns c = c .wrapping-add-u64 .ensures
+
+-- Found by search:
+
+wrapping-add-u64-requires : tie.Need-wrapping-add-u64-requires
+wrapping-add-u64-requires c κs = search needs
 
 pub plus-spec : {M : Type 1} → statement M
 plus-spec = tie.close (tie.spec wrapping-add-u64-requires returns)

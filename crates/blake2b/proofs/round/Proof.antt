@@ -8,31 +8,12 @@ use Rattle.blake2b.proofs.Mixing.{mixed}
 use Rattle.blake2b.proofs.round.Statement.{statement}
 use Rattle.blake2b.proofs.round.Tie as tie
 
-step-requires : tie.Need-step-requires
-step-requires c κs = search needs
-
-step-requires-2 : tie.Need-step-requires-2
-step-requires-2 c κs = search needs
-
-step-requires-3 : tie.Need-step-requires-3
-step-requires-3 c κs = search needs
-
-step-requires-4 : tie.Need-step-requires-4
-step-requires-4 c κs = search needs
-
-step-requires-5 : tie.Need-step-requires-5
-step-requires-5 c κs = search needs
-
-step-requires-6 : tie.Need-step-requires-6
-step-requires-6 c κs = search needs
-
-step-requires-7 : tie.Need-step-requires-7
-step-requires-7 c κs = search needs
-
 -- the `requires` lies past the 128 records that `search` looks into, so it is named
 step-requires-8 : tie.Need-step-requires-8
 step-requires-8 c κs =
-    let p = c .before .before .before .before .before .before .before .before .before .before .before .before .before .before .before .pre in
+    let c5 = c .before .before .before .before .before in
+    let c2 = c5 .before .before .before .before .before .before in
+    let p = c2 .before .before .before .before .pre in
     search needs
 
 returns : tie.Need-returns
@@ -55,6 +36,29 @@ returns c =
     (mixed m (a .r) 4 2 6 10 14 (c3 .step3 .ensures)
     (mixed m (a .r) 2 1 5 9 13 (c2 .step2 .ensures)
     (mixed m (a .r) 0 0 4 8 12 (c1 .step .ensures) refl)))))))
+
+-- Found by search:
+
+step-requires : tie.Need-step-requires
+step-requires c κs = search needs
+
+step-requires-2 : tie.Need-step-requires-2
+step-requires-2 c κs = search needs
+
+step-requires-3 : tie.Need-step-requires-3
+step-requires-3 c κs = search needs
+
+step-requires-4 : tie.Need-step-requires-4
+step-requires-4 c κs = search needs
+
+step-requires-5 : tie.Need-step-requires-5
+step-requires-5 c κs = search needs
+
+step-requires-6 : tie.Need-step-requires-6
+step-requires-6 c κs = search needs
+
+step-requires-7 : tie.Need-step-requires-7
+step-requires-7 c κs = search needs
 
 pub round-spec : {M : Type 1} → statement M
 round-spec =

@@ -3,6 +3,11 @@ use borrow.Author.Needs.{needs}
 use Rattle.blake2b.proofs.step.Statement.{statement}
 use Rattle.blake2b.proofs.step.Tie as tie
 
+returns : tie.Need-returns
+returns c = cc
+
+-- Found by search:
+
 word-requires : tie.Need-word-requires
 word-requires c κs = search needs
 
@@ -14,9 +19,6 @@ word-requires-2 c κs = search needs
 
 g-requires : tie.Need-g-requires
 g-requires c κs = search needs
-
-returns : tie.Need-returns
-returns c = cc
 
 pub step-spec : {M : Type 1} → statement M
 step-spec = tie.close (tie.spec word-requires add-word word-requires-2 g-requires returns)

@@ -16,26 +16,8 @@ Inv-loop s at t₀ n j₀ t j = (j ≤ n) × (t ≡ take j (drop at s) ++ replic
 abbrev μ-loop : tie.MeasureT-loop
 μ-loop s at t₀ n j₀ t j = n - j
 
-sub-n : tie.Need-sub-n Inv-loop μ-loop
-sub-n c = omega arith
-
 loop-holds : tie.Need-loop-holds Inv-loop μ-loop
 loop-holds c = (search needs, refl)
-
-add-t : tie.Need-add-t Inv-loop μ-loop
-add-t c = omega arith
-
-shared-slice-read-t : tie.Need-shared-slice-read-t Inv-loop μ-loop
-shared-slice-read-t c = omega arith
-
-array-write-t : tie.Need-array-write-t Inv-loop μ-loop
-array-write-t c = omega arith
-
-add-j : tie.Need-add-j Inv-loop μ-loop
-add-j c = omega arith
-
-loop-less : tie.Need-loop-less Inv-loop μ-loop
-loop-less c = omega arith
 
 loop-again : tie.Need-loop-again Inv-loop μ-loop
 loop-again c =
@@ -56,6 +38,26 @@ returns c =
     let z : 128 - l .j ≡ a .at + 128 - length (a .s .now) = omega arith in
     let h : length r ≤ l .j = simp length-drop (omega arith) in
     l .inv .1 ∙ rw (z, take-all (l .j) r h)
+
+-- Found by search:
+
+sub-n : tie.Need-sub-n Inv-loop μ-loop
+sub-n c = omega arith
+
+add-t : tie.Need-add-t Inv-loop μ-loop
+add-t c = omega arith
+
+shared-slice-read-t : tie.Need-shared-slice-read-t Inv-loop μ-loop
+shared-slice-read-t c = omega arith
+
+array-write-t : tie.Need-array-write-t Inv-loop μ-loop
+array-write-t c = omega arith
+
+add-j : tie.Need-add-j Inv-loop μ-loop
+add-j c = omega arith
+
+loop-less : tie.Need-loop-less Inv-loop μ-loop
+loop-less c = omega arith
 
 pub tail-spec : {M : Type 1} → statement M
 tail-spec =

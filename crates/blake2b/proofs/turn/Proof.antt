@@ -4,6 +4,12 @@ use Rattle.blake2b.specs.Blake2b.{turn}
 use Rattle.blake2b.proofs.turn.Statement.{statement}
 use Rattle.blake2b.proofs.turn.Tie as tie
 
+returns : tie.Need-returns
+unfolding turn
+returns c = cc
+
+-- Found by search:
+
 mul-rotr : tie.Need-mul-rotr
 mul-rotr c = search needs
 
@@ -24,10 +30,6 @@ mul-v c = search needs
 
 element-write-v : tie.Need-element-write-v
 element-write-v c = search needs
-
-returns : tie.Need-returns
-unfolding turn
-returns c = cc
 
 pub turn-spec : {M : Type 1} → statement M
 turn-spec =

@@ -13,15 +13,6 @@ use Rattle.blake2b.proofs.word.Tie as tie
 small : (sg : List (List ℕ)) (r i : ℕ) → (sg ≡ sigma) × (r < 12) × (i < 16) → getD (getD sg r []) i 0 < 16
 small sg r i p = rw (p .0) (sigma-small r i (p .1) (p .2))
 
-mul-result : tie.Need-mul-result
-mul-result c = search needs
-
-index-1-result : tie.Need-index-1-result
-index-1-result c = search needs
-
-index-2-result : tie.Need-index-2-result
-index-2-result c = search needs
-
 cast-result : tie.Need-cast-result
 cast-result c =
     let a = c .before .args in
@@ -40,6 +31,17 @@ element-copy-out-result c =
 returns : tie.Need-returns
 unfolding word
 returns c = cc
+
+-- Found by search:
+
+mul-result : tie.Need-mul-result
+mul-result c = search needs
+
+index-1-result : tie.Need-index-1-result
+index-1-result c = search needs
+
+index-2-result : tie.Need-index-2-result
+index-2-result c = search needs
 
 pub word-spec : {M : Type 1} → statement M
 word-spec =

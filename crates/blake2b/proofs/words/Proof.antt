@@ -19,6 +19,24 @@ loop-holds : tie.Need-loop-holds Inv-loop μ-loop
 unfolding vector
 loop-holds c = (search needs, refl, refl)
 
+loop-again : tie.Need-loop-again Inv-loop μ-loop
+loop-again c =
+    let p = c .before .before in
+    let a = p .before .before .args in (
+      omega arith,
+      simp length-set (search needs),
+      vector-more (λ j. wordAt (a .b .now) (a .at + j * 8)) (p .loop .m) (p .loop .i) (c .le64 .result) (omega arith) (p .loop .inv .2) (c .le64 .ensures),
+    )
+
+returns : tie.Need-returns Inv-loop μ-loop
+unfolding words
+returns c =
+    let l = c .before .loop in
+    let a = c .before .before .before .args in
+    vector-whole (λ j. wordAt (a .b .now) (a .at + j * 8)) (l .m) 16 (l .i) (l .inv .1) (omega arith) (l .inv .2)
+
+-- Found by search:
+
 mul-le64 : tie.Need-mul-le64 Inv-loop μ-loop
 mul-le64 c = omega arith
 
@@ -39,22 +57,6 @@ add-i c = omega arith
 
 loop-less : tie.Need-loop-less Inv-loop μ-loop
 loop-less c = omega arith
-
-loop-again : tie.Need-loop-again Inv-loop μ-loop
-loop-again c =
-    let p = c .before .before in
-    let a = p .before .before .args in (
-      omega arith,
-      simp length-set (search needs),
-      vector-more (λ j. wordAt (a .b .now) (a .at + j * 8)) (p .loop .m) (p .loop .i) (c .le64 .result) (omega arith) (p .loop .inv .2) (c .le64 .ensures),
-    )
-
-returns : tie.Need-returns Inv-loop μ-loop
-unfolding words
-returns c =
-    let l = c .before .loop in
-    let a = c .before .before .before .args in
-    vector-whole (λ j. wordAt (a .b .now) (a .at + j * 8)) (l .m) 16 (l .i) (l .inv .1) (omega arith) (l .inv .2)
 
 pub words-spec : {M : Type 1} → statement M
 words-spec =

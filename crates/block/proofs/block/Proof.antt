@@ -5,6 +5,17 @@ use Rattle.block.proofs.Reading.{block-none, block-part}
 use Rattle.block.proofs.block.Statement.{statement}
 use Rattle.block.proofs.block.Tie as tie
 
+returns : tie.Need-returns
+returns c = block-none _ _ (omega arith)
+
+returns-2 : tie.Need-returns-2
+returns-2 c = block-none _ _ (omega arith)
+
+returns-3 : tie.Need-returns-3
+returns-3 c = block-part _ _ (omega arith)
+
+-- Found by search:
+
 sub-result : tie.Need-sub-result
 sub-result c = search needs
 
@@ -13,9 +24,6 @@ part-result-start c = search needs
 
 part-result-end : tie.Need-part-result-end
 part-result-end c = search needs
-
-returns : tie.Need-returns
-returns c = block-none _ _ (omega arith)
 
 sub-if2 : tie.Need-sub-if2
 sub-if2 c = search needs
@@ -29,9 +37,6 @@ part-result-start-2 c = search needs
 part-result-end-2 : tie.Need-part-result-end-2
 part-result-end-2 c = search needs
 
-returns-2 : tie.Need-returns-2
-returns-2 c = block-none _ _ (omega arith)
-
 add-end : tie.Need-add-end
 add-end c = search needs
 
@@ -43,9 +48,6 @@ part-result-start-3 c = search needs
 
 part-result-end-3 : tie.Need-part-result-end-3
 part-result-end-3 c = search needs
-
-returns-3 : tie.Need-returns-3
-returns-3 c = block-part _ _ (omega arith)
 
 pub block-spec : {M : Type 1} → statement M
 block-spec =

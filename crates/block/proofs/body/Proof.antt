@@ -4,6 +4,11 @@ use Rattle.block.proofs.Writing.{body-laid}
 use Rattle.block.proofs.body.Statement.{statement}
 use Rattle.block.proofs.body.Tie as tie
 
+returns : tie.Need-returns
+returns c = search body-laid
+
+-- Found by search:
+
 front-requires : tie.Need-front-requires
 front-requires c κs = search needs
 
@@ -39,9 +44,6 @@ clear-requires c κs = search needs
 
 same-length : tie.Need-same-length
 same-length c = search needs
-
-returns : tie.Need-returns
-returns c = search body-laid
 
 pub body-spec : {M : Type 1} → statement M
 body-spec =

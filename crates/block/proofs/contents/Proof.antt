@@ -4,6 +4,20 @@ use Rattle.block.proofs.Reading.{data-none, data-other, data-cut, data-
 use Rattle.block.proofs.contents.Statement.{statement}
 use Rattle.block.proofs.contents.Tie as tie
 
+returns : tie.Need-returns
+returns c = search data-none
+
+returns-2 : tie.Need-returns-2
+returns-2 c = search data-other
+
+returns-3 : tie.Need-returns-3
+returns-3 c = search data-cut
+
+returns-4 : tie.Need-returns-4
+returns-4 c = search data-whole
+
+-- Found by search:
+
 block-requires : tie.Need-block-requires
 block-requires c κs = search needs
 
@@ -16,9 +30,6 @@ part-result-start c = search needs
 part-result-end : tie.Need-part-result-end
 part-result-end c = search needs
 
-returns : tie.Need-returns
-returns c = search data-none
-
 shared-slice-read-if2 : tie.Need-shared-slice-read-if2
 shared-slice-read-if2 c = search needs
 
@@ -30,9 +41,6 @@ part-result-start-2 c = search needs
 
 part-result-end-2 : tie.Need-part-result-end-2
 part-result-end-2 c = search needs
-
-returns-2 : tie.Need-returns-2
-returns-2 c = search data-other
 
 shared-slice-read-wide : tie.Need-shared-slice-read-wide
 shared-slice-read-wide c = search needs
@@ -61,9 +69,6 @@ part-result-start-3 c = search needs
 part-result-end-3 : tie.Need-part-result-end-3
 part-result-end-3 c = search needs
 
-returns-3 : tie.Need-returns-3
-returns-3 c = search data-cut
-
 add-end : tie.Need-add-end
 add-end c = search needs
 
@@ -75,9 +80,6 @@ part-result-start-4 c = search needs
 
 part-result-end-4 : tie.Need-part-result-end-4
 part-result-end-4 c = search needs
-
-returns-4 : tie.Need-returns-4
-returns-4 c = search data-whole
 
 pub contents-spec : {M : Type 1} → statement M
 contents-spec =

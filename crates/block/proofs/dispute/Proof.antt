@@ -1,9 +1,15 @@
 -- `block::dispute` meets its contract: the block of state 2 with no data. Assumes nothing.
 use borrow.Author.Needs.{needs}
-use Rattle.state.specs.State.{dataOf}
+use Rattle.model.specs.Book.{dataOf}
 use Rattle.block.specs.Block.{stateOf, pageBlock, hasBlock, withPage}
 use Rattle.block.proofs.dispute.Statement.{statement}
 use Rattle.block.proofs.dispute.Tie as tie
+
+returns : tie.Need-returns
+unfolding withPage hasBlock pageBlock stateOf dataOf
+returns c = c .before .before .write .ensures
+
+-- Found by search:
 
 sub-write : tie.Need-sub-write
 sub-write c = search needs
@@ -19,10 +25,6 @@ write-requires c κs = search needs
 
 same-length : tie.Need-same-length
 same-length c = search needs
-
-returns : tie.Need-returns
-unfolding withPage hasBlock pageBlock stateOf dataOf
-returns c = c .before .before .write .ensures
 
 pub dispute-spec : {M : Type 1} → statement M
 dispute-spec =

@@ -4,6 +4,11 @@ use Rattle.block.proofs.Writing.{front-laid}
 use Rattle.block.proofs.front.Statement.{statement}
 use Rattle.block.proofs.front.Tie as tie
 
+returns : tie.Need-returns
+returns c = search front-laid
+
+-- Found by search:
+
 put-requires : tie.Need-put-requires
 put-requires c κs = search needs
 
@@ -27,9 +32,6 @@ put-requires-4 c κs = search needs
 
 same-length : tie.Need-same-length
 same-length c = search needs
-
-returns : tie.Need-returns
-returns c = search front-laid
 
 pub front-spec : {M : Type 1} → statement M
 front-spec =

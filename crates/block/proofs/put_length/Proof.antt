@@ -4,6 +4,11 @@ use Rattle.block.proofs.Writing.{length-laid}
 use Rattle.block.proofs.put_length.Statement.{statement}
 use Rattle.block.proofs.put_length.Tie as tie
 
+returns : tie.Need-returns
+returns c = search length-laid
+
+-- Found by search:
+
 cast-put : tie.Need-cast-put
 cast-put c = search needs
 
@@ -21,9 +26,6 @@ put-requires-2 c κs = search needs
 
 same-length : tie.Need-same-length
 same-length c = search needs
-
-returns : tie.Need-returns
-returns c = search length-laid
 
 pub put-length-spec : {M : Type 1} → statement M
 put-length-spec =

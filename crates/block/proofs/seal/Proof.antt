@@ -8,11 +8,16 @@ use Rattle.block.proofs.seal.Tie as tie
 returns : tie.Need-returns
 returns c = sum-out _ _ (omega arith)
 
-sub-if2 : tie.Need-sub-if2
-sub-if2 c = search needs
-
 returns-2 : tie.Need-returns-2
 returns-2 c = sum-out _ _ (omega arith)
+
+returns-3 : tie.Need-returns-3
+returns-3 c = search sum-laid
+
+-- Found by search:
+
+sub-if2 : tie.Need-sub-if2
+sub-if2 c = search needs
 
 add-end : tie.Need-add-end
 add-end c = search needs
@@ -37,9 +42,6 @@ copy-requires c κs = search needs
 
 same-length : tie.Need-same-length
 same-length c = search needs
-
-returns-3 : tie.Need-returns-3
-returns-3 c = search sum-laid
 
 pub seal-spec : {M : Type 1} → statement M
 seal-spec =

@@ -1,9 +1,15 @@
 -- `block::vacate` meets its contract: the block of state 0 with no data. Assumes nothing.
 use borrow.Author.Needs.{needs}
-use Rattle.state.specs.State.{dataOf}
+use Rattle.model.specs.Book.{dataOf}
 use Rattle.block.specs.Block.{stateOf, pageBlock, hasBlock, withPage}
 use Rattle.block.proofs.vacate.Statement.{statement}
 use Rattle.block.proofs.vacate.Tie as tie
+
+returns : tie.Need-returns
+unfolding withPage hasBlock pageBlock stateOf dataOf
+returns c = c .before .before .write .ensures
+
+-- Found by search:
 
 sub-write : tie.Need-sub-write
 sub-write c = search needs
@@ -19,10 +25,6 @@ write-requires c κs = search needs
 
 same-length : tie.Need-same-length
 same-length c = search needs
-
-returns : tie.Need-returns
-unfolding withPage hasBlock pageBlock stateOf dataOf
-returns c = c .before .before .write .ensures
 
 pub vacate-spec : {M : Type 1} → statement M
 vacate-spec =

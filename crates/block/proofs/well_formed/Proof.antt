@@ -7,6 +7,11 @@ use Rattle.block.proofs.well_formed.Tie as tie
 returns : tie.Need-returns
 returns c = search ok-id
 
+returns-2 : tie.Need-returns-2
+returns-2 c = search ok-again
+
+-- Found by search:
+
 slice-aggregate-write : tie.Need-slice-aggregate-write
 slice-aggregate-write c = search needs
 
@@ -27,9 +32,6 @@ slice-aggregate-equal c = search needs
 
 equal-requires : tie.Need-equal-requires
 equal-requires c κs = search needs
-
-returns-2 : tie.Need-returns-2
-returns-2 c = search ok-again
 
 pub well-formed-spec : {M : Type 1} → statement M
 well-formed-spec =

@@ -13,11 +13,16 @@ returns-2 c = search write-long
 returns-3 : tie.Need-returns-3
 returns-3 c = search write-short
 
-sub-if4 : tie.Need-sub-if4
-sub-if4 c = search needs
-
 returns-4 : tie.Need-returns-4
 returns-4 c = search write-far
+
+returns-5 : tie.Need-returns-5
+returns-5 c = search write-done
+
+-- Found by search:
+
+sub-if4 : tie.Need-sub-if4
+sub-if4 c = search needs
 
 body-requires : tie.Need-body-requires
 body-requires c κs = search needs
@@ -27,9 +32,6 @@ seal-requires c κs = search needs
 
 same-length : tie.Need-same-length
 same-length c = search needs
-
-returns-5 : tie.Need-returns-5
-returns-5 c = search write-done
 
 pub write-spec : {M : Type 1} → statement M
 write-spec =

@@ -21,6 +21,22 @@ returns-2 c = search blank-short
 loop-holds : tie.Need-loop-holds Inv-loop μ-loop
 loop-holds c = blank-none _ _
 
+loop-again : tie.Need-loop-again Inv-loop μ-loop
+loop-again c =
+    let v = c .before .before in
+    let turn = v .before .before .before .before in
+    let l = turn .loop in
+    let a = turn .before .before .before .before .before .args in
+    blank-on (a .id .now) (a .c .now) (omega arith) (l .i) (v .before .place .result) (l .c) _ (omega arith) (omega arith) (v .before .place .ensures) (l .inv) (v .vacate .ensures)
+
+same-length : tie.Need-same-length Inv-loop μ-loop
+same-length c = c .before .loop .inv .size
+
+returns-3 : tie.Need-returns-3 Inv-loop μ-loop
+returns-3 c = search blank-end
+
+-- Found by search:
+
 place-requires : tie.Need-place-requires Inv-loop μ-loop
 place-requires c κs = search needs
 
@@ -32,19 +48,6 @@ add-i c = search needs
 
 loop-less : tie.Need-loop-less Inv-loop μ-loop
 loop-less c = omega arith
-
-loop-again : tie.Need-loop-again Inv-loop μ-loop
-loop-again c =
-    let v = c .before .before in
-    let l = v .before .before .before .before .loop in
-    let a = v .before .before .before .before .before .before .before .before .before .args in
-    blank-on (a .id .now) (a .c .now) (omega arith) (l .i) (v .before .place .result) (l .c) _ (omega arith) (omega arith) (v .before .place .ensures) (l .inv) (v .vacate .ensures)
-
-same-length : tie.Need-same-length Inv-loop μ-loop
-same-length c = c .before .loop .inv .size
-
-returns-3 : tie.Need-returns-3 Inv-loop μ-loop
-returns-3 c = search blank-end
 
 pub blank-spec : {M : Type 1} → statement M
 blank-spec =

@@ -4,6 +4,11 @@ use Rattle.book.proofs.Heads.{head-laid}
 use Rattle.book.proofs.head_body.Statement.{statement}
 use Rattle.book.proofs.head_body.Tie as tie
 
+returns : tie.Need-returns
+returns c = search head-laid
+
+-- Found by search:
+
 slice-aggregate-copy : tie.Need-slice-aggregate-copy
 slice-aggregate-copy c = search needs
 
@@ -24,9 +29,6 @@ clear-requires c κs = search needs
 
 same-length : tie.Need-same-length
 same-length c = search needs
-
-returns : tie.Need-returns
-returns c = search head-laid
 
 pub head-body-spec : {M : Type 1} → statement M
 head-body-spec =

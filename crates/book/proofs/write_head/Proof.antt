@@ -10,6 +10,11 @@ returns c = search head-id
 returns-2 : tie.Need-returns-2
 returns-2 c = search head-short
 
+returns-3 : tie.Need-returns-3
+returns-3 c = search head-done
+
+-- Found by search:
+
 head-body-requires : tie.Need-head-body-requires
 head-body-requires c κs = search needs
 
@@ -18,9 +23,6 @@ seal-requires c κs = search needs
 
 same-length : tie.Need-same-length
 same-length c = search needs
-
-returns-3 : tie.Need-returns-3
-returns-3 c = search head-done
 
 pub write-head-spec : {M : Type 1} → statement M
 write-head-spec =

@@ -10,6 +10,11 @@ returns c = search open-id
 returns-2 : tie.Need-returns-2
 returns-2 c = search open-size
 
+returns-3 : tie.Need-returns-3
+returns-3 c = search open-done
+
+-- Found by search:
+
 write-head-requires : tie.Need-write-head-requires
 write-head-requires c κs = search needs
 
@@ -18,9 +23,6 @@ blank-requires c κs = search needs
 
 same-length : tie.Need-same-length
 same-length c = search needs
-
-returns-3 : tie.Need-returns-3
-returns-3 c = search open-done
 
 pub open-spec : {M : Type 1} → statement M
 open-spec =

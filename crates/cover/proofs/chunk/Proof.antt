@@ -6,18 +6,6 @@ use borrow.Author.Needs.{needs}
 use Rattle.cover.proofs.chunk.Statement.{statement}
 use Rattle.cover.proofs.chunk.Tie as tie
 
-read-requires : tie.Need-read-requires
-read-requires c κs = search needs
-
-enum-known-r : tie.Need-enum-known-r
-enum-known-r c = search needs
-
-enum-told : tie.Need-enum-told
-enum-told c = search needs
-
-varint-no-requires : tie.Need-varint-no-requires
-varint-no-requires c κs = search needs
-
 returns : tie.Need-returns
 unfolding chunkAt
 returns c = search chain depth 24
@@ -31,6 +19,20 @@ returns-2 c = let k = c .before .before .before .before .before .shared-slice-kn
 returns-3 : tie.Need-returns-3
 returns-3 c = let k = c .before .before .before .before .before .shared-slice-known in chunk-stands _ _ _ _ _ (λ i. k .given i .fits) (c .before .before .before .before .read .ensures) (c .before .before .r .given .1) (omega arith)
 
+-- Found by search:
+
+read-requires : tie.Need-read-requires
+read-requires c κs = search needs
+
+enum-known-r : tie.Need-enum-known-r
+enum-known-r c = search needs
+
+enum-told : tie.Need-enum-told
+enum-told c = search needs
+
+no-requires : tie.Need-no-requires
+no-requires c κs = search needs
+
 pub chunk-spec : {M : Type 1} → statement M
 chunk-spec =
     tie.close
@@ -38,7 +40,7 @@ chunk-spec =
     read-requires
     enum-known-r
     enum-told
-    varint-no-requires
+    no-requires
     returns
     sub-if1
     returns-2

@@ -4,6 +4,11 @@ use Rattle.crc.proofs.Bytes.{four-bytes}
 use Rattle.crc.proofs.big_endian.Statement.{statement}
 use Rattle.crc.proofs.big_endian.Tie as tie
 
+returns : tie.Need-returns
+returns c = search four-bytes
+
+-- Found by search:
+
 cast-t3 : tie.Need-cast-t3
 cast-t3 c = search needs
 
@@ -15,9 +20,6 @@ cast-t9 c = search needs
 
 cast-t11 : tie.Need-cast-t11
 cast-t11 c = search needs
-
-returns : tie.Need-returns
-returns c = search four-bytes
 
 pub big-endian-spec : {M : Type 1} → statement M
 big-endian-spec = tie.close (tie.spec cast-t3 cast-t6 cast-t9 cast-t11 returns)

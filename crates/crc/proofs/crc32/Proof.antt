@@ -33,29 +33,17 @@ loop-holds : tie.Need-loop-holds Inv-loop μ-loop Inv-loop2 μ-loop2
 unfolding bit bits
 loop-holds c = (eights _ refl, search needs, refl)
 
-sub-loop : tie.Need-sub-loop Inv-loop μ-loop Inv-loop2 μ-loop2
-sub-loop c = omega arith
-
 shared-slice-read-word :
     tie.Need-shared-slice-read-word Inv-loop μ-loop Inv-loop2 μ-loop2
 shared-slice-read-word c = omega arith
-
-add-word : tie.Need-add-word Inv-loop μ-loop Inv-loop2 μ-loop2
-add-word c = omega arith
 
 shared-slice-read-word-2 :
     tie.Need-shared-slice-read-word-2 Inv-loop μ-loop Inv-loop2 μ-loop2
 shared-slice-read-word-2 c = omega arith
 
-add-word-2 : tie.Need-add-word-2 Inv-loop μ-loop Inv-loop2 μ-loop2
-add-word-2 c = omega arith
-
 shared-slice-read-word-3 :
     tie.Need-shared-slice-read-word-3 Inv-loop μ-loop Inv-loop2 μ-loop2
 shared-slice-read-word-3 c = omega arith
-
-add-word-3 : tie.Need-add-word-3 Inv-loop μ-loop Inv-loop2 μ-loop2
-add-word-3 c = omega arith
 
 shared-slice-read-word-4 :
     tie.Need-shared-slice-read-word-4 Inv-loop μ-loop Inv-loop2 μ-loop2
@@ -63,12 +51,6 @@ shared-slice-read-word-4 c = omega arith
 
 word-requires : tie.Need-word-requires Inv-loop μ-loop Inv-loop2 μ-loop2
 word-requires c κs = c .before .before .before .before .before .loop .inv .0
-
-add-i : tie.Need-add-i Inv-loop μ-loop Inv-loop2 μ-loop2
-add-i c = omega arith
-
-loop-less : tie.Need-loop-less Inv-loop μ-loop Inv-loop2 μ-loop2
-loop-less c = omega arith
 
 loop-again : tie.Need-loop-again Inv-loop μ-loop Inv-loop2 μ-loop2
 loop-again c =
@@ -88,12 +70,6 @@ cast-eight-bits c = omega (arith, c .shared-slice-known6 .given (c .before .befo
 eight-bits-requires : tie.Need-eight-bits-requires Inv-loop μ-loop Inv-loop2 μ-loop2
 eight-bits-requires c κs = c .before .before .loop2 .inv .0
 
-add-i-2 : tie.Need-add-i-2 Inv-loop μ-loop Inv-loop2 μ-loop2
-add-i-2 c = omega arith
-
-loop2-less : tie.Need-loop2-less Inv-loop μ-loop Inv-loop2 μ-loop2
-loop2-less c = omega arith
-
 loop2-again : tie.Need-loop2-again Inv-loop μ-loop Inv-loop2 μ-loop2
 unfolding byte
 loop2-again c =
@@ -105,6 +81,32 @@ unfolding crc32
 returns c =
     let l = c .before .loop2 in
     ap (λ (x : ℕ). bitXor x 0xFFFFFFFF) (sym (done _ (l .i) (l .c) (omega arith)) ∙ l .inv .2)
+
+-- Found by search:
+
+sub-loop : tie.Need-sub-loop Inv-loop μ-loop Inv-loop2 μ-loop2
+sub-loop c = omega arith
+
+add-word : tie.Need-add-word Inv-loop μ-loop Inv-loop2 μ-loop2
+add-word c = omega arith
+
+add-word-2 : tie.Need-add-word-2 Inv-loop μ-loop Inv-loop2 μ-loop2
+add-word-2 c = omega arith
+
+add-word-3 : tie.Need-add-word-3 Inv-loop μ-loop Inv-loop2 μ-loop2
+add-word-3 c = omega arith
+
+add-i : tie.Need-add-i Inv-loop μ-loop Inv-loop2 μ-loop2
+add-i c = omega arith
+
+loop-less : tie.Need-loop-less Inv-loop μ-loop Inv-loop2 μ-loop2
+loop-less c = omega arith
+
+add-i-2 : tie.Need-add-i-2 Inv-loop μ-loop Inv-loop2 μ-loop2
+add-i-2 c = omega arith
+
+loop2-less : tie.Need-loop2-less Inv-loop μ-loop Inv-loop2 μ-loop2
+loop2-less c = omega arith
 
 pub crc32-spec : {M : Type 1} → statement M
 crc32-spec =

@@ -7,6 +7,13 @@ use Rattle.crc.proofs.Moves.{low-byte}
 use Rattle.crc.proofs.eight_bits.Statement.{statement}
 use Rattle.crc.proofs.eight_bits.Tie as tie
 
+returns : tie.Need-returns
+returns c =
+    let x = c .before .args .c in
+    ap (bitXor (x / 2 ^ 8)) (c .before .pre (x % 256) (omega arith)) ∙ sym (low-byte x)
+
+-- Found by search:
+
 cast-result : tie.Need-cast-result
 cast-result c = omega arith
 
@@ -15,11 +22,6 @@ mul-result c = omega arith
 
 element-copy-out-result : tie.Need-element-copy-out-result
 element-copy-out-result c = omega arith
-
-returns : tie.Need-returns
-returns c =
-    let x = c .before .args .c in
-    ap (bitXor (x / 2 ^ 8)) (c .before .pre (x % 256) (omega arith)) ∙ sym (low-byte x)
 
 pub eight-bits-spec : {M : Type 1} → statement M
 eight-bits-spec = tie.close (tie.spec cast-result mul-result element-copy-out-result returns)

@@ -13,6 +13,8 @@ Inv-loop input held shelf₀ lens₀ out₀ waiting₀ at₀ end₀ shelf lens o
 abbrev μ-loop : tie.MeasureT-loop
 μ-loop input held shelf₀ lens₀ out₀ waiting₀ at₀ end₀ shelf lens out waiting at end = length input - end
 
+-- Found by search:
+
 returns : tie.Need-returns Inv-loop μ-loop
 returns c = search needs
 

@@ -10,6 +10,8 @@ Inv-loop input₀ shelf₀ lens₀ out₀ held₀ turns₀ input shelf lens out 
 abbrev μ-loop : tie.MeasureT-loop
 μ-loop input₀ shelf₀ lens₀ out₀ held₀ turns₀ input shelf lens out held turns = turns
 
+-- Found by search:
+
 loop-holds : tie.Need-loop-holds Inv-loop μ-loop
 loop-holds c = search needs
 

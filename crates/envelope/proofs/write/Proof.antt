@@ -4,14 +4,19 @@ use borrow.Author.Needs.{needs}
 use Rattle.envelope.proofs.write.Statement.{statement}
 use Rattle.envelope.proofs.write.Tie as tie
 
+returns : tie.Need-returns
+returns c = write-faulty _ _ _ _ (c .before .before .before .parts .ensures) _ _ (c .before .j .given .1)
+
+returns-2 : tie.Need-returns-2
+returns-2 c = search write-fine
+
+-- Found by search:
+
 parts-requires : tie.Need-parts-requires
 parts-requires c κs = search needs
 
 enum-known-j : tie.Need-enum-known-j
 enum-known-j c = search needs
-
-returns : tie.Need-returns
-returns c = write-faulty _ _ _ _ (c .before .before .before .parts .ensures) _ _ (c .before .j .given .1)
 
 enum-told : tie.Need-enum-told
 enum-told c = search needs
@@ -24,9 +29,6 @@ unplaced-requires c κs = search needs
 
 same-length : tie.Need-same-length
 same-length c = search needs
-
-returns-2 : tie.Need-returns-2
-returns-2 c = write-fine _ _ _ _ (c .before .before .before .before .before .before .before .parts .ensures) (c .before .before .before .before .before .enum-told .given .1) _ (c .before .before .before .lay .result) _ (c .before .before .before .lay .ensures) (c .unplaced .ensures)
 
 pub write-spec : {M : Type 1} → statement M
 write-spec =

@@ -6,6 +6,30 @@ use Rattle.frame.proofs.Chain.{go-kind, no-kind, go-numbers, no-numbers
 use Rattle.frame.proofs.read.Statement.{statement}
 use Rattle.frame.proofs.read.Tie as tie
 
+returns : tie.Need-returns
+unfolding frameOf
+returns c = search no-kind
+
+returns-2 : tie.Need-returns-2
+unfolding frameOf
+returns-2 c = search (go-kind, no-numbers)
+
+data-and-sum-requires : tie.Need-data-and-sum-requires
+data-and-sum-requires c κs =
+    let halfway = c .before .before .before .before .before .before in
+    let b = halfway .before .before in
+    numbers-within (b .before .args .s .now) _ _ _ _ _ _ (λ i. b .shared-slice-known .given i .fits) (c .before .before .before .numbers .ensures) (c .before .r2 .given .1)
+
+returns-3 : tie.Need-returns-3
+unfolding frameOf
+returns-3 c = search (go-kind, go-numbers, no-step)
+
+returns-4 : tie.Need-returns-4
+unfolding frameOf
+returns-4 c = search (go-kind, go-numbers, go-data)
+
+-- Found by search:
+
 start-requires : tie.Need-start-requires
 start-requires c κs = search needs
 
@@ -15,12 +39,8 @@ enum-known-r1 c = search needs
 enum-told : tie.Need-enum-told
 enum-told c = search needs
 
-kind-no-requires : tie.Need-kind-no-requires
-kind-no-requires c κs = search needs
-
-returns : tie.Need-returns
-unfolding frameOf
-returns c = search no-kind
+no-requires : tie.Need-no-requires
+no-requires c κs = search needs
 
 numbers-requires : tie.Need-numbers-requires
 numbers-requires c κs = search needs
@@ -31,17 +51,8 @@ enum-known-r2 c = search needs
 enum-told-2 : tie.Need-enum-told-2
 enum-told-2 c = search needs
 
-numbers-no-requires : tie.Need-numbers-no-requires
-numbers-no-requires c κs = search needs
-
-returns-2 : tie.Need-returns-2
-unfolding frameOf
-returns-2 c = search (go-kind, no-numbers)
-
-data-and-sum-requires : tie.Need-data-and-sum-requires
-data-and-sum-requires c κs =
-    let b = c .before .before .before .before .before .before .before .before in
-    numbers-within (b .before .args .s .now) _ _ _ _ _ _ (λ i. b .shared-slice-known .given i .fits) (c .before .before .before .numbers .ensures) (c .before .r2 .given .1)
+no-requires-2 : tie.Need-no-requires-2
+no-requires-2 c κs = search needs
 
 enum-told-3 : tie.Need-enum-told-3
 enum-told-3 c = search needs
@@ -49,19 +60,11 @@ enum-told-3 c = search needs
 enum-told-4 : tie.Need-enum-told-4
 enum-told-4 c = search needs
 
-step-no-requires : tie.Need-step-no-requires
-step-no-requires c κs = search needs
-
-returns-3 : tie.Need-returns-3
-unfolding frameOf
-returns-3 c = search (go-kind, go-numbers, no-step)
+no-requires-3 : tie.Need-no-requires-3
+no-requires-3 c κs = search needs
 
 judge-requires : tie.Need-judge-requires
 judge-requires c κs = search needs
-
-returns-4 : tie.Need-returns-4
-unfolding frameOf
-returns-4 c = search (go-kind, go-numbers, go-data)
 
 pub read-spec : {M : Type 1} → statement M
 read-spec =
@@ -70,17 +73,17 @@ read-spec =
     start-requires
     enum-known-r1
     enum-told
-    kind-no-requires
+    no-requires
     returns
     numbers-requires
     enum-known-r2
     enum-told-2
-    numbers-no-requires
+    no-requires-2
     returns-2
     data-and-sum-requires
     enum-told-3
     enum-told-4
-    step-no-requires
+    no-requires-3
     returns-3
     judge-requires
     returns-4)

@@ -6,6 +6,18 @@ use Rattle.wire.proofs.Overs.{over-out}
 use Rattle.lend.proofs.copy.Statement.{statement}
 use Rattle.lend.proofs.copy.Tie as tie
 
+returns-2 : tie.Need-returns-2
+returns-2 c =
+    let a = c .before .before .before .before .args in
+    sym (over-out (a .at) (a .src .now) (a .out .now) (omega arith))
+
+returns-3 : tie.Need-returns-3
+returns-3 c =
+    let a = c .before .before .before .args in
+    sym (over-out (a .at) (a .src .now) (a .out .now) (omega arith))
+
+-- Found by search:
+
 sub-if2 : tie.Need-sub-if2
 sub-if2 c = search needs
 
@@ -17,16 +29,6 @@ same-length c = search needs
 
 returns : tie.Need-returns
 returns c = search needs
-
-returns-2 : tie.Need-returns-2
-returns-2 c =
-    let a = c .before .before .before .before .args in
-    sym (over-out (a .at) (a .src .now) (a .out .now) (omega arith))
-
-returns-3 : tie.Need-returns-3
-returns-3 c =
-    let a = c .before .before .before .args in
-    sym (over-out (a .at) (a .src .now) (a .out .now) (omega arith))
 
 pub copy-spec : {M : Type 1} → statement M
 copy-spec =

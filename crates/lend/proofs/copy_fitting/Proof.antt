@@ -19,6 +19,24 @@ abbrev μ-loop : tie.MeasureT-loop
 loop-holds : tie.Need-loop-holds Inv-loop μ-loop
 loop-holds c = (omega arith, refl, sym (over-none _ _))
 
+loop-again : tie.Need-loop-again Inv-loop μ-loop
+loop-again c =
+    let l = c .before .before .loop in
+    let a = c .before .before .before .args in (
+      omega arith,
+      simp length-set (l .inv .1),
+      ap (λ (r : List ℕ). set r (a .at + l .i) (getD (a .src .now) (l .i) 0)) (l .inv .2)
+          ∙ over-next (a .at) (a .src .now) (a .out .now) (l .i) (omega arith) (omega arith),
+    )
+
+returns : tie.Need-returns Inv-loop μ-loop
+returns c =
+    let l = c .before .loop in
+    let a = c .before .before .args in
+    l .inv .2 ∙ ap (λ (r : List ℕ). over (a .at) r (a .out .now)) (take-all (l .i) (a .src .now) (omega arith))
+
+-- Found by search:
+
 shared-slice-read-out : tie.Need-shared-slice-read-out Inv-loop μ-loop
 shared-slice-read-out c = omega arith
 
@@ -34,24 +52,8 @@ add-i c = omega arith
 loop-less : tie.Need-loop-less Inv-loop μ-loop
 loop-less c = omega arith
 
-loop-again : tie.Need-loop-again Inv-loop μ-loop
-loop-again c =
-    let l = c .before .before .loop in
-    let a = c .before .before .before .args in (
-      omega arith,
-      simp length-set (l .inv .1),
-      ap (λ (r : List ℕ). set r (a .at + l .i) (getD (a .src .now) (l .i) 0)) (l .inv .2)
-          ∙ over-next (a .at) (a .src .now) (a .out .now) (l .i) (omega arith) (omega arith),
-    )
-
 same-length : tie.Need-same-length Inv-loop μ-loop
 same-length c = omega arith
-
-returns : tie.Need-returns Inv-loop μ-loop
-returns c =
-    let l = c .before .loop in
-    let a = c .before .before .args in
-    l .inv .2 ∙ ap (λ (r : List ℕ). over (a .at) r (a .out .now)) (take-all (l .i) (a .src .now) (omega arith))
 
 pub copy-fitting-spec : {M : Type 1} → statement M
 copy-fitting-spec =

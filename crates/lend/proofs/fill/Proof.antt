@@ -7,6 +7,18 @@ use Rattle.wire.proofs.Overs.{over-out}
 use Rattle.lend.proofs.fill.Statement.{statement}
 use Rattle.lend.proofs.fill.Tie as tie
 
+returns-2 : tie.Need-returns-2
+returns-2 c =
+    let a = c .before .before .before .args in
+    sym (over-out (a .at) (replicate (a .n) (a .b)) (a .out .now) (omega (arith, length-replicate (a .n) (a .b))))
+
+returns-3 : tie.Need-returns-3
+returns-3 c =
+    let a = c .before .before .args in
+    sym (over-out (a .at) (replicate (a .n) (a .b)) (a .out .now) (omega (arith, length-replicate (a .n) (a .b))))
+
+-- Found by search:
+
 sub-if2 : tie.Need-sub-if2
 sub-if2 c = search needs
 
@@ -18,16 +30,6 @@ same-length c = search needs
 
 returns : tie.Need-returns
 returns c = search needs
-
-returns-2 : tie.Need-returns-2
-returns-2 c =
-    let a = c .before .before .before .args in
-    sym (over-out (a .at) (replicate (a .n) (a .b)) (a .out .now) (omega (arith, length-replicate (a .n) (a .b))))
-
-returns-3 : tie.Need-returns-3
-returns-3 c =
-    let a = c .before .before .args in
-    sym (over-out (a .at) (replicate (a .n) (a .b)) (a .out .now) (omega (arith, length-replicate (a .n) (a .b))))
 
 pub fill-spec : {M : Type 1} → statement M
 fill-spec =

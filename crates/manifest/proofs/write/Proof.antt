@@ -8,12 +8,6 @@ use Rattle.manifest.proofs.write.Tie as tie
 whole-requires : tie.Need-whole-requires
 whole-requires c κs = simp length-map at (c .before .before .good .1 .0 .1 .1 .1 .0 .1 .0 .1)
 
-enum-known-j : tie.Need-enum-known-j
-enum-known-j c = search needs
-
-enum-told : tie.Need-enum-told
-enum-told c = search needs
-
 returns : tie.Need-returns
 returns c = search write-refused
 
@@ -25,11 +19,19 @@ whole-requires-2 c κs =
     let d = c .before .before .before in
     write-ready _ _ _ (d .before .before .whole .ensures) _ (d .j .given .1) _ (c .before .if1 .left) (simp length-map at (d .before .before .before .before .before .good .1 .0 .1 .1 .1 .0 .1 .0 .1))
 
-same-length : tie.Need-same-length
-same-length c = search needs
-
 returns-3 : tie.Need-returns-3
 returns-3 c = search write-done
+
+-- Found by search:
+
+enum-known-j : tie.Need-enum-known-j
+enum-known-j c = search needs
+
+enum-told : tie.Need-enum-told
+enum-told c = search needs
+
+same-length : tie.Need-same-length
+same-length c = search needs
 
 pub write-spec : {M : Type 1} → statement M
 write-spec =

@@ -16,12 +16,6 @@ returns c = search chain
 slice-aggregate-equal : tie.Need-slice-aggregate-equal
 slice-aggregate-equal c = let a = c .before .before .before .before .args in sym (length-take-le (length (a .magic .now)) (a .s .now) (omega arith))
 
-equal-requires : tie.Need-equal-requires
-equal-requires c κs = search needs
-
-version-requires : tie.Need-version-requires
-version-requires c κs = search needs
-
 returns-2 : tie.Need-returns-2
 unfolding markOf
 returns-2 c = search chain
@@ -29,6 +23,14 @@ returns-2 c = search chain
 returns-3 : tie.Need-returns-3
 unfolding markOf
 returns-3 c = search chain
+
+-- Found by search:
+
+equal-requires : tie.Need-equal-requires
+equal-requires c κs = search needs
+
+version-requires : tie.Need-version-requires
+version-requires c κs = search needs
 
 pub read-spec : {M : Type 1} → statement M
 read-spec =

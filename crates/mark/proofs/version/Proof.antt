@@ -5,18 +5,6 @@ use borrow.Author.Needs.{needs}
 use Rattle.mark.proofs.version.Statement.{statement}
 use Rattle.mark.proofs.version.Tie as tie
 
-read-requires : tie.Need-read-requires
-read-requires c κs = search needs
-
-enum-known-r : tie.Need-enum-known-r
-enum-known-r c = search needs
-
-enum-told : tie.Need-enum-told
-enum-told c = search needs
-
-varint-no-requires : tie.Need-varint-no-requires
-varint-no-requires c κs = search needs
-
 returns : tie.Need-returns
 unfolding versionAt
 returns c = search chain depth 24
@@ -29,7 +17,21 @@ returns-3 : tie.Need-returns-3
 unfolding versionAt
 returns-3 c = search chain depth 24
 
+-- Found by search:
+
+read-requires : tie.Need-read-requires
+read-requires c κs = search needs
+
+enum-known-r : tie.Need-enum-known-r
+enum-known-r c = search needs
+
+enum-told : tie.Need-enum-told
+enum-told c = search needs
+
+no-requires : tie.Need-no-requires
+no-requires c κs = search needs
+
 pub version-spec : {M : Type 1} → statement M
 version-spec =
     tie.close
-    (tie.spec read-requires enum-known-r enum-told varint-no-requires returns returns-2 returns-3)
+    (tie.spec read-requires enum-known-r enum-told no-requires returns returns-2 returns-3)

@@ -16,24 +16,26 @@ returns-3 c =
     let a = c .before .before .before .args in
     large-size (a .n) (a .size) (omega (arith, c .before .before .if1 .left)) (omega (arith, c .before .if2 .left)) (c .if3 .taken)
 
+returns-4 : tie.Need-returns-4
+returns-4 c =
+    let a = c .before .before .before .before .args in
+    too-many (a .n) (a .size) (omega (arith, c .before .before .before .if1 .left)) (omega (arith, c .before .before .if2 .left)) (c .before .if3 .left) (c .if4 .taken)
+
+returns-5 : tie.Need-returns-5
+returns-5 c =
+    let a = c .before .before .before .before .args in
+    few-enough (a .n) (a .size) (omega (arith, c .before .before .before .if1 .left)) (omega (arith, c .before .before .if2 .left)) (c .before .if3 .left) (c .if4 .left)
+
+-- Found by search:
+
 sub-before-last : tie.Need-sub-before-last
 sub-before-last c = search needs
 
 div-before-last : tie.Need-div-before-last
 div-before-last c = search needs
 
-returns-4 : tie.Need-returns-4
-returns-4 c =
-    let a = c .before .before .before .before .args in
-    too-many (a .n) (a .size) (omega (arith, c .before .before .before .if1 .left)) (omega (arith, c .before .before .if2 .left)) (c .before .if3 .left) (c .if4 .taken)
-
 add-t5 : tie.Need-add-t5
 add-t5 c = search needs
-
-returns-5 : tie.Need-returns-5
-returns-5 c =
-    let a = c .before .before .before .before .args in
-    few-enough (a .n) (a .size) (omega (arith, c .before .before .before .if1 .left)) (omega (arith, c .before .before .if2 .left)) (c .before .if3 .left) (c .if4 .left)
 
 pub count-spec : {M : Type 1} → statement M
 count-spec =

@@ -6,6 +6,17 @@ use Rattle.page.proofs.Typing.{made-fits, typed-done, typed-refused}
 use Rattle.page.proofs.write_base64.Statement.{statement}
 use Rattle.page.proofs.write_base64.Tie as tie
 
+returns : tie.Need-returns
+returns c = search (typed-refused, needs)
+
+part-base64-write-end : tie.Need-part-base64-write-end
+part-base64-write-end c = search made-fits
+
+returns-2 : tie.Need-returns-2
+returns-2 c = search typed-done
+
+-- Found by search:
+
 slice-aggregate-write : tie.Need-slice-aggregate-write
 slice-aggregate-write c = search needs
 
@@ -18,26 +29,17 @@ enum-known-made c = search needs
 enum-told : tie.Need-enum-told
 enum-told c = search needs
 
-returns : tie.Need-returns
-returns c = typed-refused _ _ _ _ _ _ _ (c .before .before .before .write .ensures) (c .enum-told .given .1) (omega arith) base64 _
-
 sub-base64-write : tie.Need-sub-base64-write
 sub-base64-write c = search needs
 
 part-base64-write-start : tie.Need-part-base64-write-start
 part-base64-write-start c = search needs
 
-part-base64-write-end : tie.Need-part-base64-write-end
-part-base64-write-end c = search made-fits
-
 base64-write-requires : tie.Need-base64-write-requires
 base64-write-requires c κs = search needs
 
 same-length : tie.Need-same-length
 same-length c = search needs
-
-returns-2 : tie.Need-returns-2
-returns-2 c = search typed-done
 
 pub write-base64-spec : {M : Type 1} → statement M
 write-base64-spec =

@@ -6,6 +6,17 @@ use Rattle.page.proofs.Typing.{made-fits, typed-done, typed-refused}
 use Rattle.page.proofs.write_zbase32.Statement.{statement}
 use Rattle.page.proofs.write_zbase32.Tie as tie
 
+returns : tie.Need-returns
+returns c = search (typed-refused, needs)
+
+part-zbase32-write-end : tie.Need-part-zbase32-write-end
+part-zbase32-write-end c = search made-fits
+
+returns-2 : tie.Need-returns-2
+returns-2 c = search typed-done
+
+-- Found by search:
+
 slice-aggregate-write : tie.Need-slice-aggregate-write
 slice-aggregate-write c = search needs
 
@@ -18,26 +29,17 @@ enum-known-made c = search needs
 enum-told : tie.Need-enum-told
 enum-told c = search needs
 
-returns : tie.Need-returns
-returns c = typed-refused _ _ _ _ _ _ _ (c .before .before .before .write .ensures) (c .enum-told .given .1) (omega arith) zbase32 _
-
 sub-zbase32-write : tie.Need-sub-zbase32-write
 sub-zbase32-write c = search needs
 
 part-zbase32-write-start : tie.Need-part-zbase32-write-start
 part-zbase32-write-start c = search needs
 
-part-zbase32-write-end : tie.Need-part-zbase32-write-end
-part-zbase32-write-end c = search made-fits
-
 zbase32-write-requires : tie.Need-zbase32-write-requires
 zbase32-write-requires c κs = search needs
 
 same-length : tie.Need-same-length
 same-length c = search needs
-
-returns-2 : tie.Need-returns-2
-returns-2 c = search typed-done
 
 pub write-zbase32-spec : {M : Type 1} → statement M
 write-zbase32-spec =

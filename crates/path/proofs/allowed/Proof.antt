@@ -8,23 +8,25 @@ use Rattle.path.proofs.allowed.Tie as tie
 returns : tie.Need-returns
 returns c = too-long _ (omega arith)
 
-plain-requires : tie.Need-plain-requires
-plain-requires c κs = search needs
-
 returns-2 : tie.Need-returns-2
 returns-2 c = search not-plain
-
-are-names-requires : tie.Need-are-names-requires
-are-names-requires c κs = search needs
 
 returns-3 : tie.Need-returns-3
 returns-3 c = search not-names
 
-lacks-requires : tie.Need-lacks-requires
-lacks-requires c κs = search needs
-
 returns-4 : tie.Need-returns-4
 returns-4 c = search zero-decides
+
+-- Found by search:
+
+plain-requires : tie.Need-plain-requires
+plain-requires c κs = search needs
+
+are-names-requires : tie.Need-are-names-requires
+are-names-requires c κs = search needs
+
+lacks-requires : tie.Need-lacks-requires
+lacks-requires c κs = search needs
 
 pub allowed-spec : {M : Type 1} → statement M
 allowed-spec =

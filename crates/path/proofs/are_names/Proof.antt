@@ -21,6 +21,27 @@ abbrev μ-loop : tie.MeasureT-loop
 loop-holds : tie.Need-loop-holds Inv-loop μ-loop
 loop-holds c = (omega arith, omega arith, refl)
 
+returns : tie.Need-returns Inv-loop μ-loop
+returns c = search names-stop
+
+loop-again : tie.Need-loop-again Inv-loop μ-loop
+loop-again c =
+    let l = c .before .before .before .loop in
+    let s = c .before .before .before .before .before .args .s .now in
+    ⊎-elim
+    (λ w. (
+      omega arith,
+      omega arith,
+      rw (w .4) (names-on s (l .from) (l .to) _ (l .inv .2) (omega arith) (w .2 .result) (w .2 .ensures) (w .0 .taken) (w .3 .left)),
+    ))
+    (λ w. (omega arith, omega arith, rw (w .1) (names-within s (l .from) (l .to) _ (l .inv .2) (l .inv .0) (omega arith) (w .0 .left))))
+    (c .if1 .came)
+
+returns-2 : tie.Need-returns-2 Inv-loop μ-loop
+returns-2 c = search names-last
+
+-- Found by search:
+
 shared-slice-read-if1 : tie.Need-shared-slice-read-if1 Inv-loop μ-loop
 shared-slice-read-if1 c = omega arith
 
@@ -36,9 +57,6 @@ part-is-name-end c = omega arith
 is-name-requires : tie.Need-is-name-requires Inv-loop μ-loop
 is-name-requires c κs = search needs
 
-returns : tie.Need-returns Inv-loop μ-loop
-returns c = search names-stop
-
 add-from : tie.Need-add-from Inv-loop μ-loop
 add-from c = omega arith
 
@@ -47,19 +65,6 @@ add-to c = omega arith
 
 loop-less : tie.Need-loop-less Inv-loop μ-loop
 loop-less c = omega arith
-
-loop-again : tie.Need-loop-again Inv-loop μ-loop
-loop-again c =
-    let l = c .before .before .before .loop in
-    let s = c .before .before .before .before .before .args .s .now in
-    ⊎-elim
-    (λ w. (
-      omega arith,
-      omega arith,
-      rw (w .4) (names-on s (l .from) (l .to) _ (l .inv .2) (omega arith) (w .2 .result) (w .2 .ensures) (w .0 .taken) (w .3 .left)),
-    ))
-    (λ w. (omega arith, omega arith, rw (w .1) (names-within s (l .from) (l .to) _ (l .inv .2) (l .inv .0) (omega arith) (w .0 .left))))
-    (c .if1 .came)
 
 sub-is-name-2 : tie.Need-sub-is-name-2 Inv-loop μ-loop
 sub-is-name-2 c = omega arith
@@ -72,9 +77,6 @@ part-is-name-end-2 c = omega arith
 
 is-name-requires-2 : tie.Need-is-name-requires-2 Inv-loop μ-loop
 is-name-requires-2 c κs = search needs
-
-returns-2 : tie.Need-returns-2 Inv-loop μ-loop
-returns-2 c = search names-last
 
 pub are-names-spec : {M : Type 1} → statement M
 are-names-spec =

@@ -1,5 +1,5 @@
 -- `path::ascends` meets its contract. The loop's invariant: what is left decides. Assumes nothing.
-use mathlib.Core.Path.{_≡_, refl, sym, _∙_}
+use mathlib.Core.Path.{_≡_, refl}
 use Prim.Native.Nat.{_≤_, _-_}
 use native.Mathlib.Omega.{arith}
 use lib.ListN.{length, drop}
@@ -18,9 +18,18 @@ loop-holds : tie.Need-loop-holds Inv-loop μ-loop
 loop-holds c = (omega arith, omega arith, refl)
 
 returns : tie.Need-returns Inv-loop μ-loop
-returns c =
-    let l = c .before .before .loop in
-    sym (l .inv .2 ∙ below-outlasts _ _ (l .i) (omega arith) (omega arith))
+returns c = search below-outlasts
+
+returns-2 : tie.Need-returns-2 Inv-loop μ-loop
+returns-2 c = search below-stop
+
+loop-again : tie.Need-loop-again Inv-loop μ-loop
+loop-again c = (omega arith, omega arith, search below-step)
+
+returns-3 : tie.Need-returns-3 Inv-loop μ-loop
+returns-3 c = search below-end
+
+-- Found by search:
 
 shared-slice-read-if2 : tie.Need-shared-slice-read-if2 Inv-loop μ-loop
 shared-slice-read-if2 c = omega arith
@@ -34,26 +43,11 @@ shared-slice-read-result c = omega arith
 shared-slice-read-result-2 : tie.Need-shared-slice-read-result-2 Inv-loop μ-loop
 shared-slice-read-result-2 c = omega arith
 
-returns-2 : tie.Need-returns-2 Inv-loop μ-loop
-returns-2 c =
-    let l = c .before .before .before .before .before .before .before .loop in
-    sym (l .inv .2 ∙ below-stop _ _ (l .i) (omega arith) (omega arith) (c .before .before .if2 .taken))
-
 add-i : tie.Need-add-i Inv-loop μ-loop
 add-i c = omega arith
 
 loop-less : tie.Need-loop-less Inv-loop μ-loop
 loop-less c = omega arith
-
-loop-again : tie.Need-loop-again Inv-loop μ-loop
-loop-again c =
-    let l = c .before .before .before .before .before .loop in
-    (omega arith, omega arith, l .inv .2 ∙ below-step _ _ (l .i) (omega arith) (omega arith) (c .if2 .left))
-
-returns-3 : tie.Need-returns-3 Inv-loop μ-loop
-returns-3 c =
-    let l = c .before .loop in
-    sym (l .inv .2 ∙ below-end _ _ (l .i) (omega arith))
 
 pub ascends-spec : {M : Type 1} → statement M
 ascends-spec =

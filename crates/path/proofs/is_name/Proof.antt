@@ -12,20 +12,22 @@ returns c = sym (name-long _ (omega arith))
 returns-2 : tie.Need-returns-2
 returns-2 c = sym (name-empty _ (omega arith))
 
-shared-slice-read-if3 : tie.Need-shared-slice-read-if3
-shared-slice-read-if3 c = search needs
-
 returns-3 : tie.Need-returns-3
 returns-3 c = sym (name-other _ (omega arith) (c .if3 .taken))
 
 returns-4 : tie.Need-returns-4
 returns-4 c = sym (name-dot _ (omega arith) (c .before .if3 .left))
 
-shared-slice-read-result : tie.Need-shared-slice-read-result
-shared-slice-read-result c = search needs
-
 returns-5 : tie.Need-returns-5
 returns-5 c = sym (name-two _ (omega arith) (c .before .before .if3 .left))
+
+-- Found by search:
+
+shared-slice-read-if3 : tie.Need-shared-slice-read-if3
+shared-slice-read-if3 c = search needs
+
+shared-slice-read-result : tie.Need-shared-slice-read-result
+shared-slice-read-result c = search needs
 
 pub is-name-spec : {M : Type 1} → statement M
 is-name-spec =

@@ -23,6 +23,16 @@ returns-4 : tie.Need-returns-4
 unfolding twoBytes leads follows joined outside
 returns-4 c = search tests
 
+returns-5 : tie.Need-returns-5
+unfolding joined outside
+returns-5 c = too-short _ _ (omega arith)
+
+returns-6 : tie.Need-returns-6
+unfolding twoBytes leads follows joined outside
+returns-6 c = search tests
+
+-- Found by search:
+
 cast-c : tie.Need-cast-c
 cast-c c = search needs
 
@@ -34,14 +44,6 @@ cast-c-2 c = search needs
 
 add-c : tie.Need-add-c
 add-c c = search needs
-
-returns-5 : tie.Need-returns-5
-unfolding joined outside
-returns-5 c = too-short _ _ (omega arith)
-
-returns-6 : tie.Need-returns-6
-unfolding twoBytes leads follows joined outside
-returns-6 c = search tests
 
 pub two-bytes-spec : {M : Type 1} → statement M
 two-bytes-spec =

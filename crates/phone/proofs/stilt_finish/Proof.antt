@@ -4,14 +4,22 @@ use Rattle.phone.proofs.Packing.{finish-most, finish-done, finish-refus
 use Rattle.phone.proofs.stilt_finish.Statement.{statement}
 use Rattle.phone.proofs.stilt_finish.Tie as tie
 
+pack-requires : tie.Need-pack-requires
+pack-requires c κs = search finish-most
+
+returns : tie.Need-returns
+returns c = (search finish-done, search needs)
+
+returns-2 : tie.Need-returns-2
+returns-2 c = (search finish-refused, search needs)
+
+-- Found by search:
+
 finish-requires : tie.Need-finish-requires
 finish-requires c κs = search needs
 
 enum-known-r : tie.Need-enum-known-r
 enum-known-r c = search needs
-
-pack-requires : tie.Need-pack-requires
-pack-requires c κs = search finish-most
 
 enum-known-r-2 : tie.Need-enum-known-r-2
 enum-known-r-2 c = search needs
@@ -22,14 +30,8 @@ pack-requires-2 c κs = search needs
 same-length : tie.Need-same-length
 same-length c = search needs
 
-returns : tie.Need-returns
-returns c = (search finish-done, search needs)
-
 same-length-2 : tie.Need-same-length-2
 same-length-2 c = search needs
-
-returns-2 : tie.Need-returns-2
-returns-2 c = (search finish-refused, search needs)
 
 pub stilt-finish-spec : {M : Type 1} → statement M
 stilt-finish-spec =

@@ -4,6 +4,14 @@ use Rattle.phone.proofs.Packing.{offer-done, offer-refused}
 use Rattle.phone.proofs.stilt_offer.Statement.{statement}
 use Rattle.phone.proofs.stilt_offer.Tie as tie
 
+returns : tie.Need-returns
+returns c = (search offer-done, search needs)
+
+returns-2 : tie.Need-returns-2
+returns-2 c = (search offer-refused, search needs)
+
+-- Found by search:
+
 offer-requires : tie.Need-offer-requires
 offer-requires c κs = search needs
 
@@ -22,14 +30,8 @@ pack-requires-2 c κs = search needs
 same-length : tie.Need-same-length
 same-length c = search needs
 
-returns : tie.Need-returns
-returns c = (search offer-done, search needs)
-
 same-length-2 : tie.Need-same-length-2
 same-length-2 c = search needs
-
-returns-2 : tie.Need-returns-2
-returns-2 c = (search offer-refused, search needs)
 
 pub stilt-offer-spec : {M : Type 1} → statement M
 stilt-offer-spec =

@@ -11,6 +11,8 @@ Inv-loop input₀ line₀ c₀ s₀ turns₀ input line c s turns = (length inpu
 abbrev μ-loop : tie.MeasureT-loop
 μ-loop input₀ line₀ c₀ s₀ turns₀ input line c s turns = turns
 
+-- Found by search:
+
 loop-holds : tie.Need-loop-holds Inv-loop μ-loop
 loop-holds c = search needs
 

@@ -12,6 +12,8 @@ Inv-loop input₀ len₀ input len = (len ≤ length input) × (length input ≡
 abbrev μ-loop : tie.MeasureT-loop
 μ-loop input₀ len₀ input len = length input₀ - len
 
+-- Found by search:
+
 loop-holds : tie.Need-loop-holds Inv-loop μ-loop
 loop-holds c = search needs
 

@@ -3,7 +3,7 @@ use mathlib.Core.Path.{_≡_}
 use denote.Ref.{now}
 use Rattle.wire.specs.Answer.{bytesAfter, answerOf}
 use Rattle.collection.specs.Collection.{opening, offering, joining}
-use Rattle.closing.specs.Finish as finishing
+use Rattle.finish.specs.Finish as finishing
 use Rattle.phone.specs.Packed.{packedAnswer, packedKind, packedFinish}
 use Rattle.phone.proofs.stilt_open as phone-stilt-open
 use Rattle.phone.proofs.stilt_offer as phone-stilt-offer

@@ -5,15 +5,17 @@ use Rattle.bits.specs.Word.{plus}
 use Rattle.sha256.proofs.add.Statement.{statement}
 use Rattle.sha256.proofs.add.Tie as tie
 
+returns : tie.Need-returns
+unfolding plus
+returns c = refl
+
+-- Found by search:
+
 add-result : tie.Need-add-result
 add-result c = search needs
 
 cast-result : tie.Need-cast-result
 cast-result c = search needs
-
-returns : tie.Need-returns
-unfolding plus
-returns c = refl
 
 pub add-spec : {M : Type 1} → statement M
 add-spec = tie.close (tie.spec add-result cast-result returns)

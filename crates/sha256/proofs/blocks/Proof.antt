@@ -19,6 +19,15 @@ loop-holds : tie.Need-loop-holds Inv-loop μ-loop
 unfolding blocks
 loop-holds c = (search needs, refl)
 
+loop-again : tie.Need-loop-again Inv-loop μ-loop
+unfolding blocks block
+loop-again c = (omega arith, rw add-one (cc))
+
+returns : tie.Need-returns Inv-loop μ-loop
+returns c = let e : c .before .loop .i ≡ c .before .before .before .args .n = omega arith in cc
+
+-- Found by search:
+
 mul-compress : tie.Need-mul-compress Inv-loop μ-loop
 mul-compress c = omega arith
 
@@ -30,15 +39,6 @@ add-i c = omega arith
 
 loop-less : tie.Need-loop-less Inv-loop μ-loop
 loop-less c = omega arith
-
-loop-again : tie.Need-loop-again Inv-loop μ-loop
-unfolding blocks block
-loop-again c = (omega arith, rw add-one (cc))
-
-returns : tie.Need-returns Inv-loop μ-loop
-returns c =
-    let e : c .before .loop .i ≡ c .before .before .before .args .n = omega arith in
-    cc
 
 pub blocks-spec : {M : Type 1} → statement M
 blocks-spec =

@@ -6,19 +6,21 @@ use Rattle.sha256.specs.Sha.{compress}
 use Rattle.sha256.proofs.compress.Statement.{statement}
 use Rattle.sha256.proofs.compress.Tie as tie
 
-schedule-requires : tie.Need-schedule-requires
-schedule-requires c κs = search needs
-
 rounds-requires : tie.Need-rounds-requires
 unfolding kWords
 rounds-requires c κs = refl
 
-sum-requires : tie.Need-sum-requires
-sum-requires c κs = search needs
-
 returns : tie.Need-returns
 unfolding compress
 returns c = cc
+
+-- Found by search:
+
+schedule-requires : tie.Need-schedule-requires
+schedule-requires c κs = search needs
+
+sum-requires : tie.Need-sum-requires
+sum-requires c κs = search needs
 
 pub compress-spec : {M : Type 1} → statement M
 compress-spec = tie.close (tie.spec schedule-requires rounds-requires sum-requires returns)

@@ -20,6 +20,25 @@ abbrev μ-loop : tie.MeasureT-loop
 loop-holds : tie.Need-loop-holds Inv-loop μ-loop
 loop-holds c = (search needs, refl, refl)
 
+loop-again : tie.Need-loop-again Inv-loop μ-loop
+unfolding listed
+loop-again c =
+    let l = c .before .before .before .loop in
+    let w = listed (c .before .before .before .before .args .s) in
+    let h : l .i < length (joined w) = rw (joined-length w) (omega arith) in
+    let e : c .byte .result ≡ getD (joined w) (l .i) 0 = cc (joined-at w (l .i) (omega arith)) in
+    (omega arith, simp length-set (search needs), copy-more (l .d) (joined w) (l .i) (c .byte .result) (omega arith) h e (l .inv .2))
+
+returns : tie.Need-returns Inv-loop μ-loop
+unfolding listed
+returns c =
+    let l = c .before .loop in
+    let w = listed (c .before .before .args .s) in
+    let e : l .i ≡ 32 = omega arith in
+    sym (take-all 32 (l .d) (omega arith)) ∙ rw e at (l .inv .2) ∙ take-all 32 (joined w) (rw (joined-length w) (omega arith))
+
+-- Found by search:
+
 mul-long : tie.Need-mul-long Inv-loop μ-loop
 mul-long c = omega arith
 
@@ -43,23 +62,6 @@ add-i c = omega arith
 
 loop-less : tie.Need-loop-less Inv-loop μ-loop
 loop-less c = omega arith
-
-loop-again : tie.Need-loop-again Inv-loop μ-loop
-unfolding listed
-loop-again c =
-    let l = c .before .before .before .loop in
-    let w = listed (c .before .before .before .before .args .s) in
-    let h : l .i < length (joined w) = rw (joined-length w) (omega arith) in
-    let e : c .byte .result ≡ getD (joined w) (l .i) 0 = cc (joined-at w (l .i) (omega arith)) in
-    (omega arith, simp length-set (search needs), copy-more (l .d) (joined w) (l .i) (c .byte .result) (omega arith) h e (l .inv .2))
-
-returns : tie.Need-returns Inv-loop μ-loop
-unfolding listed
-returns c =
-    let l = c .before .loop in
-    let w = listed (c .before .before .args .s) in
-    let e : l .i ≡ 32 = omega arith in
-    sym (take-all 32 (l .d) (omega arith)) ∙ rw e at (l .inv .2) ∙ take-all 32 (joined w) (rw (joined-length w) (omega arith))
 
 pub digest-spec : {M : Type 1} → statement M
 digest-spec =

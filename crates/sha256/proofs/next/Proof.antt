@@ -4,6 +4,12 @@ use Rattle.sha256.specs.Sha.{next}
 use Rattle.sha256.proofs.next.Statement.{statement}
 use Rattle.sha256.proofs.next.Tie as tie
 
+returns : tie.Need-returns
+unfolding next
+returns c = cc
+
+-- Found by search:
+
 sub-small1 : tie.Need-sub-small1
 sub-small1 c = search needs
 
@@ -54,10 +60,6 @@ element-copy-out-add-2 c = search needs
 
 add-requires-3 : tie.Need-add-requires-3
 add-requires-3 c κs = search needs
-
-returns : tie.Need-returns
-unfolding next
-returns c = cc
 
 pub next-spec : {M : Type 1} → statement M
 next-spec =

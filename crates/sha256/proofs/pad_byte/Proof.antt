@@ -9,9 +9,6 @@ use Rattle.sha256.proofs.Message.{pad-front, pad-mark, pad-zero, pad-la
 use Rattle.sha256.proofs.pad_byte.Statement.{statement}
 use Rattle.sha256.proofs.pad_byte.Tie as tie
 
-shared-slice-read-result : tie.Need-shared-slice-read-result
-shared-slice-read-result c = search needs
-
 returns : tie.Need-returns
 returns c =
     let a = c .before .before .before .args in
@@ -22,6 +19,27 @@ returns-2 c =
     let a = c .before .before .before .args in
     sym (pad-mark (a .s .now) (a .i) (omega arith))
 
+returns-3 : tie.Need-returns-3
+returns-3 c =
+    let a = c .before .before .before .before .before .args in
+    sym (pad-zero (a .s .now) (a .i) (lt-of-le-ne (omega arith) (λ e. c .before .before .if2 .left (sym e))) (omega arith))
+
+sub-byte : tie.Need-sub-byte
+sub-byte c = omega (arith, pad-length (c .before .before .before .before .before .args .s .now))
+
+returns-4 : tie.Need-returns-4
+returns-4 c =
+    let a = c .before .before .before .before .before .before .args in
+    let n = length (a .s .now) in
+    c .byte .ensures
+    ∙ ap (λ (z : ℕ). n * 8 % 2 ^ 64 / 2 ^ (8 * (7 - (a .i - (n + 1 + z)))) % 2 ^ 8) (c .before .before .zeros .ensures .0)
+    ∙ sym (pad-last (a .s .now) (a .i) (omega arith) (omega (arith, pad-length (a .s .now))))
+
+-- Found by search:
+
+shared-slice-read-result : tie.Need-shared-slice-read-result
+shared-slice-read-result c = search needs
+
 add-k : tie.Need-add-k
 add-k c = search needs
 
@@ -31,24 +49,8 @@ zeros-requires c κs = search needs
 add-k-2 : tie.Need-add-k-2
 add-k-2 c = search needs
 
-returns-3 : tie.Need-returns-3
-returns-3 c =
-    let a = c .before .before .before .before .before .args in
-    sym (pad-zero (a .s .now) (a .i) (lt-of-le-ne (omega arith) (λ e. c .before .before .if2 .left (sym e))) (omega arith))
-
-sub-byte : tie.Need-sub-byte
-sub-byte c = omega (arith, pad-length (c .before .before .before .before .before .args .s .now))
-
 byte-requires : tie.Need-byte-requires
 byte-requires c κs = search needs
-
-returns-4 : tie.Need-returns-4
-returns-4 c =
-    let a = c .before .before .before .before .before .before .args in
-    let n = length (a .s .now) in
-    c .byte .ensures
-    ∙ ap (λ (z : ℕ). n * 8 % 2 ^ 64 / 2 ^ (8 * (7 - (a .i - (n + 1 + z)))) % 2 ^ 8) (c .before .before .zeros .ensures .0)
-    ∙ sym (pad-last (a .s .now) (a .i) (omega arith) (omega (arith, pad-length (a .s .now))))
 
 pub pad-byte-spec : {M : Type 1} → statement M
 pad-byte-spec =

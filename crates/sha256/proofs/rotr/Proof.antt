@@ -5,6 +5,12 @@ use Rattle.bits.specs.Word.{rotr}
 use Rattle.sha256.proofs.rotr.Statement.{statement}
 use Rattle.sha256.proofs.rotr.Tie as tie
 
+returns : tie.Need-returns
+unfolding rotr
+returns c = refl
+
+-- Found by search:
+
 shr-result : tie.Need-shr-result
 shr-result c = search needs
 
@@ -13,10 +19,6 @@ sub-result c = search needs
 
 shl-result : tie.Need-shl-result
 shl-result c = search needs
-
-returns : tie.Need-returns
-unfolding rotr
-returns c = refl
 
 pub rotr-spec : {M : Type 1} → statement M
 rotr-spec = tie.close (tie.spec shr-result sub-result shl-result returns)

@@ -4,6 +4,12 @@ use Rattle.sha256.specs.Sha.{round, T1, T2}
 use Rattle.sha256.proofs.round.Statement.{statement}
 use Rattle.sha256.proofs.round.Tie as tie
 
+returns : tie.Need-returns
+unfolding round T1 T2
+returns c = cc
+
+-- Found by search:
+
 big1-requires : tie.Need-big1-requires
 big1-requires c κs = search needs
 
@@ -36,10 +42,6 @@ add-requires-6 c κs = search needs
 
 add-requires-7 : tie.Need-add-requires-7
 add-requires-7 c κs = search needs
-
-returns : tie.Need-returns
-unfolding round T1 T2
-returns c = cc
 
 pub round-spec : {M : Type 1} → statement M
 round-spec =

@@ -18,6 +18,17 @@ loop-holds : tie.Need-loop-holds Inv-loop μ-loop
 unfolding rounds
 loop-holds c = (search needs, refl)
 
+loop-again : tie.Need-loop-again Inv-loop μ-loop
+unfolding rounds
+loop-again c = (omega arith, rw add-one (cc))
+
+returns : tie.Need-returns Inv-loop μ-loop
+returns c =
+    let e : c .before .loop .t ≡ 64 = omega arith in
+    cc
+
+-- Found by search:
+
 mul-round : tie.Need-mul-round Inv-loop μ-loop
 mul-round c = omega arith
 
@@ -38,15 +49,6 @@ add-t c = omega arith
 
 loop-less : tie.Need-loop-less Inv-loop μ-loop
 loop-less c = omega arith
-
-loop-again : tie.Need-loop-again Inv-loop μ-loop
-unfolding rounds
-loop-again c = (omega arith, rw add-one (cc))
-
-returns : tie.Need-returns Inv-loop μ-loop
-returns c =
-    let e : c .before .loop .t ≡ 64 = omega arith in
-    cc
 
 pub rounds-spec : {M : Type 1} → statement M
 rounds-spec =

@@ -16,26 +16,8 @@ Inv-loop b at w₀ t₀ w t = (16 ≤ t) × (t ≤ 64) × (length w ≡ 64) × (
 abbrev μ-loop : tie.MeasureT-loop
 μ-loop b at w₀ t₀ w t = 64 - t
 
-words-requires : tie.Need-words-requires Inv-loop μ-loop
-words-requires c κs = search needs
-
 loop-holds : tie.Need-loop-holds Inv-loop μ-loop
 loop-holds c = (search needs, search needs, c .words .ensures .1, c .words .ensures .0)
-
-next-requires : tie.Need-next-requires Inv-loop μ-loop
-next-requires c κs = omega arith
-
-mul-w : tie.Need-mul-w Inv-loop μ-loop
-mul-w c = omega arith
-
-array-write-w : tie.Need-array-write-w Inv-loop μ-loop
-array-write-w c = omega arith
-
-add-t : tie.Need-add-t Inv-loop μ-loop
-add-t c = omega arith
-
-loop-less : tie.Need-loop-less Inv-loop μ-loop
-loop-less c = omega arith
 
 loop-again : tie.Need-loop-again Inv-loop μ-loop
 loop-again c =
@@ -52,6 +34,26 @@ returns c =
     let l = c .before .loop in
     let e : l .t ≡ 64 = omega arith in
     sym (take-all 64 (l .w) (omega arith)) ∙ rw e at (l .inv .3)
+
+-- Found by search:
+
+words-requires : tie.Need-words-requires Inv-loop μ-loop
+words-requires c κs = search needs
+
+next-requires : tie.Need-next-requires Inv-loop μ-loop
+next-requires c κs = omega arith
+
+mul-w : tie.Need-mul-w Inv-loop μ-loop
+mul-w c = omega arith
+
+array-write-w : tie.Need-array-write-w Inv-loop μ-loop
+array-write-w c = omega arith
+
+add-t : tie.Need-add-t Inv-loop μ-loop
+add-t c = omega arith
+
+loop-less : tie.Need-loop-less Inv-loop μ-loop
+loop-less c = omega arith
 
 pub schedule-spec : {M : Type 1} → statement M
 schedule-spec =

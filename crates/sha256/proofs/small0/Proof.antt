@@ -4,15 +4,17 @@ use Rattle.sha256.specs.Functions.{σ0}
 use Rattle.sha256.proofs.small0.Statement.{statement}
 use Rattle.sha256.proofs.small0.Tie as tie
 
+returns : tie.Need-returns
+unfolding σ0
+returns c = rw (c .before .rotr .ensures, c .rotr2 .ensures)
+
+-- Found by search:
+
 rotr-requires : tie.Need-rotr-requires
 rotr-requires c κs = search needs
 
 rotr-requires-2 : tie.Need-rotr-requires-2
 rotr-requires-2 c κs = search needs
-
-returns : tie.Need-returns
-unfolding σ0
-returns c = rw (c .before .rotr .ensures, c .rotr2 .ensures)
 
 pub small0-spec : {M : Type 1} → statement M
 small0-spec = tie.close (tie.spec rotr-requires rotr-requires-2 returns)

@@ -4,6 +4,12 @@ use Rattle.sha256.specs.Sha.{sum}
 use Rattle.sha256.proofs.sum.Statement.{statement}
 use Rattle.sha256.proofs.sum.Tie as tie
 
+returns : tie.Need-returns
+unfolding sum
+returns c = cc
+
+-- Found by search:
+
 add-requires : tie.Need-add-requires
 add-requires c κs = search needs
 
@@ -27,10 +33,6 @@ add-requires-7 c κs = search needs
 
 add-requires-8 : tie.Need-add-requires-8
 add-requires-8 c κs = search needs
-
-returns : tie.Need-returns
-unfolding sum
-returns c = cc
 
 pub sum-spec : {M : Type 1} → statement M
 sum-spec =

@@ -23,18 +23,6 @@ loop-holds c = (search needs, refl, refl)
 add-pad-byte : tie.Need-add-pad-byte Inv-loop μ-loop
 add-pad-byte c = omega (arith, pad-length (c .before .before .before .args .s .now), zeros-small (length (c .before .before .before .args .s .now)))
 
-pad-byte-requires : tie.Need-pad-byte-requires Inv-loop μ-loop
-pad-byte-requires c κs = omega arith
-
-array-write-t : tie.Need-array-write-t Inv-loop μ-loop
-array-write-t c = omega arith
-
-add-j : tie.Need-add-j Inv-loop μ-loop
-add-j c = omega arith
-
-loop-less : tie.Need-loop-less Inv-loop μ-loop
-loop-less c = omega arith
-
 loop-again : tie.Need-loop-again Inv-loop μ-loop
 loop-again c =
     let l = c .before .before .loop in
@@ -54,6 +42,20 @@ returns c =
     let e : l .j ≡ a .len = omega arith in
     let h : length (drop (a .at) p) ≤ a .len = simp length-drop (omega arith) in
     (rw e at (l .inv .2) ∙ take-all (a .len) (drop (a .at) p) h, l .inv .1)
+
+-- Found by search:
+
+pad-byte-requires : tie.Need-pad-byte-requires Inv-loop μ-loop
+pad-byte-requires c κs = omega arith
+
+array-write-t : tie.Need-array-write-t Inv-loop μ-loop
+array-write-t c = omega arith
+
+add-j : tie.Need-add-j Inv-loop μ-loop
+add-j c = omega arith
+
+loop-less : tie.Need-loop-less Inv-loop μ-loop
+loop-less c = omega arith
 
 pub tail-spec : {M : Type 1} → statement M
 tail-spec =

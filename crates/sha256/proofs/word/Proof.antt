@@ -4,6 +4,11 @@ use Rattle.sha256.proofs.Filling.{four}
 use Rattle.sha256.proofs.word.Statement.{statement}
 use Rattle.sha256.proofs.word.Tie as tie
 
+returns : tie.Need-returns
+returns c = search four
+
+-- Found by search:
+
 shared-slice-read-wide : tie.Need-shared-slice-read-wide
 shared-slice-read-wide c = search needs
 
@@ -54,9 +59,6 @@ wide-requires-4 c κs = search needs
 
 add-result-3 : tie.Need-add-result-3
 add-result-3 c = search needs
-
-returns : tie.Need-returns
-returns c = search four
 
 pub word-spec : {M : Type 1} → statement M
 word-spec =

@@ -19,6 +19,23 @@ loop-holds : tie.Need-loop-holds Inv-loop μ-loop
 unfolding schedule
 loop-holds c = (search needs, search needs, refl)
 
+loop-again : tie.Need-loop-again Inv-loop μ-loop
+loop-again c =
+    let l = c .before .before .loop in
+    let a = c .before .before .before .before .args in (
+      omega arith,
+      simp length-set (search needs),
+      words-more (a .b .now) (l .w) (a .at) (l .t) (c .word .result) (omega arith) (omega arith) (omega arith) (l .inv .2) (c .word .ensures),
+    )
+
+returns : tie.Need-returns Inv-loop μ-loop
+returns c =
+    let l = c .before .loop in
+    let e : l .t ≡ 16 = omega arith in
+    (rw e at (l .inv .2), l .inv .1)
+
+-- Found by search:
+
 mul-word : tie.Need-mul-word Inv-loop μ-loop
 mul-word c = omega arith
 
@@ -39,21 +56,6 @@ add-t c = omega arith
 
 loop-less : tie.Need-loop-less Inv-loop μ-loop
 loop-less c = omega arith
-
-loop-again : tie.Need-loop-again Inv-loop μ-loop
-loop-again c =
-    let l = c .before .before .loop in
-    let a = c .before .before .before .before .args in (
-      omega arith,
-      simp length-set (search needs),
-      words-more (a .b .now) (l .w) (a .at) (l .t) (c .word .result) (omega arith) (omega arith) (omega arith) (l .inv .2) (c .word .ensures),
-    )
-
-returns : tie.Need-returns Inv-loop μ-loop
-returns c =
-    let l = c .before .loop in
-    let e : l .t ≡ 16 = omega arith in
-    (rw e at (l .inv .2), l .inv .1)
 
 pub words-spec : {M : Type 1} → statement M
 words-spec =

@@ -5,52 +5,13 @@ use borrow.Author.Needs.{needs}
 use Rattle.shard.proofs.body.Statement.{statement}
 use Rattle.shard.proofs.body.Tie as tie
 
-content-requires : tie.Need-content-requires
-content-requires c κs = search needs
-
-enum-known-t : tie.Need-enum-known-t
-enum-known-t c = search needs
-
-enum-told : tie.Need-enum-told
-enum-told c = search needs
-
-content-no-requires : tie.Need-content-no-requires
-content-no-requires c κs = search needs
-
 returns : tie.Need-returns
 unfolding bodyAt
 returns c = search parts depth 40
 
-slice-aggregate-number-field : tie.Need-slice-aggregate-number-field
-slice-aggregate-number-field c = search needs
-
-number-field-requires : tie.Need-number-field-requires
-number-field-requires c κs = search needs
-
-enum-known-v : tie.Need-enum-known-v
-enum-known-v c = search needs
-
-enum-told-2 : tie.Need-enum-told-2
-enum-told-2 c = search needs
-
-number-no-requires : tie.Need-number-no-requires
-number-no-requires c κs = search needs
-
 returns-2 : tie.Need-returns-2
 unfolding bodyAt
 returns-2 c = search parts depth 40
-
-quorum-requires : tie.Need-quorum-requires
-quorum-requires c κs = search needs
-
-enum-known-q : tie.Need-enum-known-q
-enum-known-q c = search needs
-
-enum-told-3 : tie.Need-enum-told-3
-enum-told-3 c = search needs
-
-quorum-no-requires : tie.Need-quorum-no-requires
-quorum-no-requires c κs = search needs
 
 returns-3 : tie.Need-returns-3
 unfolding bodyAt
@@ -64,6 +25,47 @@ returns-5 : tie.Need-returns-5
 unfolding bodyAt
 returns-5 c = search parts depth 40
 
+-- Found by search:
+
+content-requires : tie.Need-content-requires
+content-requires c κs = search needs
+
+enum-known-t : tie.Need-enum-known-t
+enum-known-t c = search needs
+
+enum-told : tie.Need-enum-told
+enum-told c = search needs
+
+no-requires : tie.Need-no-requires
+no-requires c κs = search needs
+
+slice-aggregate-number-field : tie.Need-slice-aggregate-number-field
+slice-aggregate-number-field c = search needs
+
+number-field-requires : tie.Need-number-field-requires
+number-field-requires c κs = search needs
+
+enum-known-v : tie.Need-enum-known-v
+enum-known-v c = search needs
+
+enum-told-2 : tie.Need-enum-told-2
+enum-told-2 c = search needs
+
+no-requires-2 : tie.Need-no-requires-2
+no-requires-2 c κs = search needs
+
+quorum-requires : tie.Need-quorum-requires
+quorum-requires c κs = search needs
+
+enum-known-q : tie.Need-enum-known-q
+enum-known-q c = search needs
+
+enum-told-3 : tie.Need-enum-told-3
+enum-told-3 c = search needs
+
+no-requires-3 : tie.Need-no-requires-3
+no-requires-3 c κs = search needs
+
 pub body-spec : {M : Type 1} → statement M
 body-spec =
     tie.close
@@ -71,18 +73,18 @@ body-spec =
     content-requires
     enum-known-t
     enum-told
-    content-no-requires
+    no-requires
     returns
     slice-aggregate-number-field
     number-field-requires
     enum-known-v
     enum-told-2
-    number-no-requires
+    no-requires-2
     returns-2
     quorum-requires
     enum-known-q
     enum-told-3
-    quorum-no-requires
+    no-requires-3
     returns-3
     returns-4
     returns-5)

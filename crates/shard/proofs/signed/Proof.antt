@@ -7,17 +7,11 @@ use Rattle.shard.proofs.signed.Tie as tie
 returns : tie.Need-returns
 returns c = search signed-public
 
-rest-fits-requires : tie.Need-rest-fits-requires
-rest-fits-requires c κs = search needs
-
 returns-2 : tie.Need-returns-2
 returns-2 c = search signed-rest
 
 rest-size-requires : tie.Need-rest-size-requires
 rest-size-requires c κs = rest-sized _ _ _ _ _ _ (c .before .rest-fits .ensures) (c .if2 .left)
-
-add-len : tie.Need-add-len
-add-len c = search needs
 
 returns-3 : tie.Need-returns-3
 returns-3 c = search signed-short
@@ -27,11 +21,19 @@ message-requires c κs =
     let b = c .before .before in
     signed-fits _ _ _ _ _ _ _ _ (b .before .before .before .if1 .left) (b .rest-size .ensures .0) (c .before .if3 .left)
 
-same-length : tie.Need-same-length
-same-length c = search needs
-
 returns-4 : tie.Need-returns-4
 returns-4 c = search signed-done
+
+-- Found by search:
+
+rest-fits-requires : tie.Need-rest-fits-requires
+rest-fits-requires c κs = search needs
+
+add-len : tie.Need-add-len
+add-len c = search needs
+
+same-length : tie.Need-same-length
+same-length c = search needs
 
 pub signed-spec : {M : Type 1} → statement M
 signed-spec =

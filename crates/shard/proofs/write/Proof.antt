@@ -10,17 +10,11 @@ returns c = search shard-public
 returns-2 : tie.Need-returns-2
 returns-2 c = search shard-sig
 
-rest-fits-requires : tie.Need-rest-fits-requires
-rest-fits-requires c κs = search needs
-
 returns-3 : tie.Need-returns-3
 returns-3 c = search shard-rest
 
 rest-size-requires : tie.Need-rest-size-requires
 rest-size-requires c κs = rest-sized _ _ _ _ _ _ (c .before .rest-fits .ensures) (c .if3 .left)
-
-add-len : tie.Need-add-len
-add-len c = search needs
 
 returns-4 : tie.Need-returns-4
 returns-4 c = search shard-short
@@ -31,11 +25,19 @@ payload-requires c κs =
     let f = b .before .before .before in
     shard-fits _ _ _ _ _ _ _ _ (f .before .if1 .left) (b .rest-size .ensures .0) _ (f .if2 .left) (c .before .if4 .left)
 
-same-length : tie.Need-same-length
-same-length c = search needs
-
 returns-5 : tie.Need-returns-5
 returns-5 c = search shard-done
+
+-- Found by search:
+
+rest-fits-requires : tie.Need-rest-fits-requires
+rest-fits-requires c κs = search needs
+
+add-len : tie.Need-add-len
+add-len c = search needs
+
+same-length : tie.Need-same-length
+same-length c = search needs
 
 pub write-spec : {M : Type 1} → statement M
 write-spec =

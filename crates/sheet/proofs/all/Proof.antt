@@ -4,6 +4,11 @@ use Rattle.sheet.proofs.Sheets.{given}
 use Rattle.sheet.proofs.all.Statement.{statement}
 use Rattle.sheet.proofs.all.Tie as tie
 
+returns : tie.Need-returns
+returns c = search given
+
+-- Found by search:
+
 slice-aggregate-lay : tie.Need-slice-aggregate-lay
 slice-aggregate-lay c = search needs
 
@@ -24,9 +29,6 @@ give-requires c κs = search needs
 
 same-length : tie.Need-same-length
 same-length c = search needs
-
-returns : tie.Need-returns
-returns c = given 78257 _ _ _ _ _ _ _ (search needs) (c .before .before .before .before .before .before .before .lay .ensures) (c .before .before .give .ensures)
 
 pub all-spec : {M : Type 1} → statement M
 all-spec =

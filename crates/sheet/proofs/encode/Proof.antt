@@ -4,6 +4,14 @@ use Rattle.sheet.proofs.Texts.{scan-text, typed-text}
 use Rattle.sheet.proofs.encode.Statement.{statement}
 use Rattle.sheet.proofs.encode.Tie as tie
 
+returns : tie.Need-returns
+returns c = search scan-text
+
+returns-2 : tie.Need-returns-2
+returns-2 c = search typed-text
+
+-- Found by search:
+
 enum-told : tie.Need-enum-told
 enum-told c = search needs
 
@@ -19,14 +27,8 @@ write-zbase32-requires c κs = search needs
 same-length : tie.Need-same-length
 same-length c = search needs
 
-returns : tie.Need-returns
-returns c = search scan-text
-
 same-length-2 : tie.Need-same-length-2
 same-length-2 c = search needs
-
-returns-2 : tie.Need-returns-2
-returns-2 c = search typed-text
 
 pub encode-spec : {M : Type 1} → statement M
 encode-spec =

@@ -4,8 +4,13 @@ use Rattle.sheet.proofs.Ids.{id-laid}
 use Rattle.sheet.proofs.id_line.Statement.{statement}
 use Rattle.sheet.proofs.id_line.Tie as tie
 
-document-id-requires : tie.Need-document-id-requires
-document-id-requires c κs = search needs
+returns : tie.Need-returns
+returns c = search id-laid
+
+-- Found by search:
+
+of-requires : tie.Need-of-requires
+of-requires c κs = search needs
 
 slice-aggregate-hex : tie.Need-slice-aggregate-hex
 slice-aggregate-hex c = search needs
@@ -22,14 +27,11 @@ put-requires c κs = search needs
 same-length : tie.Need-same-length
 same-length c = search needs
 
-returns : tie.Need-returns
-returns c = search id-laid
-
 pub id-line-spec : {M : Type 1} → statement M
 id-line-spec =
     tie.close
     (tie.spec
-    document-id-requires
+    of-requires
     slice-aggregate-hex
     hex-requires
     sub-put

@@ -5,14 +5,8 @@ use Rattle.sheet.proofs.Sheets.{page-there, total-most, scan-laid, type
 use Rattle.sheet.proofs.lines.Statement.{statement}
 use Rattle.sheet.proofs.lines.Tie as tie
 
-enum-told : tie.Need-enum-told
-enum-told c = search needs
-
 text-line-requires : tie.Need-text-line-requires
 text-line-requires c κs = (search page-there, search needs)
-
-enum-told-2 : tie.Need-enum-told-2
-enum-told-2 c = search needs
 
 cast-place : tie.Need-cast-place
 cast-place c =
@@ -33,17 +27,25 @@ place-requires c κs =
 text-line-requires-2 : tie.Need-text-line-requires-2
 text-line-requires-2 c κs = (search page-there, search needs)
 
-same-length : tie.Need-same-length
-same-length c = search needs
-
 returns : tie.Need-returns
 returns c = search scan-laid
 
-same-length-2 : tie.Need-same-length-2
-same-length-2 c = search needs
-
 returns-2 : tie.Need-returns-2
 returns-2 c = search typed-laid
+
+-- Found by search:
+
+enum-told : tie.Need-enum-told
+enum-told c = search needs
+
+enum-told-2 : tie.Need-enum-told-2
+enum-told-2 c = search needs
+
+same-length : tie.Need-same-length
+same-length c = search needs
+
+same-length-2 : tie.Need-same-length-2
+same-length-2 c = search needs
 
 pub lines-spec : {M : Type 1} → statement M
 lines-spec =

@@ -7,6 +7,11 @@ use Rattle.sheet.proofs.one.Tie as tie
 returns : tie.Need-returns
 returns c = search one-past
 
+returns-2 : tie.Need-returns-2
+returns-2 c = search (one-there, given)
+
+-- Found by search:
+
 slice-aggregate-lines : tie.Need-slice-aggregate-lines
 slice-aggregate-lines c = search needs
 
@@ -27,9 +32,6 @@ give-requires c κs = search needs
 
 same-length : tie.Need-same-length
 same-length c = search needs
-
-returns-2 : tie.Need-returns-2
-returns-2 c = one-there _ _ _ _ _ _ (c .before .before .before .before .before .before .before .before .before .if1 .left) (given 815 _ _ _ _ _ _ _ (search needs) (c .before .before .before .before .before .before .before .lines .ensures) (c .before .before .give .ensures))
 
 pub one-spec : {M : Type 1} → statement M
 one-spec =

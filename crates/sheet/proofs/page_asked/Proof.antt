@@ -18,14 +18,22 @@ returns c = search nothing-said
 loop-holds : tie.Need-loop-holds Inv-loop μ-loop
 loop-holds c = search saying-none
 
-shared-slice-read-b : tie.Need-shared-slice-read-b Inv-loop μ-loop
-shared-slice-read-b c = search needs
-
 returns-2 : tie.Need-returns-2 Inv-loop μ-loop
 returns-2 c = below-digits _ _ _ (c .before .before .before .loop .inv) (c .before .before .loop-test .taken) (c .if2 .taken)
 
 returns-3 : tie.Need-returns-3 Inv-loop μ-loop
 returns-3 c = above-digits _ _ _ (c .before .before .before .before .loop .inv) (c .before .before .before .loop-test .taken) (c .before .if2 .left) (c .if3 .taken)
+
+loop-again : tie.Need-loop-again Inv-loop μ-loop
+loop-again c = saying-on _ _ _ (c .before .before .before .before .before .loop .inv) _ (c .before .before .before .before .loop-test .taken) (c .before .before .if2 .left) (c .before .if3 .left) (c .at-most-pages .ensures)
+
+returns-4 : tie.Need-returns-4 Inv-loop μ-loop
+returns-4 c = saying-end _ _ _ (c .before .loop .inv) (c .loop-test .left)
+
+-- Found by search:
+
+shared-slice-read-b : tie.Need-shared-slice-read-b Inv-loop μ-loop
+shared-slice-read-b c = search needs
 
 mul-at-most-pages : tie.Need-mul-at-most-pages Inv-loop μ-loop
 mul-at-most-pages c = search needs
@@ -44,12 +52,6 @@ add-i c = search needs
 
 loop-less : tie.Need-loop-less Inv-loop μ-loop
 loop-less c = search needs
-
-loop-again : tie.Need-loop-again Inv-loop μ-loop
-loop-again c = saying-on _ _ _ (c .before .before .before .before .before .loop .inv) _ (c .before .before .before .before .loop-test .taken) (c .before .before .if2 .left) (c .before .if3 .left) (c .at-most-pages .ensures)
-
-returns-4 : tie.Need-returns-4 Inv-loop μ-loop
-returns-4 c = saying-end _ _ _ (c .before .loop .inv) (c .loop-test .left)
 
 pub page-asked-spec : {M : Type 1} → statement M
 page-asked-spec =

@@ -4,17 +4,28 @@ use Rattle.sheet.proofs.Laying.{place-laid}
 use Rattle.sheet.proofs.place.Statement.{statement}
 use Rattle.sheet.proofs.place.Tie as tie
 
+returns : tie.Need-returns
+returns c = search place-laid
+
+-- Found by search:
+
 slice-aggregate-copy : tie.Need-slice-aggregate-copy
 slice-aggregate-copy c = search needs
 
 copy-requires : tie.Need-copy-requires
 copy-requires c κs = search needs
 
-add-number : tie.Need-add-number
-add-number c = search needs
+add-after : tie.Need-add-after
+add-after c = search needs
 
-number-requires : tie.Need-number-requires
-number-requires c κs = search needs
+add-decimal : tie.Need-add-decimal
+add-decimal c = search needs
+
+decimal-requires : tie.Need-decimal-requires
+decimal-requires c κs = search needs
+
+add-after-2 : tie.Need-add-after-2
+add-after-2 c = search needs
 
 slice-aggregate-copy-2 : tie.Need-slice-aggregate-copy-2
 slice-aggregate-copy-2 c = search needs
@@ -22,11 +33,17 @@ slice-aggregate-copy-2 c = search needs
 copy-requires-2 : tie.Need-copy-requires-2
 copy-requires-2 c κs = search needs
 
-add-number-2 : tie.Need-add-number-2
-add-number-2 c = search needs
+add-end : tie.Need-add-end
+add-end c = search needs
 
-number-requires-2 : tie.Need-number-requires-2
-number-requires-2 c κs = search needs
+add-decimal-2 : tie.Need-add-decimal-2
+add-decimal-2 c = search needs
+
+decimal-requires-2 : tie.Need-decimal-requires-2
+decimal-requires-2 c κs = search needs
+
+add-end-2 : tie.Need-add-end-2
+add-end-2 c = search needs
 
 put-requires : tie.Need-put-requires
 put-requires c κs = search needs
@@ -37,21 +54,22 @@ add-result c = search needs
 same-length : tie.Need-same-length
 same-length c = search needs
 
-returns : tie.Need-returns
-returns c = search place-laid
-
 pub place-spec : {M : Type 1} → statement M
 place-spec =
     tie.close
     (tie.spec
     slice-aggregate-copy
     copy-requires
-    add-number
-    number-requires
+    add-after
+    add-decimal
+    decimal-requires
+    add-after-2
     slice-aggregate-copy-2
     copy-requires-2
-    add-number-2
-    number-requires-2
+    add-end
+    add-decimal-2
+    decimal-requires-2
+    add-end-2
     put-requires
     add-result
     same-length

@@ -4,6 +4,17 @@ use Rattle.sheet.proofs.Sheets.{told-pages, told-none, none-printed, al
 use Rattle.sheet.proofs.sheet.Statement.{statement}
 use Rattle.sheet.proofs.sheet.Tie as tie
 
+all-requires : tie.Need-all-requires
+all-requires c κs = told-pages (c .before .before .n .given .1) (c .before .before .before .before .count .ensures)
+
+returns : tie.Need-returns
+returns c = none-printed _ _ (told-none (c .before .no .given .1) (c .before .before .before .count .ensures)) _ _
+
+returns-2 : tie.Need-returns-2
+returns-2 c = search all-printed
+
+-- Found by search:
+
 count-requires : tie.Need-count-requires
 count-requires c κs = search needs
 
@@ -13,17 +24,8 @@ enum-known-no c = search needs
 enum-known-n : tie.Need-enum-known-n
 enum-known-n c = search needs
 
-all-requires : tie.Need-all-requires
-all-requires c κs = told-pages (c .before .before .n .given .1) (c .before .before .before .before .count .ensures)
-
-returns : tie.Need-returns
-returns c = none-printed _ _ (told-none (c .before .no .given .1) (c .before .before .before .count .ensures)) _ _
-
 same-length : tie.Need-same-length
 same-length c = search needs
-
-returns-2 : tie.Need-returns-2
-returns-2 c = all-printed _ _ _ _ _ _ (told-pages (c .before .before .before .before .before .n .given .1) (c .before .before .before .before .before .before .before .count .ensures)) (c .before .before .all .ensures)
 
 pub sheet-spec : {M : Type 1} → statement M
 sheet-spec =

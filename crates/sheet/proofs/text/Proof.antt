@@ -4,6 +4,14 @@ use Rattle.sheet.proofs.Texts.{text-never, text-laid}
 use Rattle.sheet.proofs.text.Statement.{statement}
 use Rattle.sheet.proofs.text.Tie as tie
 
+returns : tie.Need-returns
+returns c = search text-never
+
+returns-2 : tie.Need-returns-2
+returns-2 c = search text-laid
+
+-- Found by search:
+
 encode-requires : tie.Need-encode-requires
 encode-requires c κs = search needs
 
@@ -16,16 +24,8 @@ enum-told c = search needs
 same-length : tie.Need-same-length
 same-length c = search needs
 
-returns : tie.Need-returns
-returns c =
-    let s = c .before .before .before .before .before .before .before .before in
-    text-never _ _ (s .pre .0) (s .args .form) _ _ (s .pre .1) _ (c .before .before .before .before .encode .ensures) _ (c .enum-told .given .1)
-
 same-length-2 : tie.Need-same-length-2
 same-length-2 c = search needs
-
-returns-2 : tie.Need-returns-2
-returns-2 c = search text-laid
 
 pub text-spec : {M : Type 1} → statement M
 text-spec =

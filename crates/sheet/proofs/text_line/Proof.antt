@@ -4,6 +4,14 @@ use Rattle.sheet.proofs.Texts.{line-laid}
 use Rattle.sheet.proofs.text_line.Statement.{statement}
 use Rattle.sheet.proofs.text_line.Tie as tie
 
+returns : tie.Need-returns
+returns c =
+    let copied = c .before .before .before .before .before .before in
+    let made = copied .before .before .before .before .before in
+    line-laid _ _ _ _ _ _ _ _ _ (search needs) (copied .copy .ensures) (made .text .ensures) (search needs)
+
+-- Found by search:
+
 slice-aggregate-text : tie.Need-slice-aggregate-text
 slice-aggregate-text c = search needs
 
@@ -36,11 +44,6 @@ add-result-2 c = search needs
 
 same-length : tie.Need-same-length
 same-length c = search needs
-
-returns : tie.Need-returns
-returns c =
-    let s = c .before .before .before .before .before .before .before .before .before .before .before .before .before .before .before in
-    line-laid _ _ (s .pre .0) (s .args .form) _ _ _ _ _ _ _ (search needs) (c .before .before .before .before .before .before .before .before .before .before .before .text .ensures) (s .pre .1) (c .before .before .before .before .before .before .copy .ensures) (c .before .before .put .ensures)
 
 pub text-line-spec : {M : Type 1} → statement M
 text-line-spec =

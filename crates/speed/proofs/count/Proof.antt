@@ -3,6 +3,8 @@ use borrow.Author.Needs.{needs}
 use Rattle.speed.proofs.count.Statement.{statement}
 use Rattle.speed.proofs.count.Tie as tie
 
+-- Found by search:
+
 enum-known-r : tie.Need-enum-known-r
 enum-known-r c = search needs
 

@@ -3,6 +3,11 @@ use borrow.Author.Needs.{needs}
 use Rattle.speed.proofs.speed_blake2b.Statement.{statement}
 use Rattle.speed.proofs.speed_blake2b.Tie as tie
 
+returns : tie.Need-returns
+returns c = cc
+
+-- Found by search:
+
 blake2b-requires : tie.Need-blake2b-requires
 blake2b-requires c κs = search needs
 
@@ -14,9 +19,6 @@ copy-requires c κs = search needs
 
 same-length : tie.Need-same-length
 same-length c = search needs
-
-returns : tie.Need-returns
-returns c = cc
 
 pub speed-blake2b-spec : {M : Type 1} → statement M
 speed-blake2b-spec =

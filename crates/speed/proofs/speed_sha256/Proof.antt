@@ -3,6 +3,11 @@ use borrow.Author.Needs.{needs}
 use Rattle.speed.proofs.speed_sha256.Statement.{statement}
 use Rattle.speed.proofs.speed_sha256.Tie as tie
 
+returns : tie.Need-returns
+returns c = cc
+
+-- Found by search:
+
 sha256-requires : tie.Need-sha256-requires
 sha256-requires c κs = search needs
 
@@ -14,9 +19,6 @@ copy-requires c κs = search needs
 
 same-length : tie.Need-same-length
 same-length c = search needs
-
-returns : tie.Need-returns
-returns c = cc
 
 pub speed-sha256-spec : {M : Type 1} → statement M
 speed-sha256-spec =

@@ -5,6 +5,22 @@ use borrow.Author.Needs.{needs}
 use Rattle.status.proofs.pages_line.Statement.{statement}
 use Rattle.status.proofs.pages_line.Tie as tie
 
+returns : tie.Need-returns
+returns c =
+    let written = c .before .before in
+    let ended = written .before .before .before .before .before in
+    let first = ended .before .before .before in
+    let disputed = first .before .before .before in
+    let missing = disputed .before .before .before .before in
+    let held = missing .before .before .before .before in
+    let total = held .before .before .before .before in
+    let n = total .before .before .before in
+    let laid = pages-laid _ _ _ _ _ _ _ _ _ _ _ _ _ _ _ _ (total .named .ensures) (held .named2 .ensures) (missing .named3 .ensures) (disputed .named4 .ensures) (first .first .ensures) (ended .put .ensures) in
+    let said = counted _ _ _ _ _ _ (n .before .before .before .count .ensures) (n .before .before .count2 .ensures) (n .before .count3 .ensures) (n .lowest .ensures) in
+    written-as _ _ _ _ _ (sym (laid ∙ said)) (written .give .ensures)
+
+-- Found by search:
+
 count-requires : tie.Need-count-requires
 count-requires c κs = search needs
 
@@ -82,20 +98,6 @@ give-requires c κs = search needs
 
 same-length : tie.Need-same-length
 same-length c = search needs
-
-returns : tie.Need-returns
-returns c =
-    let written = c .before .before in
-    let ended = written .before .before .before .before .before in
-    let first = ended .before .before .before in
-    let disputed = first .before .before .before in
-    let missing = disputed .before .before .before .before in
-    let held = missing .before .before .before .before in
-    let total = held .before .before .before .before in
-    let n = total .before .before .before in
-    let laid = pages-laid _ _ _ _ _ _ _ _ _ _ _ _ _ _ _ _ (total .named .ensures) (held .named2 .ensures) (missing .named3 .ensures) (disputed .named4 .ensures) (first .first .ensures) (ended .put .ensures) in
-    let said = counted _ _ _ _ _ _ (n .before .before .before .count .ensures) (n .before .before .count2 .ensures) (n .before .count3 .ensures) (n .lowest .ensures) in
-    written-as _ _ _ _ _ (sym (laid ∙ said)) (written .give .ensures)
 
 pub pages-line-spec : {M : Type 1} → statement M
 pages-line-spec =

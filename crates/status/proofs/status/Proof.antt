@@ -1,13 +1,25 @@
--- `status::status` meets its contract. Assumes nothing.
-use native.Mathlib.Omega.{arith}
-use borrow.Author.Tests.{not-true, not-false}
-use Rattle.status.proofs.Lines.{written-as, line-refused, size-known, line-empty, line-disagree, line-pages}
+-- `status::status` meets its contract, for each state of the head. Assumes nothing.
 use borrow.Author.Needs.{needs}
+use Rattle.status.proofs.Lines.{written-as, line-refused, line-empty, line-disagree, line-pages}
 use Rattle.status.proofs.status.Statement.{statement}
 use Rattle.status.proofs.status.Tie as tie
 
-well-formed-requires : tie.Need-well-formed-requires
-well-formed-requires c κs = search needs
+returns : tie.Need-returns
+returns c = search (written-as, line-refused)
+
+returns-2 : tie.Need-returns-2
+returns-2 c = search (written-as, line-empty)
+
+returns-3 : tie.Need-returns-3
+returns-3 c = search (written-as, line-disagree)
+
+returns-4 : tie.Need-returns-4
+returns-4 c = search (written-as, line-pages)
+
+-- Found by search:
+
+judge-requires : tie.Need-judge-requires
+judge-requires c κs = search needs
 
 refused-line-requires : tie.Need-refused-line-requires
 refused-line-requires c κs = search needs
@@ -15,11 +27,8 @@ refused-line-requires c κs = search needs
 same-length : tie.Need-same-length
 same-length c = search needs
 
-returns : tie.Need-returns
-returns c = search (written-as, line-refused, not-true)
-
-shared-slice-read-state : tie.Need-shared-slice-read-state
-shared-slice-read-state c = omega (arith, size-known _ _ (c .before .before .well-formed .ensures) (not-false _ (c .before .if1 .left)))
+state-requires : tie.Need-state-requires
+state-requires c κs = search needs
 
 slice-aggregate-give : tie.Need-slice-aggregate-give
 slice-aggregate-give c = search needs
@@ -30,9 +39,6 @@ give-requires c κs = search needs
 same-length-2 : tie.Need-same-length-2
 same-length-2 c = search needs
 
-returns-2 : tie.Need-returns-2
-returns-2 c = search (written-as, line-empty, not-false)
-
 slice-aggregate-give-2 : tie.Need-slice-aggregate-give-2
 slice-aggregate-give-2 c = search needs
 
@@ -42,11 +48,8 @@ give-requires-2 c κs = search needs
 same-length-3 : tie.Need-same-length-3
 same-length-3 c = search needs
 
-returns-3 : tie.Need-returns-3
-returns-3 c = search (written-as, line-disagree, not-false)
-
-shared-slice-read-pages-line : tie.Need-shared-slice-read-pages-line
-shared-slice-read-pages-line c = omega (arith, size-known _ _ (c .before .before .before .before .before .well-formed .ensures) (not-false _ (c .before .before .before .before .if1 .left)))
+total-requires : tie.Need-total-requires
+total-requires c κs = search needs
 
 pages-line-requires : tie.Need-pages-line-requires
 pages-line-requires c κs = search needs
@@ -54,18 +57,15 @@ pages-line-requires c κs = search needs
 same-length-4 : tie.Need-same-length-4
 same-length-4 c = search needs
 
-returns-4 : tie.Need-returns-4
-returns-4 c = search (written-as, line-pages, not-false)
-
 pub status-spec : {M : Type 1} → statement M
 status-spec =
     tie.close
     (tie.spec
-    well-formed-requires
+    judge-requires
     refused-line-requires
     same-length
     returns
-    shared-slice-read-state
+    state-requires
     slice-aggregate-give
     give-requires
     same-length-2
@@ -74,7 +74,7 @@ status-spec =
     give-requires-2
     same-length-3
     returns-3
-    shared-slice-read-pages-line
+    total-requires
     pages-line-requires
     same-length-4
     returns-4)

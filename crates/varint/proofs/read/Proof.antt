@@ -8,6 +8,14 @@ use Rattle.varint.proofs.read.Tie as tie
 returns : tie.Need-returns
 returns c = first-none _ _ (omega arith)
 
+returns-2 : tie.Need-returns-2
+returns-2 c = search first-only
+
+returns-3 : tie.Need-returns-3
+returns-3 c = search first-of-more
+
+-- Found by search:
+
 shared-slice-read-wide : tie.Need-shared-slice-read-wide
 shared-slice-read-wide c = search needs
 
@@ -17,17 +25,11 @@ wide-requires c κs = search needs
 add-t8 : tie.Need-add-t8
 add-t8 c = search needs
 
-returns-2 : tie.Need-returns-2
-returns-2 c = search first-only
-
 add-read-later : tie.Need-add-read-later
 add-read-later c = search needs
 
 read-later-requires : tie.Need-read-later-requires
 read-later-requires c κs = search needs
-
-returns-3 : tie.Need-returns-3
-returns-3 c = search first-of-more
 
 pub read-spec : {M : Type 1} → statement M
 read-spec =

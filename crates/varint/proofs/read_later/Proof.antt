@@ -16,23 +16,11 @@ abbrev μ-loop : tie.MeasureT-loop
 loop-holds : tie.Need-loop-holds Inv-loop μ-loop
 loop-holds c = search turn-none
 
-shared-slice-read-wide : tie.Need-shared-slice-read-wide Inv-loop μ-loop
-shared-slice-read-wide c = search needs
-
-wide-requires : tie.Need-wide-requires Inv-loop μ-loop
-wide-requires c κs = search needs
-
-add-read-tenth : tie.Need-add-read-tenth Inv-loop μ-loop
-add-read-tenth c = search needs
-
 read-tenth-requires : tie.Need-read-tenth-requires Inv-loop μ-loop
 read-tenth-requires c κs = search tenth-fits
 
 returns : tie.Need-returns Inv-loop μ-loop
 returns c = search tenth-ends
-
-add-read-ending : tie.Need-add-read-ending Inv-loop μ-loop
-add-read-ending c = search needs
 
 read-ending-requires : tie.Need-read-ending-requires Inv-loop μ-loop
 read-ending-requires c κs = search seven-fits
@@ -49,6 +37,26 @@ add-n c = search low-fits
 mul-w : tie.Need-mul-w Inv-loop μ-loop
 mul-w c = search weight-fits
 
+loop-again : tie.Need-loop-again Inv-loop μ-loop
+loop-again c = search turn
+
+returns-3 : tie.Need-returns-3 Inv-loop μ-loop
+returns-3 c = search input-ends
+
+-- Found by search:
+
+shared-slice-read-wide : tie.Need-shared-slice-read-wide Inv-loop μ-loop
+shared-slice-read-wide c = search needs
+
+wide-requires : tie.Need-wide-requires Inv-loop μ-loop
+wide-requires c κs = search needs
+
+add-read-tenth : tie.Need-add-read-tenth Inv-loop μ-loop
+add-read-tenth c = search needs
+
+add-read-ending : tie.Need-add-read-ending Inv-loop μ-loop
+add-read-ending c = search needs
+
 sub-left : tie.Need-sub-left Inv-loop μ-loop
 sub-left c = search needs
 
@@ -57,12 +65,6 @@ add-i c = search needs
 
 loop-less : tie.Need-loop-less Inv-loop μ-loop
 loop-less c = search needs
-
-loop-again : tie.Need-loop-again Inv-loop μ-loop
-loop-again c = search turn
-
-returns-3 : tie.Need-returns-3 Inv-loop μ-loop
-returns-3 c = search input-ends
 
 pub read-later-spec : {M : Type 1} → statement M
 read-later-spec =

@@ -12,14 +12,16 @@ returns c = sym (varint-length-one _ (omega arith))
 sub-highest : tie.Need-sub-highest
 sub-highest c = omega (arith, leading-zeros-below (c .before .args .n) (omega arith) (omega arith))
 
+returns-2 : tie.Need-returns-2
+returns-2 c = omega (arith, varint-length-from-leading-zeros (c .before .args .n) (omega arith) (omega arith))
+
+-- Found by search:
+
 add-result : tie.Need-add-result
 add-result c = search needs
 
 cast-result : tie.Need-cast-result
 cast-result c = search needs
-
-returns-2 : tie.Need-returns-2
-returns-2 c = omega (arith, varint-length-from-leading-zeros (c .before .args .n) (omega arith) (omega arith))
 
 pub size-spec : {M : Type 1} → statement M
 size-spec = tie.close (tie.spec returns sub-highest add-result cast-result returns-2)

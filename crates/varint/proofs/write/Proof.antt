@@ -5,26 +5,28 @@ use Rattle.wire.proofs.Writes.{written, no-room}
 use Rattle.varint.proofs.write.Statement.{statement}
 use Rattle.varint.proofs.write.Tie as tie
 
-size-requires : tie.Need-size-requires
-size-requires c κs = search needs
-
 returns : tie.Need-returns
 returns c = no-room _ _ _ (omega arith)
 
-sub-if2 : tie.Need-sub-if2
-sub-if2 c = search needs
-
 returns-2 : tie.Need-returns-2
 returns-2 c = no-room _ _ _ (omega arith)
+
+returns-3 : tie.Need-returns-3
+returns-3 c = written _ _ _ _ _ (omega arith) (search needs) (search needs)
+
+-- Found by search:
+
+size-requires : tie.Need-size-requires
+size-requires c κs = search needs
+
+sub-if2 : tie.Need-sub-if2
+sub-if2 c = search needs
 
 write-fitting-requires : tie.Need-write-fitting-requires
 write-fitting-requires c κs = search needs
 
 same-length : tie.Need-same-length
 same-length c = search needs
-
-returns-3 : tie.Need-returns-3
-returns-3 c = written _ _ _ _ _ (omega arith) (search needs) (search needs)
 
 pub write-spec : {M : Type 1} → statement M
 write-spec =

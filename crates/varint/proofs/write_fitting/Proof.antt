@@ -15,14 +15,25 @@ abbrev μ-loop : tie.MeasureT-loop
 loop-holds : tie.Need-loop-holds Inv-loop μ-loop
 loop-holds c = search store-none
 
+slice-write-out : tie.Need-slice-write-out Inv-loop μ-loop
+slice-write-out c = search more-room
+
+loop-again : tie.Need-loop-again Inv-loop μ-loop
+loop-again c = search store-more
+
+slice-write-out-2 : tie.Need-slice-write-out-2 Inv-loop μ-loop
+slice-write-out-2 c = search last-room
+
+returns : tie.Need-returns Inv-loop μ-loop
+returns c = search last-stored
+
+-- Found by search:
+
 cast-out : tie.Need-cast-out Inv-loop μ-loop
 cast-out c = search needs
 
 add-out : tie.Need-add-out Inv-loop μ-loop
 add-out c = search needs
-
-slice-write-out : tie.Need-slice-write-out Inv-loop μ-loop
-slice-write-out c = search more-room
 
 add-i : tie.Need-add-i Inv-loop μ-loop
 add-i c = search needs
@@ -30,20 +41,11 @@ add-i c = search needs
 loop-less : tie.Need-loop-less Inv-loop μ-loop
 loop-less c = search needs
 
-loop-again : tie.Need-loop-again Inv-loop μ-loop
-loop-again c = search store-more
-
 cast-out-2 : tie.Need-cast-out-2 Inv-loop μ-loop
 cast-out-2 c = search needs
 
-slice-write-out-2 : tie.Need-slice-write-out-2 Inv-loop μ-loop
-slice-write-out-2 c = search last-room
-
 same-length : tie.Need-same-length Inv-loop μ-loop
 same-length c = search needs
-
-returns : tie.Need-returns Inv-loop μ-loop
-returns c = search last-stored
 
 pub write-fitting-spec : {M : Type 1} → statement M
 write-fitting-spec =

@@ -17,6 +17,17 @@ loop-holds c = search count-none
 mul-n : tie.Need-mul-n Inv-loop μ-loop
 mul-n c = search product-fits
 
+add-n : tie.Need-add-n Inv-loop μ-loop
+add-n c = search sum-fits
+
+loop-again : tie.Need-loop-again Inv-loop μ-loop
+loop-again c = search count-more
+
+returns : tie.Need-returns Inv-loop μ-loop
+returns c = search count-all
+
+-- Found by search:
+
 add-wide : tie.Need-add-wide Inv-loop μ-loop
 add-wide c = search needs
 
@@ -26,20 +37,11 @@ shared-slice-read-wide c = search needs
 wide-requires : tie.Need-wide-requires Inv-loop μ-loop
 wide-requires c κs = search needs
 
-add-n : tie.Need-add-n Inv-loop μ-loop
-add-n c = search sum-fits
-
 add-i : tie.Need-add-i Inv-loop μ-loop
 add-i c = search needs
 
 loop-less : tie.Need-loop-less Inv-loop μ-loop
 loop-less c = search needs
-
-loop-again : tie.Need-loop-again Inv-loop μ-loop
-loop-again c = search count-more
-
-returns : tie.Need-returns Inv-loop μ-loop
-returns c = search count-all
 
 pub big-endian-spec : {M : Type 1} → statement M
 big-endian-spec =

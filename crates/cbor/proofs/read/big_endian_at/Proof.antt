@@ -8,20 +8,22 @@ use Rattle.cbor.proofs.read.big_endian_at.Tie as tie
 returns : tie.Need-returns
 returns c = number-cut _ _ _ (omega arith)
 
-sub-if2 : tie.Need-sub-if2
-sub-if2 c = search needs
-
 returns-2 : tie.Need-returns-2
 returns-2 c = number-cut _ _ _ (omega arith)
+
+returns-3 : tie.Need-returns-3
+returns-3 c = number-there _ _ _ (omega arith) _ (search needs)
+
+-- Found by search:
+
+sub-if2 : tie.Need-sub-if2
+sub-if2 c = search needs
 
 big-endian-requires : tie.Need-big-endian-requires
 big-endian-requires c κs = search needs
 
 add-t4 : tie.Need-add-t4
 add-t4 c = search needs
-
-returns-3 : tie.Need-returns-3
-returns-3 c = number-there _ _ _ (omega arith) _ (search needs)
 
 pub big-endian-at-spec : {M : Type 1} → statement M
 big-endian-at-spec =

@@ -5,6 +5,16 @@ use borrow.Author.Needs.{needs}
 use Rattle.cbor.proofs.read.double.Statement.{statement}
 use Rattle.cbor.proofs.read.double.Tie as tie
 
+returns : tie.Need-returns
+unfolding doubleAt
+returns c = search chain depth 12
+
+returns-2 : tie.Need-returns-2
+unfolding doubleAt
+returns-2 c = search chain depth 12
+
+-- Found by search:
+
 one-byte-requires : tie.Need-one-byte-requires
 one-byte-requires c κs = search needs
 
@@ -14,19 +24,11 @@ enum-known-h c = search needs
 enum-told : tie.Need-enum-told
 enum-told c = search needs
 
-step-no-requires : tie.Need-step-no-requires
-step-no-requires c κs = search needs
-
-returns : tie.Need-returns
-unfolding doubleAt
-returns c = search chain depth 12
+no-requires : tie.Need-no-requires
+no-requires c κs = search needs
 
 big-endian-at-requires : tie.Need-big-endian-at-requires
 big-endian-at-requires c κs = search needs
-
-returns-2 : tie.Need-returns-2
-unfolding doubleAt
-returns-2 c = search chain depth 12
 
 pub double-spec : {M : Type 1} → statement M
 double-spec =
@@ -35,7 +37,7 @@ double-spec =
     one-byte-requires
     enum-known-h
     enum-told
-    step-no-requires
+    no-requires
     returns
     big-endian-at-requires
     returns-2)

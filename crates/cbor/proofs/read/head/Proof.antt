@@ -9,6 +9,28 @@ returns : tie.Need-returns
 unfolding headAt
 returns c = search chain depth 24
 
+returns-2 : tie.Need-returns-2
+unfolding headAt
+returns-2 c = search (chain, answered, differed) depth 24
+
+returns-3 : tie.Need-returns-3
+unfolding headAt
+returns-3 c = search (chain, answered, differed) depth 24
+
+returns-4 : tie.Need-returns-4
+unfolding headAt
+returns-4 c = search (chain, answered, differed) depth 24
+
+returns-5 : tie.Need-returns-5
+unfolding headAt
+returns-5 c = search (chain, answered, differed) depth 24
+
+returns-6 : tie.Need-returns-6
+unfolding headAt
+returns-6 c = search (chain, answered, differed) depth 24
+
+-- Found by search:
+
 shared-slice-read-major : tie.Need-shared-slice-read-major
 shared-slice-read-major c = search needs
 
@@ -17,14 +39,6 @@ shared-slice-read-low c = search needs
 
 kind-of-requires : tie.Need-kind-of-requires
 kind-of-requires c κs = search needs
-
-returns-2 : tie.Need-returns-2
-unfolding headAt
-returns-2 c = search (chain, answered, differed) depth 24
-
-returns-3 : tie.Need-returns-3
-unfolding headAt
-returns-3 c = search (chain, answered, differed) depth 24
 
 add-argument : tie.Need-add-argument
 add-argument c = search needs
@@ -38,23 +52,11 @@ enum-known-a c = search needs
 enum-told : tie.Need-enum-told
 enum-told c = search needs
 
-number-no-requires : tie.Need-number-no-requires
-number-no-requires c κs = search needs
-
-returns-4 : tie.Need-returns-4
-unfolding headAt
-returns-4 c = search (chain, answered, differed) depth 24
+no-requires : tie.Need-no-requires
+no-requires c κs = search needs
 
 info-requires : tie.Need-info-requires
 info-requires c κs = search needs
-
-returns-5 : tie.Need-returns-5
-unfolding headAt
-returns-5 c = search (chain, answered, differed) depth 24
-
-returns-6 : tie.Need-returns-6
-unfolding headAt
-returns-6 c = search (chain, answered, differed) depth 24
 
 pub head-spec : {M : Type 1} → statement M
 head-spec =
@@ -70,7 +72,7 @@ head-spec =
     argument-requires
     enum-known-a
     enum-told
-    number-no-requires
+    no-requires
     returns-4
     info-requires
     returns-5

@@ -9,6 +9,16 @@ returns : tie.Need-returns
 unfolding keyAt
 returns c = search chain depth 12
 
+returns-2 : tie.Need-returns-2
+unfolding keyAt
+returns-2 c = search chain depth 12
+
+returns-3 : tie.Need-returns-3
+unfolding keyAt
+returns-3 c = search chain depth 12
+
+-- Found by search:
+
 cast-one-byte : tie.Need-cast-one-byte
 cast-one-byte c = search needs
 
@@ -24,19 +34,11 @@ enum-known-h c = search needs
 enum-told : tie.Need-enum-told
 enum-told c = search needs
 
-step-no-requires : tie.Need-step-no-requires
-step-no-requires c κs = search needs
-
-returns-2 : tie.Need-returns-2
-unfolding keyAt
-returns-2 c = search chain depth 12
+no-requires : tie.Need-no-requires
+no-requires c κs = search needs
 
 name-requires : tie.Need-name-requires
 name-requires c κs = search needs
-
-returns-3 : tie.Need-returns-3
-unfolding keyAt
-returns-3 c = search chain depth 12
 
 pub key-spec : {M : Type 1} → statement M
 key-spec =
@@ -48,7 +50,7 @@ key-spec =
     one-byte-requires
     enum-known-h
     enum-told
-    step-no-requires
+    no-requires
     returns-2
     name-requires
     returns-3)

@@ -8,11 +8,19 @@ use Rattle.cbor.proofs.read.name.Tie as tie
 returns : tie.Need-returns
 returns c = name-cut _ _ _ (omega arith)
 
-sub-if2 : tie.Need-sub-if2
-sub-if2 c = search needs
-
 returns-2 : tie.Need-returns-2
 returns-2 c = name-cut _ _ _ (omega arith)
+
+returns-3 : tie.Need-returns-3
+returns-3 c = name-there _ _ _ (omega arith) _ (c .before .equal .ensures) (c .if3 .taken)
+
+returns-4 : tie.Need-returns-4
+returns-4 c = name-other _ _ _ (omega arith) _ (c .before .equal .ensures) (c .if3 .left)
+
+-- Found by search:
+
+sub-if2 : tie.Need-sub-if2
+sub-if2 c = search needs
 
 add-end : tie.Need-add-end
 add-end c = search needs
@@ -28,12 +36,6 @@ part-equal-end c = search needs
 
 equal-requires : tie.Need-equal-requires
 equal-requires c κs = search needs
-
-returns-3 : tie.Need-returns-3
-returns-3 c = name-there _ _ _ (omega arith) _ (c .before .equal .ensures) (c .if3 .taken)
-
-returns-4 : tie.Need-returns-4
-returns-4 c = name-other _ _ _ (omega arith) _ (c .before .equal .ensures) (c .if3 .left)
 
 pub name-spec : {M : Type 1} → statement M
 name-spec =

@@ -5,18 +5,6 @@ use borrow.Author.Needs.{needs}
 use Rattle.cbor.proofs.read.number.Statement.{statement}
 use Rattle.cbor.proofs.read.number.Tie as tie
 
-head-requires : tie.Need-head-requires
-head-requires c κs = search needs
-
-enum-known-h : tie.Need-enum-known-h
-enum-known-h c = search needs
-
-enum-told : tie.Need-enum-told
-enum-told c = search needs
-
-head-no-requires : tie.Need-head-no-requires
-head-no-requires c κs = search needs
-
 returns : tie.Need-returns
 unfolding numberAt
 returns c = search chain depth 24
@@ -37,6 +25,20 @@ returns-5 : tie.Need-returns-5
 unfolding numberAt
 returns-5 c = search chain depth 24
 
+-- Found by search:
+
+head-requires : tie.Need-head-requires
+head-requires c κs = search needs
+
+enum-known-h : tie.Need-enum-known-h
+enum-known-h c = search needs
+
+enum-told : tie.Need-enum-told
+enum-told c = search needs
+
+no-requires : tie.Need-no-requires
+no-requires c κs = search needs
+
 pub number-spec : {M : Type 1} → statement M
 number-spec =
     tie.close
@@ -44,7 +46,7 @@ number-spec =
     head-requires
     enum-known-h
     enum-told
-    head-no-requires
+    no-requires
     returns
     returns-2
     returns-3

@@ -5,6 +5,16 @@ use borrow.Author.Needs.{needs}
 use Rattle.cbor.proofs.read.number_field.Statement.{statement}
 use Rattle.cbor.proofs.read.number_field.Tie as tie
 
+returns : tie.Need-returns
+unfolding numberFieldAt
+returns c = search chain depth 12
+
+returns-2 : tie.Need-returns-2
+unfolding numberFieldAt
+returns-2 c = search chain depth 12
+
+-- Found by search:
+
 key-requires : tie.Need-key-requires
 key-requires c κs = search needs
 
@@ -14,19 +24,11 @@ enum-known-k c = search needs
 enum-told : tie.Need-enum-told
 enum-told c = search needs
 
-step-no-requires : tie.Need-step-no-requires
-step-no-requires c κs = search needs
-
-returns : tie.Need-returns
-unfolding numberFieldAt
-returns c = search chain depth 12
+no-requires : tie.Need-no-requires
+no-requires c κs = search needs
 
 number-requires : tie.Need-number-requires
 number-requires c κs = search needs
-
-returns-2 : tie.Need-returns-2
-unfolding numberFieldAt
-returns-2 c = search chain depth 12
 
 pub number-field-spec : {M : Type 1} → statement M
 number-field-spec =
@@ -35,7 +37,7 @@ number-field-spec =
     key-requires
     enum-known-k
     enum-told
-    step-no-requires
+    no-requires
     returns
     number-requires
     returns-2)

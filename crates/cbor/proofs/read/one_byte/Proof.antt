@@ -9,19 +9,21 @@ returns : tie.Need-returns
 unfolding oneAt
 returns c = search branch depth 12
 
-shared-slice-read-if2 : tie.Need-shared-slice-read-if2
-shared-slice-read-if2 c = search needs
-
 returns-2 : tie.Need-returns-2
 unfolding oneAt
 returns-2 c = search branch depth 12
 
-add-t4 : tie.Need-add-t4
-add-t4 c = search needs
-
 returns-3 : tie.Need-returns-3
 unfolding oneAt
 returns-3 c = search branch depth 12
+
+-- Found by search:
+
+shared-slice-read-if2 : tie.Need-shared-slice-read-if2
+shared-slice-read-if2 c = search needs
+
+add-t4 : tie.Need-add-t4
+add-t4 c = search needs
 
 pub one-byte-spec : {M : Type 1} → statement M
 one-byte-spec = tie.close (tie.spec returns shared-slice-read-if2 returns-2 add-t4 returns-3)

@@ -5,6 +5,16 @@ use borrow.Author.Needs.{needs}
 use Rattle.cbor.proofs.read.string.Statement.{statement}
 use Rattle.cbor.proofs.read.string.Tie as tie
 
+returns : tie.Need-returns
+unfolding stringAt
+returns c = search chain depth 12
+
+returns-2 : tie.Need-returns-2
+unfolding stringAt
+returns-2 c = search chain depth 12
+
+-- Found by search:
+
 number-requires : tie.Need-number-requires
 number-requires c κs = search needs
 
@@ -14,19 +24,11 @@ enum-known-h c = search needs
 enum-told : tie.Need-enum-told
 enum-told c = search needs
 
-number-no-requires : tie.Need-number-no-requires
-number-no-requires c κs = search needs
-
-returns : tie.Need-returns
-unfolding stringAt
-returns c = search chain depth 12
+no-requires : tie.Need-no-requires
+no-requires c κs = search needs
 
 contents-requires : tie.Need-contents-requires
 contents-requires c κs = search needs
-
-returns-2 : tie.Need-returns-2
-unfolding stringAt
-returns-2 c = search chain depth 12
 
 pub string-spec : {M : Type 1} → statement M
 string-spec =
@@ -35,7 +37,7 @@ string-spec =
     number-requires
     enum-known-h
     enum-told
-    number-no-requires
+    no-requires
     returns
     contents-requires
     returns-2)

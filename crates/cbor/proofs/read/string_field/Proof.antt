@@ -5,6 +5,16 @@ use borrow.Author.Needs.{needs}
 use Rattle.cbor.proofs.read.string_field.Statement.{statement}
 use Rattle.cbor.proofs.read.string_field.Tie as tie
 
+returns : tie.Need-returns
+unfolding stringFieldAt
+returns c = search chain depth 12
+
+returns-2 : tie.Need-returns-2
+unfolding stringFieldAt
+returns-2 c = search chain depth 12
+
+-- Found by search:
+
 key-requires : tie.Need-key-requires
 key-requires c κs = search needs
 
@@ -14,19 +24,11 @@ enum-known-k c = search needs
 enum-told : tie.Need-enum-told
 enum-told c = search needs
 
-step-no-requires : tie.Need-step-no-requires
-step-no-requires c κs = search needs
-
-returns : tie.Need-returns
-unfolding stringFieldAt
-returns c = search chain depth 12
+no-requires : tie.Need-no-requires
+no-requires c κs = search needs
 
 string-requires : tie.Need-string-requires
 string-requires c κs = search needs
-
-returns-2 : tie.Need-returns-2
-unfolding stringFieldAt
-returns-2 c = search chain depth 12
 
 pub string-field-spec : {M : Type 1} → statement M
 string-field-spec =
@@ -35,7 +37,7 @@ string-field-spec =
     key-requires
     enum-known-k
     enum-told
-    step-no-requires
+    no-requires
     returns
     string-requires
     returns-2)

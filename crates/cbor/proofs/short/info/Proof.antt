@@ -5,9 +5,6 @@ use borrow.Author.Needs.{needs}
 use Rattle.cbor.proofs.short.info.Statement.{statement}
 use Rattle.cbor.proofs.short.info.Tie as tie
 
-cast-result : tie.Need-cast-result
-cast-result c = search needs
-
 returns : tie.Need-returns
 unfolding infoOf
 returns c = (search branch depth 12, search needs)
@@ -27,6 +24,11 @@ returns-4 c = (search branch depth 12, search needs)
 returns-5 : tie.Need-returns-5
 unfolding infoOf
 returns-5 c = (search branch depth 12, search needs)
+
+-- Found by search:
+
+cast-result : tie.Need-cast-result
+cast-result c = search needs
 
 pub info-spec : {M : Type 1} → statement M
 info-spec = tie.close (tie.spec cast-result returns returns-2 returns-3 returns-4 returns-5)

@@ -14,6 +14,14 @@ abbrev μ-loop : tie.MeasureT-loop
 loop-holds : tie.Need-loop-holds Inv-loop μ-loop
 loop-holds c = search store-none
 
+loop-again : tie.Need-loop-again Inv-loop μ-loop
+loop-again c = search store-more
+
+returns : tie.Need-returns Inv-loop μ-loop
+returns c = search store-all
+
+-- Found by search:
+
 sub-out : tie.Need-sub-out Inv-loop μ-loop
 sub-out c = search needs
 
@@ -41,14 +49,8 @@ add-i c = search needs
 loop-less : tie.Need-loop-less Inv-loop μ-loop
 loop-less c = search needs
 
-loop-again : tie.Need-loop-again Inv-loop μ-loop
-loop-again c = search store-more
-
 same-length : tie.Need-same-length Inv-loop μ-loop
 same-length c = search needs
-
-returns : tie.Need-returns Inv-loop μ-loop
-returns c = search store-all
 
 pub big-endian-spec : {M : Type 1} → statement M
 big-endian-spec =

@@ -4,11 +4,16 @@ use borrow.Author.Needs.{needs}
 use Rattle.cbor.proofs.write.double.Statement.{statement}
 use Rattle.cbor.proofs.write.double.Tie as tie
 
-room-requires : tie.Need-room-requires
-room-requires c κs = search needs
-
 returns : tie.Need-returns
 returns c = search double-none
+
+returns-2 : tie.Need-returns-2
+returns-2 c = search double-done
+
+-- Found by search:
+
+room-requires : tie.Need-room-requires
+room-requires c κs = search needs
 
 put-requires : tie.Need-put-requires
 put-requires c κs = search needs
@@ -24,9 +29,6 @@ add-result c = search needs
 
 same-length : tie.Need-same-length
 same-length c = search needs
-
-returns-2 : tie.Need-returns-2
-returns-2 c = search double-done
 
 pub double-spec : {M : Type 1} → statement M
 double-spec =

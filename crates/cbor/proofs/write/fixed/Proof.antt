@@ -4,11 +4,16 @@ use borrow.Author.Needs.{needs}
 use Rattle.cbor.proofs.write.fixed.Statement.{statement}
 use Rattle.cbor.proofs.write.fixed.Tie as tie
 
-room-requires : tie.Need-room-requires
-room-requires c κs = search needs
-
 returns : tie.Need-returns
 returns c = search fixed-none
+
+returns-2 : tie.Need-returns-2
+returns-2 c = search fixed-done
+
+-- Found by search:
+
+room-requires : tie.Need-room-requires
+room-requires c κs = search needs
 
 copy-requires : tie.Need-copy-requires
 copy-requires c κs = search needs
@@ -18,9 +23,6 @@ add-result c = search needs
 
 same-length : tie.Need-same-length
 same-length c = search needs
-
-returns-2 : tie.Need-returns-2
-returns-2 c = search fixed-done
 
 pub fixed-spec : {M : Type 1} → statement M
 fixed-spec =

@@ -4,6 +4,14 @@ use borrow.Author.Needs.{needs}
 use Rattle.cbor.proofs.write.head.Statement.{statement}
 use Rattle.cbor.proofs.write.head.Tie as tie
 
+returns : tie.Need-returns
+returns c = search head-none
+
+returns-2 : tie.Need-returns-2
+returns-2 c = search head-done
+
+-- Found by search:
+
 following-requires : tie.Need-following-requires
 following-requires c κs = search needs
 
@@ -12,9 +20,6 @@ room-requires c κs = search needs
 
 add-if1 : tie.Need-add-if1
 add-if1 c = search needs
-
-returns : tie.Need-returns
-returns c = search head-none
 
 mul-put : tie.Need-mul-put
 mul-put c = search needs
@@ -42,9 +47,6 @@ add-result-2 c = search needs
 
 same-length : tie.Need-same-length
 same-length c = search needs
-
-returns-2 : tie.Need-returns-2
-returns-2 c = search head-done
 
 pub head-spec : {M : Type 1} → statement M
 head-spec =

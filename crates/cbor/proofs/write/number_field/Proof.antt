@@ -4,20 +4,25 @@ use borrow.Author.Needs.{needs}
 use Rattle.cbor.proofs.write.number_field.Statement.{statement}
 use Rattle.cbor.proofs.write.number_field.Tie as tie
 
+returns : tie.Need-returns
+returns c = search number-field-none
+
+returns-2 : tie.Need-returns-2
+returns-2 c = search number-field-none-later
+
+returns-3 : tie.Need-returns-3
+returns-3 c = search number-field-done
+
+-- Found by search:
+
 room-requires : tie.Need-room-requires
 room-requires c κs = search needs
 
 string-size-requires : tie.Need-string-size-requires
 string-size-requires c κs = search needs
 
-returns : tie.Need-returns
-returns c = search number-field-none
-
 size-requires : tie.Need-size-requires
 size-requires c κs = search needs
-
-returns-2 : tie.Need-returns-2
-returns-2 c = search number-field-none-later
 
 string-requires : tie.Need-string-requires
 string-requires c κs = search needs
@@ -27,9 +32,6 @@ head-requires c κs = search needs
 
 same-length : tie.Need-same-length
 same-length c = search needs
-
-returns-3 : tie.Need-returns-3
-returns-3 c = search number-field-done
 
 pub number-field-spec : {M : Type 1} → statement M
 number-field-spec =

@@ -4,14 +4,22 @@ use borrow.Author.Needs.{needs}
 use Rattle.cbor.proofs.write.string.Statement.{statement}
 use Rattle.cbor.proofs.write.string.Tie as tie
 
+returns : tie.Need-returns
+returns c = search string-none
+
+add-result : tie.Need-add-result
+add-result c = search string-next
+
+returns-2 : tie.Need-returns-2
+returns-2 c = search string-done
+
+-- Found by search:
+
 room-requires : tie.Need-room-requires
 room-requires c κs = search needs
 
 string-size-requires : tie.Need-string-size-requires
 string-size-requires c κs = search needs
-
-returns : tie.Need-returns
-returns c = search string-none
 
 head-requires : tie.Need-head-requires
 head-requires c κs = search needs
@@ -19,14 +27,8 @@ head-requires c κs = search needs
 copy-requires : tie.Need-copy-requires
 copy-requires c κs = search needs
 
-add-result : tie.Need-add-result
-add-result c = search string-next
-
 same-length : tie.Need-same-length
 same-length c = search needs
-
-returns-2 : tie.Need-returns-2
-returns-2 c = search string-done
 
 pub string-spec : {M : Type 1} → statement M
 string-spec =

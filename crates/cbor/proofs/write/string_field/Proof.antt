@@ -4,20 +4,25 @@ use borrow.Author.Needs.{needs}
 use Rattle.cbor.proofs.write.string_field.Statement.{statement}
 use Rattle.cbor.proofs.write.string_field.Tie as tie
 
+returns : tie.Need-returns
+returns c = search string-field-none
+
+returns-2 : tie.Need-returns-2
+returns-2 c = search string-field-none-later
+
+returns-3 : tie.Need-returns-3
+returns-3 c = search string-field-done
+
+-- Found by search:
+
 room-requires : tie.Need-room-requires
 room-requires c κs = search needs
 
 string-size-requires : tie.Need-string-size-requires
 string-size-requires c κs = search needs
 
-returns : tie.Need-returns
-returns c = search string-field-none
-
 string-size-requires-2 : tie.Need-string-size-requires-2
 string-size-requires-2 c κs = search needs
-
-returns-2 : tie.Need-returns-2
-returns-2 c = search string-field-none-later
 
 string-requires : tie.Need-string-requires
 string-requires c κs = search needs
@@ -27,9 +32,6 @@ string-requires-2 c κs = search needs
 
 same-length : tie.Need-same-length
 same-length c = search needs
-
-returns-3 : tie.Need-returns-3
-returns-3 c = search string-field-done
 
 pub string-field-spec : {M : Type 1} → statement M
 string-field-spec =

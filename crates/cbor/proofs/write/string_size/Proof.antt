@@ -6,11 +6,13 @@ use borrow.Author.Needs.{needs}
 use Rattle.cbor.proofs.write.string_size.Statement.{statement}
 use Rattle.cbor.proofs.write.string_size.Tie as tie
 
-size-requires : tie.Need-size-requires
-size-requires c κs = search needs
-
 add-result : tie.Need-add-result
 add-result c = omega (arith, size-most (length (c .before .before .args .bs .now)))
+
+-- Found by search:
+
+size-requires : tie.Need-size-requires
+size-requires c κs = search needs
 
 returns : tie.Need-returns
 returns c = search needs

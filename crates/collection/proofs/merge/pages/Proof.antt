@@ -15,11 +15,19 @@ abbrev μ-loop : tie.MeasureT-loop
 loop-holds : tie.Need-loop-holds Inv-loop μ-loop
 loop-holds c = search join-start
 
-place-requires : tie.Need-place-requires Inv-loop μ-loop
-place-requires c κs = search needs
-
 slot-requires : tie.Need-slot-requires Inv-loop μ-loop
 slot-requires c κs = search join-block
+
+loop-again : tie.Need-loop-again Inv-loop μ-loop
+loop-again c = search join-on
+
+returns : tie.Need-returns Inv-loop μ-loop
+returns c = search join-end
+
+-- Found by search:
+
+place-requires : tie.Need-place-requires Inv-loop μ-loop
+place-requires c κs = search needs
 
 add-k : tie.Need-add-k Inv-loop μ-loop
 add-k c = search needs
@@ -27,14 +35,8 @@ add-k c = search needs
 loop-less : tie.Need-loop-less Inv-loop μ-loop
 loop-less c = omega arith
 
-loop-again : tie.Need-loop-again Inv-loop μ-loop
-loop-again c = search join-on
-
 same-length : tie.Need-same-length Inv-loop μ-loop
 same-length c = search needs
-
-returns : tie.Need-returns Inv-loop μ-loop
-returns c = search join-end
 
 pub pages-spec : {M : Type 1} → statement M
 pages-spec =

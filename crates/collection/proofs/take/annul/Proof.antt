@@ -15,11 +15,19 @@ abbrev μ-loop : tie.MeasureT-loop
 loop-holds : tie.Need-loop-holds Inv-loop μ-loop
 loop-holds c = search clear-start
 
-place-requires : tie.Need-place-requires Inv-loop μ-loop
-place-requires c κs = search needs
-
 vacate-requires : tie.Need-vacate-requires Inv-loop μ-loop
 vacate-requires c κs = search clear-block
+
+loop-again : tie.Need-loop-again Inv-loop μ-loop
+loop-again c = search clear-on
+
+returns : tie.Need-returns Inv-loop μ-loop
+returns c = search clear-end
+
+-- Found by search:
+
+place-requires : tie.Need-place-requires Inv-loop μ-loop
+place-requires c κs = search needs
 
 add-k : tie.Need-add-k Inv-loop μ-loop
 add-k c = search needs
@@ -27,17 +35,11 @@ add-k c = search needs
 loop-less : tie.Need-loop-less Inv-loop μ-loop
 loop-less c = omega arith
 
-loop-again : tie.Need-loop-again Inv-loop μ-loop
-loop-again c = search clear-on
-
 write-head-requires : tie.Need-write-head-requires Inv-loop μ-loop
 write-head-requires c κs = search needs
 
 same-length : tie.Need-same-length Inv-loop μ-loop
 same-length c = search needs
-
-returns : tie.Need-returns Inv-loop μ-loop
-returns c = search clear-end
 
 pub annul-spec : {M : Type 1} → statement M
 annul-spec =

@@ -4,6 +4,20 @@ use Rattle.collection.proofs.Blocks.{offered-first, offered-more, offer
 use Rattle.collection.proofs.take.slot.Statement.{statement}
 use Rattle.collection.proofs.take.slot.Tie as tie
 
+returns : tie.Need-returns
+returns c = search offered-first
+
+returns-2 : tie.Need-returns-2
+returns-2 c = search offered-more
+
+returns-3 : tie.Need-returns-3
+returns-3 c = search offered-same
+
+returns-4 : tie.Need-returns-4
+returns-4 c = search offered-other
+
+-- Found by search:
+
 state-requires : tie.Need-state-requires
 state-requires c κs = search needs
 
@@ -13,14 +27,8 @@ hold-requires c κs = search needs
 same-length : tie.Need-same-length
 same-length c = search needs
 
-returns : tie.Need-returns
-returns c = search offered-first
-
 same-length-2 : tie.Need-same-length-2
 same-length-2 c = search needs
-
-returns-2 : tie.Need-returns-2
-returns-2 c = search offered-more
 
 holds-requires : tie.Need-holds-requires
 holds-requires c κs = search needs
@@ -28,17 +36,11 @@ holds-requires c κs = search needs
 same-length-3 : tie.Need-same-length-3
 same-length-3 c = search needs
 
-returns-3 : tie.Need-returns-3
-returns-3 c = search offered-same
-
 dispute-requires : tie.Need-dispute-requires
 dispute-requires c κs = search needs
 
 same-length-4 : tie.Need-same-length-4
 same-length-4 c = search needs
-
-returns-4 : tie.Need-returns-4
-returns-4 c = search offered-other
 
 pub slot-spec : {M : Type 1} → statement M
 slot-spec =

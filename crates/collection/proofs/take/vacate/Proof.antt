@@ -4,6 +4,11 @@ use Rattle.collection.proofs.Blocks.{absent-stays}
 use Rattle.collection.proofs.take.vacate.Statement.{statement}
 use Rattle.collection.proofs.take.vacate.Tie as tie
 
+returns-2 : tie.Need-returns-2
+returns-2 c = search absent-stays
+
+-- Found by search:
+
 state-requires : tie.Need-state-requires
 state-requires c κs = search needs
 
@@ -18,9 +23,6 @@ returns c = search needs
 
 same-length-2 : tie.Need-same-length-2
 same-length-2 c = search needs
-
-returns-2 : tie.Need-returns-2
-returns-2 c = search absent-stays
 
 pub vacate-spec : {M : Type 1} → statement M
 vacate-spec =

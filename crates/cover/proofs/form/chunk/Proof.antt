@@ -1,27 +1,14 @@
 -- `cover::form::chunk` meets its contract: two writes in a row are one. Assumes nothing.
-use native.Mathlib.Omega.{arith}
-use Rattle.cover.proofs.Laying.{chunk-length, chunk-laid}
+use Rattle.cover.proofs.Laying.{start-fits, end-fits, chunk-laid}
 use borrow.Author.Needs.{needs}
 use Rattle.cover.proofs.form.chunk.Statement.{statement}
 use Rattle.cover.proofs.form.chunk.Tie as tie
 
-write-requires : tie.Need-write-requires
-write-requires c κs = search needs
-
-size-requires : tie.Need-size-requires
-size-requires c κs = search needs
-
 add-start : tie.Need-add-start
-add-start c = omega (arith, chunk-length (c .before .before .before .before .before .before .before .args .bs .now))
-
-copy-requires : tie.Need-copy-requires
-copy-requires c κs = search needs
+add-start c = search start-fits
 
 add-result : tie.Need-add-result
-add-result c = omega (arith, chunk-length (c .before .before .before .before .before .before .before .before .before .before .before .args .bs .now))
-
-same-length : tie.Need-same-length
-same-length c = search needs
+add-result c = search end-fits
 
 returns : tie.Need-returns
 returns c =
@@ -29,6 +16,20 @@ returns c =
     let sized = copied .before .before in
     let wrote = sized .before .before .before in
     chunk-laid _ _ _ _ _ _ (wrote .before .before .before .before .pre) (wrote .write .ensures) (sized .size .ensures) (copied .copy .ensures)
+
+-- Found by search:
+
+write-requires : tie.Need-write-requires
+write-requires c κs = search needs
+
+size-requires : tie.Need-size-requires
+size-requires c κs = search needs
+
+copy-requires : tie.Need-copy-requires
+copy-requires c κs = search needs
+
+same-length : tie.Need-same-length
+same-length c = search needs
 
 pub chunk-spec : {M : Type 1} → statement M
 chunk-spec =

@@ -5,20 +5,18 @@ use borrow.Author.Needs.{needs}
 use Rattle.cover.proofs.form.lay_fitting.Statement.{statement}
 use Rattle.cover.proofs.form.lay_fitting.Tie as tie
 
-slice-aggregate-lay : tie.Need-slice-aggregate-lay
-slice-aggregate-lay c = search needs
-
-lay-requires : tie.Need-lay-requires
-lay-requires c κs = search needs
-
 chunk-requires : tie.Need-chunk-requires
-chunk-requires c κs = let a = c .before .before .before .before .before .before .before .before .before .args in omega (arith, cover-length (a .manifest .now) (a .payload .now))
+chunk-requires c κs =
+    let halfway = c .before .before .before .before .before .before in
+    let a = halfway .before .before .before .args in
+    omega (arith, cover-length (a .manifest .now) (a .payload .now))
 
 chunk-requires-2 : tie.Need-chunk-requires-2
-chunk-requires-2 c κs = let a = c .before .before .before .before .before .before .before .before .before .before .before .before .before .args in omega (arith, cover-length (a .manifest .now) (a .payload .now))
-
-same-length : tie.Need-same-length
-same-length c = search needs
+chunk-requires-2 c κs =
+    let halfway = c .before .before .before .before .before .before in
+    let earlier = halfway .before .before .before .before .before .before in
+    let a = earlier .before .args in
+    omega (arith, cover-length (a .manifest .now) (a .payload .now))
 
 returns : tie.Need-returns
 returns c =
@@ -26,6 +24,17 @@ returns c =
     let second = third .before .before .before .before in
     let first = second .before .before .before .before in
     cover-laid _ _ _ (first .before .before .before .before .before .before .pre) _ _ _ _ _ (first .lay .ensures) (second .chunk .ensures) (third .chunk2 .ensures)
+
+-- Found by search:
+
+slice-aggregate-lay : tie.Need-slice-aggregate-lay
+slice-aggregate-lay c = search needs
+
+lay-requires : tie.Need-lay-requires
+lay-requires c κs = search needs
+
+same-length : tie.Need-same-length
+same-length c = search needs
 
 pub lay-fitting-spec : {M : Type 1} → statement M
 lay-fitting-spec =

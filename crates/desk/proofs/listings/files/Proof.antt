@@ -10,6 +10,8 @@ Inv-loop s count out₀ at v next₀ i₀ out next i = i ≤ 64
 abbrev μ-loop : tie.MeasureT-loop
 μ-loop s count out₀ at v next₀ i₀ out next i = 64 - i
 
+-- Found by search:
+
 loop-holds : tie.Need-loop-holds Inv-loop μ-loop
 loop-holds c = search needs
 

@@ -12,6 +12,8 @@ Inv-loop input₀ at n i₀ input i = length input ≡ length input₀
 abbrev μ-loop : tie.MeasureT-loop
 μ-loop input₀ at n i₀ input i = n - i
 
+-- Found by search:
+
 loop-holds : tie.Need-loop-holds Inv-loop μ-loop
 loop-holds c = search needs
 

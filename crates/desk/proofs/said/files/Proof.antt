@@ -10,6 +10,8 @@ Inv-loop line starts all₀ i₀ all i = i ≤ 64
 abbrev μ-loop : tie.MeasureT-loop
 μ-loop line starts all₀ i₀ all i = 64 - i
 
+-- Found by search:
+
 blank-requires : tie.Need-blank-requires Inv-loop μ-loop
 blank-requires c κs = search needs
 

@@ -11,6 +11,8 @@ Inv-loop word n₀ i₀ n i = i ≤ length word
 abbrev μ-loop : tie.MeasureT-loop
 μ-loop word n₀ i₀ n i = length word - i
 
+-- Found by search:
+
 returns : tie.Need-returns Inv-loop μ-loop
 returns c = search needs
 

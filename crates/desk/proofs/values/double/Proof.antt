@@ -1,27 +1,31 @@
--- Safe and ending: the index stays within the digits, and what is left of them falls.
+-- Safe and ending: each turn takes the next of the eight bytes.
 use Prim.Native.Nat.{_≤_, _-_}
 use borrow.Author.Needs.{needs}
-use lib.ListN.{length}
 use Rattle.desk.proofs.values.double.Statement.{statement}
 use Rattle.desk.proofs.values.double.Tie as tie
 
 abbrev Inv-loop : tie.InvT-loop
-Inv-loop digits n₀ i₀ n i = i ≤ length digits
+Inv-loop word eight n₀ i₀ n i = i ≤ 8
 
 abbrev μ-loop : tie.MeasureT-loop
-μ-loop digits n₀ i₀ n i = length digits - i
+μ-loop word eight n₀ i₀ n i = 8 - i
+
+-- Found by search:
+
+slice-aggregate-hex-read : tie.Need-slice-aggregate-hex-read Inv-loop μ-loop
+slice-aggregate-hex-read c = search needs
+
+hex-read-requires : tie.Need-hex-read-requires Inv-loop μ-loop
+hex-read-requires c κs = search needs
 
 loop-holds : tie.Need-loop-holds Inv-loop μ-loop
 loop-holds c = search needs
 
-shared-slice-read-digit : tie.Need-shared-slice-read-digit Inv-loop μ-loop
-shared-slice-read-digit c = search needs
+array-read-behind : tie.Need-array-read-behind Inv-loop μ-loop
+array-read-behind c = search needs
 
-digit-requires : tie.Need-digit-requires Inv-loop μ-loop
-digit-requires c κs = search needs
-
-longer-hex-requires : tie.Need-longer-hex-requires Inv-loop μ-loop
-longer-hex-requires c κs = search needs
+behind-requires : tie.Need-behind-requires Inv-loop μ-loop
+behind-requires c κs = search needs
 
 add-i : tie.Need-add-i Inv-loop μ-loop
 add-i c = search needs
@@ -41,10 +45,11 @@ double-spec =
     (tie.spec
     Inv-loop
     μ-loop
+    slice-aggregate-hex-read
+    hex-read-requires
     loop-holds
-    shared-slice-read-digit
-    digit-requires
-    longer-hex-requires
+    array-read-behind
+    behind-requires
     add-i
     loop-less
     loop-again

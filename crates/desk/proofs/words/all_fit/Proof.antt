@@ -11,6 +11,8 @@ Inv-loop line starts form k₀ k = k ≤ length form
 abbrev μ-loop : tie.MeasureT-loop
 μ-loop line starts form k₀ k = length form - k
 
+-- Found by search:
+
 loop-holds : tie.Need-loop-holds Inv-loop μ-loop
 loop-holds c = search needs
 

@@ -12,6 +12,8 @@ Inv-loop line starts pool₀ k₀ pool k = length pool ≡ length pool₀
 abbrev μ-loop : tie.MeasureT-loop
 μ-loop line starts pool₀ k₀ pool k = length starts - k
 
+-- Found by search:
+
 loop-holds : tie.Need-loop-holds Inv-loop μ-loop
 loop-holds c = search needs
 

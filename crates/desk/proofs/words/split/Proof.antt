@@ -12,6 +12,8 @@ Inv-loop line starts₀ n₀ i₀ starts n i = (i ≤ length line) × (length st
 abbrev μ-loop : tie.MeasureT-loop
 μ-loop line starts₀ n₀ i₀ starts n i = length line - i
 
+-- Found by search:
+
 loop-holds : tie.Need-loop-holds Inv-loop μ-loop
 loop-holds c = search needs
 

@@ -11,6 +11,8 @@ Inv-loop line starts table n₀ at₀ n at = n ≤ at + 1
 abbrev μ-loop : tie.MeasureT-loop
 μ-loop line starts table n₀ at₀ n at = length table - at
 
+-- Found by search:
+
 loop-holds : tie.Need-loop-holds Inv-loop μ-loop
 loop-holds c = search needs
 

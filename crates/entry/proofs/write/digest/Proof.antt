@@ -6,9 +6,6 @@ use borrow.Author.Needs.{needs}
 use Rattle.entry.proofs.write.digest.Statement.{statement}
 use Rattle.entry.proofs.write.digest.Tie as tie
 
-holds-requires : tie.Need-holds-requires
-holds-requires c κs = search needs
-
 returns : tie.Need-returns
 unfolding digestIn
 returns c = search (and-off, said-no)
@@ -16,6 +13,11 @@ returns c = search (and-off, said-no)
 returns-2 : tie.Need-returns-2
 unfolding digestIn
 returns-2 c = search (and-on, said-yes)
+
+-- Found by search:
+
+holds-requires : tie.Need-holds-requires
+holds-requires c κs = search needs
 
 pub digest-spec : {M : Type 1} → statement M
 digest-spec = tie.close (tie.spec holds-requires returns returns-2)

@@ -4,6 +4,23 @@ use borrow.Author.Needs.{needs}
 use Rattle.entry.proofs.write.file.Statement.{statement}
 use Rattle.entry.proofs.write.file.Tie as tie
 
+returns : tie.Need-returns
+returns c = search put-refused
+
+returns-2 : tie.Need-returns-2
+returns-2 c = search put-outside
+
+returns-3 : tie.Need-returns-3
+returns-3 c = search put-short
+
+file-fitting-requires : tie.Need-file-fitting-requires
+file-fitting-requires c κs = search file-room
+
+returns-4 : tie.Need-returns-4
+returns-4 c = search file-put
+
+-- Found by search:
+
 judge-requires : tie.Need-judge-requires
 judge-requires c κs = search needs
 
@@ -13,26 +30,11 @@ enum-known-j c = search needs
 enum-told : tie.Need-enum-told
 enum-told c = search needs
 
-returns : tie.Need-returns
-returns c = search put-refused
-
-returns-2 : tie.Need-returns-2
-returns-2 c = search put-outside
-
 sub-if2 : tie.Need-sub-if2
 sub-if2 c = search needs
 
-returns-3 : tie.Need-returns-3
-returns-3 c = search put-short
-
-file-fitting-requires : tie.Need-file-fitting-requires
-file-fitting-requires c κs = search file-room
-
 same-length : tie.Need-same-length
 same-length c = search needs
-
-returns-4 : tie.Need-returns-4
-returns-4 c = search file-put
 
 pub file-spec : {M : Type 1} → statement M
 file-spec =

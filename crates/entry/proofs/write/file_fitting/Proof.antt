@@ -4,6 +4,21 @@ use borrow.Author.Needs.{needs}
 use Rattle.entry.proofs.write.file_fitting.Statement.{statement}
 use Rattle.entry.proofs.write.file_fitting.Tie as tie
 
+mtime-fitting-requires : tie.Need-mtime-fitting-requires
+mtime-fitting-requires c κs = search run-room
+
+returns : tie.Need-returns
+returns c =
+    let e = c .before .before in
+    let d = e .before .before .before .before in
+    let b = d .before .before .before .before .before in
+    let a = b .before .before .before .before .before .before in
+    let f = a .before .before .before .before .before .before in
+    let s = f .before .before .before .before .before .before in
+    run-done _ _ _ _ (s .before .pre) _ _ (a .before .part .ensures) (b .before .part2 .ensures) _ _ _ _ _ _ _ _ (f .fixed .ensures) (a .string-field .ensures) (b .string-field2 .ensures) (d .number-field .ensures) _ _ (e .mtime-fitting .ensures)
+
+-- Found by search:
+
 slice-aggregate-fixed : tie.Need-slice-aggregate-fixed
 slice-aggregate-fixed c = search needs
 
@@ -34,21 +49,8 @@ slice-aggregate-number-field c = search needs
 number-field-requires : tie.Need-number-field-requires
 number-field-requires c κs = search needs
 
-mtime-fitting-requires : tie.Need-mtime-fitting-requires
-mtime-fitting-requires c κs = search run-room
-
 same-length : tie.Need-same-length
 same-length c = search needs
-
-returns : tie.Need-returns
-returns c =
-    let e = c .before .before in
-    let d = e .before .before .before .before in
-    let b = d .before .before .before .before .before in
-    let a = b .before .before .before .before .before .before in
-    let f = a .before .before .before .before .before .before in
-    let s = f .before .before .before .before .before .before .before in
-    run-done _ _ _ _ (s .pre) _ _ (a .before .part .ensures) (b .before .part2 .ensures) _ _ _ _ _ _ _ _ (f .fixed .ensures) (a .string-field .ensures) (b .string-field2 .ensures) (d .number-field .ensures) _ _ (e .mtime-fitting .ensures)
 
 pub file-fitting-spec : {M : Type 1} → statement M
 file-fitting-spec =

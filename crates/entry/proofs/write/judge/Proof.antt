@@ -6,15 +6,9 @@ use borrow.Author.Needs.{needs}
 use Rattle.entry.proofs.write.judge.Statement.{statement}
 use Rattle.entry.proofs.write.judge.Tie as tie
 
-digest-requires : tie.Need-digest-requires
-digest-requires c κs = search needs
-
 returns : tie.Need-returns
 unfolding fileVerdict
 returns c = search verdicts depth 40
-
-path-fits-requires : tie.Need-path-fits-requires
-path-fits-requires c κs = search needs
 
 returns-2 : tie.Need-returns-2
 unfolding fileVerdict
@@ -23,9 +17,6 @@ returns-2 c = search verdicts depth 40
 returns-3 : tie.Need-returns-3
 unfolding fileVerdict
 returns-3 c = search verdicts depth 40
-
-mtime-allowed-requires : tie.Need-mtime-allowed-requires
-mtime-allowed-requires c κs = search needs
 
 returns-4 : tie.Need-returns-4
 unfolding fileVerdict
@@ -36,6 +27,17 @@ size-requires c κs = search judged-path
 
 returns-5 : tie.Need-returns-5
 returns-5 c = search judge-done
+
+-- Found by search:
+
+digest-requires : tie.Need-digest-requires
+digest-requires c κs = search needs
+
+path-fits-requires : tie.Need-path-fits-requires
+path-fits-requires c κs = search needs
+
+mtime-allowed-requires : tie.Need-mtime-allowed-requires
+mtime-allowed-requires c κs = search needs
 
 pub judge-spec : {M : Type 1} → statement M
 judge-spec =

@@ -4,6 +4,14 @@ use borrow.Author.Needs.{needs}
 use Rattle.entry.proofs.write.mtime_fitting.Statement.{statement}
 use Rattle.entry.proofs.write.mtime_fitting.Tie as tie
 
+returns : tie.Need-returns
+returns c = search null-run
+
+returns-2 : tie.Need-returns-2
+returns-2 c = search integer-run
+
+-- Found by search:
+
 slice-aggregate-string : tie.Need-slice-aggregate-string
 slice-aggregate-string c = search needs
 
@@ -25,17 +33,11 @@ fixed-requires c κs = search needs
 same-length : tie.Need-same-length
 same-length c = search needs
 
-returns : tie.Need-returns
-returns c = search null-run
-
 integer-requires : tie.Need-integer-requires
 integer-requires c κs = search needs
 
 same-length-2 : tie.Need-same-length-2
 same-length-2 c = search needs
-
-returns-2 : tie.Need-returns-2
-returns-2 c = search integer-run
 
 pub mtime-fitting-spec : {M : Type 1} → statement M
 mtime-fitting-spec =

@@ -4,6 +4,17 @@ use borrow.Author.Needs.{needs}
 use Rattle.entry.proofs.write.part.Statement.{statement}
 use Rattle.entry.proofs.write.part.Tie as tie
 
+returns : tie.Need-returns
+returns c = search part-none
+
+returns-2 : tie.Need-returns-2
+returns-2 c = search part-rest
+
+returns-3 : tie.Need-returns-3
+returns-3 c = search part-whole
+
+-- Found by search:
+
 sub-result : tie.Need-sub-result
 sub-result c = search needs
 
@@ -13,17 +24,11 @@ part-result-start c = search needs
 part-result-end : tie.Need-part-result-end
 part-result-end c = search needs
 
-returns : tie.Need-returns
-returns c = search part-none
-
 part-result-start-2 : tie.Need-part-result-start-2
 part-result-start-2 c = search needs
 
 part-result-end-2 : tie.Need-part-result-end-2
 part-result-end-2 c = search needs
-
-returns-2 : tie.Need-returns-2
-returns-2 c = search part-rest
 
 add-end : tie.Need-add-end
 add-end c = search needs
@@ -36,9 +41,6 @@ part-result-start-3 c = search needs
 
 part-result-end-3 : tie.Need-part-result-end-3
 part-result-end-3 c = search needs
-
-returns-3 : tie.Need-returns-3
-returns-3 c = search part-whole
 
 pub part-spec : {M : Type 1} → statement M
 part-spec =

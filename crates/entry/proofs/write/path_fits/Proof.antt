@@ -7,12 +7,20 @@ use borrow.Author.Needs.{needs}
 use Rattle.entry.proofs.write.path_fits.Statement.{statement}
 use Rattle.entry.proofs.write.path_fits.Tie as tie
 
-holds-requires : tie.Need-holds-requires
-holds-requires c κs = search needs
-
 returns : tie.Need-returns
 unfolding pathIn
 returns c = search (and-off, said-no)
+
+returns-2 : tie.Need-returns-2
+returns-2 c = search path-bad
+
+returns-3 : tie.Need-returns-3
+returns-3 c = search path-decides
+
+-- Found by search:
+
+holds-requires : tie.Need-holds-requires
+holds-requires c κs = search needs
 
 part-requires : tie.Need-part-requires
 part-requires c κs = search needs
@@ -20,14 +28,8 @@ part-requires c κs = search needs
 allowed-requires : tie.Need-allowed-requires
 allowed-requires c κs = search needs
 
-returns-2 : tie.Need-returns-2
-returns-2 c = search path-bad
-
 ascends-requires : tie.Need-ascends-requires
 ascends-requires c κs = search needs
-
-returns-3 : tie.Need-returns-3
-returns-3 c = search path-decides
 
 pub path-fits-spec : {M : Type 1} → statement M
 path-fits-spec =

@@ -1,7 +1,7 @@
 -- `envelope::judge::digests_hold` meets its contract. The loop's invariant: the answer is that of the files that are left. Assumes nothing.
 use Prim.Native.Nat.{_≤_, _-_}
 use lib.ListN.{take}
-use Rattle.envelope.proofs.Loops.{Digesting, past-end, digesting-none, contents-within, digesting-stop, digesting-on, digesting-end}
+use Rattle.envelope.proofs.Loops.{Digesting, past-end, digesting-none, contents-within, within-fits, digesting-stop, digesting-on, digesting-end}
 use native.Mathlib.Omega.{arith}
 use borrow.Author.Tests.{not-true, not-false}
 use borrow.Author.Needs.{needs}
@@ -17,23 +17,34 @@ abbrev μ-loop : tie.MeasureT-loop
 loop-holds : tie.Need-loop-holds Inv-loop μ-loop
 loop-holds c = (omega arith, digesting-none _ _ _ (c .before .before .pre .2))
 
+add-end : tie.Need-add-end Inv-loop μ-loop
+add-end c = search (within-fits, past-end)
+
+part-sha256-end : tie.Need-part-sha256-end Inv-loop μ-loop
+part-sha256-end c = search (contents-within, past-end)
+
+returns : tie.Need-returns Inv-loop μ-loop
+returns c = search (digesting-stop, past-end, not-true)
+
+loop-again : tie.Need-loop-again Inv-loop μ-loop
+loop-again c = (omega arith, search (digesting-on, past-end, not-false))
+
+returns-2 : tie.Need-returns-2 Inv-loop μ-loop
+returns-2 c = digesting-end _ _ _ (c .before .before .before .before .pre .1) (c .loop-test .left) _ _ _ (c .before .loop .inv .1)
+
+-- Found by search:
+
 mul-f : tie.Need-mul-f Inv-loop μ-loop
 mul-f c = omega arith
 
 array-copy-out-f : tie.Need-array-copy-out-f Inv-loop μ-loop
 array-copy-out-f c = omega arith
 
-add-end : tie.Need-add-end Inv-loop μ-loop
-add-end c = omega (arith, contents-within _ _ _ past-end (c .before .before .before .before .before .before .pre .1) (c .before .before .loop-test .taken) _ _ _ (c .before .before .before .loop .inv .1))
-
 sub-sha256 : tie.Need-sub-sha256 Inv-loop μ-loop
 sub-sha256 c = omega arith
 
 part-sha256-start : tie.Need-part-sha256-start Inv-loop μ-loop
 part-sha256-start c = omega arith
-
-part-sha256-end : tie.Need-part-sha256-end Inv-loop μ-loop
-part-sha256-end c = omega (arith, contents-within _ _ _ past-end (c .before .before .before .before .before .before .pre .1) (c .before .before .loop-test .taken) _ _ _ (c .before .before .before .loop .inv .1))
 
 sha256-requires : tie.Need-sha256-requires Inv-loop μ-loop
 sha256-requires c κs = search needs
@@ -47,20 +58,11 @@ part-requires c κs = search needs
 equal-requires : tie.Need-equal-requires Inv-loop μ-loop
 equal-requires c κs = search needs
 
-returns : tie.Need-returns Inv-loop μ-loop
-returns c = digesting-stop _ _ _ past-end (c .before .before .before .before .before .before .before .before .before .before .before .before .pre .1) (c .before .before .before .before .before .before .before .before .loop-test .taken) _ _ _ (c .before .before .before .before .before .before .before .before .before .loop .inv .1) _ _ _ (c .before .before .before .before .sha256 .ensures) (c .before .before .part .ensures) (c .before .equal .ensures) (not-true _ (c .if1 .taken))
-
 add-i : tie.Need-add-i Inv-loop μ-loop
 add-i c = omega arith
 
 loop-less : tie.Need-loop-less Inv-loop μ-loop
 loop-less c = omega arith
-
-loop-again : tie.Need-loop-again Inv-loop μ-loop
-loop-again c = (omega arith, digesting-on _ _ _ past-end (c .before .before .before .before .before .before .before .before .before .before .before .before .pre .1) (c .before .before .before .before .before .before .before .before .loop-test .taken) _ _ _ (c .before .before .before .before .before .before .before .before .before .loop .inv .1) _ _ _ (c .before .before .before .before .sha256 .ensures) (c .before .before .part .ensures) (c .before .equal .ensures) (not-false _ (c .if1 .left)))
-
-returns-2 : tie.Need-returns-2 Inv-loop μ-loop
-returns-2 c = digesting-end _ _ _ (c .before .before .before .before .pre .1) (c .loop-test .left) _ _ _ (c .before .loop .inv .1)
 
 pub digests-hold-spec : {M : Type 1} → statement M
 digests-hold-spec =

@@ -4,6 +4,16 @@ use Rattle.frame.proofs.Laying.{body-laid}
 use Rattle.frame.proofs.form.body.Statement.{statement}
 use Rattle.frame.proofs.form.body.Tie as tie
 
+returns : tie.Need-returns
+returns c =
+    let third = c .before .before in
+    let second = third .before .before .before .before in
+    let first = second .before .before .before .before in
+    let pre = first .before .before .before .before .before .pre in
+    body-laid _ _ _ _ _ _ (pre .0) _ _ _ _ (pre .1) (first .start .ensures) (second .numbers .ensures) (third .copy .ensures)
+
+-- Found by search:
+
 start-requires : tie.Need-start-requires
 start-requires c κs = search needs
 
@@ -18,14 +28,6 @@ add-result c = search needs
 
 same-length : tie.Need-same-length
 same-length c = search needs
-
-returns : tie.Need-returns
-returns c =
-    let third = c .before .before in
-    let second = third .before .before .before .before in
-    let first = second .before .before .before .before in
-    let pre = first .before .before .before .before .before .pre in
-    body-laid _ _ _ _ _ _ (pre .0) _ _ _ _ (pre .1) (first .start .ensures) (second .numbers .ensures) (third .copy .ensures)
 
 pub body-spec : {M : Type 1} → statement M
 body-spec =

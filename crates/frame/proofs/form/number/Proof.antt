@@ -5,6 +5,11 @@ use Rattle.wire.proofs.Writes.{written-over}
 use Rattle.frame.proofs.form.number.Statement.{statement}
 use Rattle.frame.proofs.form.number.Tie as tie
 
+returns : tie.Need-returns
+returns c = (omega arith, written-over _ _ _ _ (c .before .before .before .write .ensures))
+
+-- Found by search:
+
 write-requires : tie.Need-write-requires
 write-requires c κs = search needs
 
@@ -16,9 +21,6 @@ add-result c = search needs
 
 same-length : tie.Need-same-length
 same-length c = search needs
-
-returns : tie.Need-returns
-returns c = (omega arith, written-over _ _ _ _ (c .before .before .before .write .ensures))
 
 pub number-spec : {M : Type 1} → statement M
 number-spec = tie.close (tie.spec write-requires size-requires add-result same-length returns)

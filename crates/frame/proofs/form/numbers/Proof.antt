@@ -18,11 +18,9 @@ number-requires-2 c κs =
 
 number-requires-3 : tie.Need-number-requires-3
 number-requires-3 c κs =
-    let a = c .before .before .before .before .before .before .before .before .before .before .args in
+    let halfway = c .before .before .before .before .before .before in
+    let a = halfway .before .before .before .before .args in
     omega (arith, numbers-length (a .index) (a .total) (a .len))
-
-same-length : tie.Need-same-length
-same-length c = search needs
 
 returns : tie.Need-returns
 returns c =
@@ -30,6 +28,11 @@ returns c =
     let second = third .before .before .before .before in
     let first = second .before .before .before .before in
     numbers-laid _ _ _ _ _ _ _ _ _ _ _ (first .before .before .before .pre) (first .number .ensures) (second .number2 .ensures) (third .number3 .ensures)
+
+-- Found by search:
+
+same-length : tie.Need-same-length
+same-length c = search needs
 
 pub numbers-spec : {M : Type 1} → statement M
 numbers-spec =

@@ -6,23 +6,25 @@ use Rattle.frame.proofs.Lengths.{numbers-length}
 use Rattle.frame.proofs.form.numbers_size.Statement.{statement}
 use Rattle.frame.proofs.form.numbers_size.Tie as tie
 
-size-requires : tie.Need-size-requires
-size-requires c κs = search needs
-
-size-requires-2 : tie.Need-size-requires-2
-size-requires-2 c κs = search needs
-
 add-result : tie.Need-add-result
 add-result c = let a = c .before .before .args in omega (arith, varint-length (a .index), varint-length (a .total))
-
-size-requires-3 : tie.Need-size-requires-3
-size-requires-3 c κs = search needs
 
 add-result-2 : tie.Need-add-result-2
 add-result-2 c = let a = c .before .before .before .args in omega (arith, varint-length (a .index), varint-length (a .total), varint-length (a .len))
 
 returns : tie.Need-returns
 returns c = let a = c .before .before .before .args in omega (arith, numbers-length (a .index) (a .total) (a .len))
+
+-- Found by search:
+
+size-requires : tie.Need-size-requires
+size-requires c κs = search needs
+
+size-requires-2 : tie.Need-size-requires-2
+size-requires-2 c κs = search needs
+
+size-requires-3 : tie.Need-size-requires-3
+size-requires-3 c κs = search needs
 
 pub numbers-size-spec : {M : Type 1} → statement M
 numbers-size-spec =

@@ -6,11 +6,16 @@ use lib.Seq.{length-take-le}
 use Rattle.frame.proofs.form.seal.Statement.{statement}
 use Rattle.frame.proofs.form.seal.Tie as tie
 
-slice-reshare-prefix-sum : tie.Need-slice-reshare-prefix-sum
-slice-reshare-prefix-sum c = search needs
-
 slice-aggregate-sum : tie.Need-slice-aggregate-sum
 slice-aggregate-sum c = sym (length-take-le _ _ (omega arith))
+
+returns : tie.Need-returns
+returns c = cc
+
+-- Found by search:
+
+slice-reshare-prefix-sum : tie.Need-slice-reshare-prefix-sum
+slice-reshare-prefix-sum c = search needs
 
 sum-requires : tie.Need-sum-requires
 sum-requires c κs = search needs
@@ -23,9 +28,6 @@ copy-requires c κs = search needs
 
 same-length : tie.Need-same-length
 same-length c = search needs
-
-returns : tie.Need-returns
-returns c = cc
 
 pub seal-spec : {M : Type 1} → statement M
 seal-spec =

@@ -4,6 +4,11 @@ use borrow.Author.Needs.{needs}
 use Rattle.frame.proofs.form.start.Statement.{statement}
 use Rattle.frame.proofs.form.start.Tie as tie
 
+returns : tie.Need-returns
+returns c = search start-laid
+
+-- Found by search:
+
 slice-aggregate-lay : tie.Need-slice-aggregate-lay
 slice-aggregate-lay c = search needs
 
@@ -18,9 +23,6 @@ copy-requires c κs = search needs
 
 same-length : tie.Need-same-length
 same-length c = search needs
-
-returns : tie.Need-returns
-returns c = search start-laid
 
 pub start-spec : {M : Type 1} → statement M
 start-spec =

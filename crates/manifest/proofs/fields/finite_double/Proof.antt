@@ -6,24 +6,9 @@ use borrow.Author.Needs.{needs}
 use Rattle.manifest.proofs.fields.finite_double.Statement.{statement}
 use Rattle.manifest.proofs.fields.finite_double.Tie as tie
 
-double-requires : tie.Need-double-requires
-double-requires c κs = search needs
-
-enum-known-d : tie.Need-enum-known-d
-enum-known-d c = search needs
-
-enum-told : tie.Need-enum-told
-enum-told c = search needs
-
-number-no-requires : tie.Need-number-no-requires
-number-no-requires c κs = search needs
-
 returns : tie.Need-returns
 unfolding finiteAt
 returns c = search chain depth 40
-
-is-finite-requires : tie.Need-is-finite-requires
-is-finite-requires c κs = search needs
 
 returns-2 : tie.Need-returns-2
 unfolding finiteAt
@@ -33,6 +18,23 @@ returns-3 : tie.Need-returns-3
 unfolding finiteAt
 returns-3 c = search (chain, said-no, said-yes) depth 40
 
+-- Found by search:
+
+double-requires : tie.Need-double-requires
+double-requires c κs = search needs
+
+enum-known-d : tie.Need-enum-known-d
+enum-known-d c = search needs
+
+enum-told : tie.Need-enum-told
+enum-told c = search needs
+
+no-requires : tie.Need-no-requires
+no-requires c κs = search needs
+
+is-finite-requires : tie.Need-is-finite-requires
+is-finite-requires c κs = search needs
+
 pub finite-double-spec : {M : Type 1} → statement M
 finite-double-spec =
     tie.close
@@ -40,7 +42,7 @@ finite-double-spec =
     double-requires
     enum-known-d
     enum-told
-    number-no-requires
+    no-requires
     returns
     is-finite-requires
     returns-2

@@ -4,6 +4,8 @@ use Rattle.manifest.specs.Manifest.{finite}
 use Rattle.manifest.proofs.fields.is_finite.Statement.{statement}
 use Rattle.manifest.proofs.fields.is_finite.Tie as tie
 
+-- Found by search:
+
 returns : tie.Need-returns
 unfolding finite
 returns c = search needs

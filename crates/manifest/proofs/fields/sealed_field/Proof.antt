@@ -6,36 +6,9 @@ use borrow.Author.Needs.{needs}
 use Rattle.manifest.proofs.fields.sealed_field.Statement.{statement}
 use Rattle.manifest.proofs.fields.sealed_field.Tie as tie
 
-slice-aggregate-key : tie.Need-slice-aggregate-key
-slice-aggregate-key c = search needs
-
-key-requires : tie.Need-key-requires
-key-requires c κs = search needs
-
-enum-known-k : tie.Need-enum-known-k
-enum-known-k c = search needs
-
-enum-told : tie.Need-enum-told
-enum-told c = search needs
-
-step-no-requires : tie.Need-step-no-requires
-step-no-requires c κs = search needs
-
 returns : tie.Need-returns
 unfolding sealedAt
 returns c = search chain depth 40
-
-byte-requires : tie.Need-byte-requires
-byte-requires c κs = search needs
-
-enum-known-f : tie.Need-enum-known-f
-enum-known-f c = search needs
-
-enum-told-2 : tie.Need-enum-told-2
-enum-told-2 c = search needs
-
-number-no-requires : tie.Need-number-no-requires
-number-no-requires c κs = search needs
 
 returns-2 : tie.Need-returns-2
 unfolding sealedAt
@@ -49,9 +22,6 @@ returns-4 : tie.Need-returns-4
 unfolding sealedAt
 returns-4 c = search (chain, said-no, said-yes) depth 40
 
-agree-requires : tie.Need-agree-requires
-agree-requires c κs = search needs
-
 returns-5 : tie.Need-returns-5
 unfolding sealedAt
 returns-5 c = search (chain, said-no, said-yes) depth 40
@@ -59,6 +29,38 @@ returns-5 c = search (chain, said-no, said-yes) depth 40
 returns-6 : tie.Need-returns-6
 unfolding sealedAt
 returns-6 c = search (chain, said-no, said-yes) depth 40
+
+-- Found by search:
+
+slice-aggregate-key : tie.Need-slice-aggregate-key
+slice-aggregate-key c = search needs
+
+key-requires : tie.Need-key-requires
+key-requires c κs = search needs
+
+enum-known-k : tie.Need-enum-known-k
+enum-known-k c = search needs
+
+enum-told : tie.Need-enum-told
+enum-told c = search needs
+
+no-requires : tie.Need-no-requires
+no-requires c κs = search needs
+
+byte-requires : tie.Need-byte-requires
+byte-requires c κs = search needs
+
+enum-known-f : tie.Need-enum-known-f
+enum-known-f c = search needs
+
+enum-told-2 : tie.Need-enum-told-2
+enum-told-2 c = search needs
+
+no-requires-2 : tie.Need-no-requires-2
+no-requires-2 c κs = search needs
+
+agree-requires : tie.Need-agree-requires
+agree-requires c κs = search needs
 
 pub sealed-field-spec : {M : Type 1} → statement M
 sealed-field-spec =
@@ -68,12 +70,12 @@ sealed-field-spec =
     key-requires
     enum-known-k
     enum-told
-    step-no-requires
+    no-requires
     returns
     byte-requires
     enum-known-f
     enum-told-2
-    number-no-requires
+    no-requires-2
     returns-2
     returns-3
     returns-4

@@ -1,30 +1,35 @@
 -- `manifest::files::run` meets its contract. The invariant: the files that are done stand in the array, and the rest of the work is the whole of it. Assumes nothing.
 use Prim.Native.Nat.{_-_}
 use borrow.Author.Needs.{needs}
-use Rattle.manifest.proofs.Lists.{Reading, read-none, read-no, read-more, path-fits, read-end}
+use Rattle.manifest.proofs.Lists.{Reading, read-none, read-no, read-more, read-end}
 use Rattle.manifest.proofs.files.run.Statement.{statement}
 use Rattle.manifest.proofs.files.run.Tie as tie
 
 abbrev Inv-loop : tie.InvT-loop
-Inv-loop s at count files₀ i₀ p₀ start₀ end₀ files i p start end = Reading s at count files i p start end
+Inv-loop s at count files₀ i₀ p₀ last₀ files i p last = Reading s at count files i p last
 
 abbrev μ-loop : tie.MeasureT-loop
-μ-loop s at count files₀ i₀ p₀ start₀ end₀ files i p start end = count - i
-
-blank-files-requires : tie.Need-blank-files-requires Inv-loop μ-loop
-blank-files-requires c κs = search needs
+μ-loop s at count files₀ i₀ p₀ last₀ files i p last = count - i
 
 loop-holds : tie.Need-loop-holds Inv-loop μ-loop
 loop-holds c = search read-none
 
-sub-file : tie.Need-sub-file Inv-loop μ-loop
-sub-file c = search needs
+returns : tie.Need-returns Inv-loop μ-loop
+returns c = search read-no
 
-part-file-start : tie.Need-part-file-start Inv-loop μ-loop
-part-file-start c = search needs
+loop-again : tie.Need-loop-again Inv-loop μ-loop
+loop-again c = search read-more
 
-part-file-end : tie.Need-part-file-end Inv-loop μ-loop
-part-file-end c = search needs
+returns-2 : tie.Need-returns-2 Inv-loop μ-loop
+returns-2 c = search read-end
+
+-- Found by search:
+
+blank-files-requires : tie.Need-blank-files-requires Inv-loop μ-loop
+blank-files-requires c κs = search needs
+
+part-requires : tie.Need-part-requires Inv-loop μ-loop
+part-requires c κs = search needs
 
 file-requires : tie.Need-file-requires Inv-loop μ-loop
 file-requires c κs = search needs
@@ -35,14 +40,11 @@ enum-known-r c = search needs
 enum-told : tie.Need-enum-told Inv-loop μ-loop
 enum-told c = search needs
 
-file-no-requires : tie.Need-file-no-requires Inv-loop μ-loop
-file-no-requires c κs = search needs
+no-requires : tie.Need-no-requires Inv-loop μ-loop
+no-requires c κs = search needs
 
 no-files-requires : tie.Need-no-files-requires Inv-loop μ-loop
 no-files-requires c κs = search needs
-
-returns : tie.Need-returns Inv-loop μ-loop
-returns c = search read-no
 
 mul-files : tie.Need-mul-files Inv-loop μ-loop
 mul-files c = search needs
@@ -50,20 +52,11 @@ mul-files c = search needs
 array-set-from-files : tie.Need-array-set-from-files Inv-loop μ-loop
 array-set-from-files c = search needs
 
-add-end : tie.Need-add-end Inv-loop μ-loop
-add-end c = search path-fits
-
 add-i : tie.Need-add-i Inv-loop μ-loop
 add-i c = search needs
 
 loop-less : tie.Need-loop-less Inv-loop μ-loop
 loop-less c = search needs
-
-loop-again : tie.Need-loop-again Inv-loop μ-loop
-loop-again c = search read-more
-
-returns-2 : tie.Need-returns-2 Inv-loop μ-loop
-returns-2 c = search read-end
 
 pub run-spec : {M : Type 1} → statement M
 run-spec =
@@ -73,18 +66,15 @@ run-spec =
     μ-loop
     blank-files-requires
     loop-holds
-    sub-file
-    part-file-start
-    part-file-end
+    part-requires
     file-requires
     enum-known-r
     enum-told
-    file-no-requires
+    no-requires
     no-files-requires
     returns
     mul-files
     array-set-from-files
-    add-end
     add-i
     loop-less
     loop-again

@@ -4,6 +4,14 @@ use borrow.Author.Needs.{needs}
 use Rattle.manifest.proofs.judge.created_allowed.Statement.{statement}
 use Rattle.manifest.proofs.judge.created_allowed.Tie as tie
 
+returns : tie.Need-returns
+returns c = search allowed-integer
+
+returns-2 : tie.Need-returns-2
+returns-2 c = search allowed-double
+
+-- Found by search:
+
 enum-known-created : tie.Need-enum-known-created
 enum-known-created c = search needs
 
@@ -12,12 +20,6 @@ enum-known-created-2 c = search needs
 
 is-finite-requires : tie.Need-is-finite-requires
 is-finite-requires c κs = search needs
-
-returns : tie.Need-returns
-returns c = search allowed-integer
-
-returns-2 : tie.Need-returns-2
-returns-2 c = search allowed-double
 
 pub created-allowed-spec : {M : Type 1} → statement M
 created-allowed-spec =

@@ -14,6 +14,20 @@ abbrev μ-loop : tie.MeasureT-loop
 loop-holds : tie.Need-loop-holds Inv-loop μ-loop
 loop-holds c = search judge-none
 
+returns : tie.Need-returns Inv-loop μ-loop
+returns c = search judge-no
+
+add-sum : tie.Need-add-sum Inv-loop μ-loop
+add-sum c = search sum-fits
+
+loop-again : tie.Need-loop-again Inv-loop μ-loop
+loop-again c = search judge-more
+
+returns-2 : tie.Need-returns-2 Inv-loop μ-loop
+returns-2 c = search judge-end
+
+-- Found by search:
+
 mul-f : tie.Need-mul-f Inv-loop μ-loop
 mul-f c = search needs
 
@@ -32,23 +46,11 @@ enum-known-j c = search needs
 enum-told : tie.Need-enum-told Inv-loop μ-loop
 enum-told c = search needs
 
-returns : tie.Need-returns Inv-loop μ-loop
-returns c = search judge-no
-
-add-sum : tie.Need-add-sum Inv-loop μ-loop
-add-sum c = search sum-fits
-
 add-i : tie.Need-add-i Inv-loop μ-loop
 add-i c = search needs
 
 loop-less : tie.Need-loop-less Inv-loop μ-loop
 loop-less c = search needs
-
-loop-again : tie.Need-loop-again Inv-loop μ-loop
-loop-again c = search judge-more
-
-returns-2 : tie.Need-returns-2 Inv-loop μ-loop
-returns-2 c = search judge-end
 
 pub list-spec : {M : Type 1} → statement M
 list-spec =

@@ -6,14 +6,8 @@ use borrow.Author.Needs.{needs}
 use Rattle.manifest.proofs.judge.total.Statement.{statement}
 use Rattle.manifest.proofs.judge.total.Tie as tie
 
-seed-size-requires : tie.Need-seed-size-requires
-seed-size-requires c κs = search needs
-
 add-result : tie.Need-add-result
 add-result c = omega (arith, seed-most (c .before .args .m .seed))
-
-size-requires : tie.Need-size-requires
-size-requires c κs = search needs
 
 add-result-2 : tie.Need-add-result-2
 add-result-2 c = omega (arith, seed-most (c .before .before .args .m .seed), size-most (c .before .before .args .m .count))
@@ -21,11 +15,19 @@ add-result-2 c = omega (arith, seed-most (c .before .before .args .m .seed), siz
 add-result-3 : tie.Need-add-result-3
 add-result-3 c = omega (arith, seed-most (c .before .before .args .m .seed), size-most (c .before .before .args .m .count))
 
-created-size-requires : tie.Need-created-size-requires
-created-size-requires c κs = search needs
-
 add-result-4 : tie.Need-add-result-4
 add-result-4 c = omega (arith, seed-most (c .before .before .before .args .m .seed), size-most (c .before .before .before .args .m .count), created-most (c .before .before .before .args .m .created))
+
+-- Found by search:
+
+seed-size-requires : tie.Need-seed-size-requires
+seed-size-requires c κs = search needs
+
+size-requires : tie.Need-size-requires
+size-requires c κs = search needs
+
+created-size-requires : tie.Need-created-size-requires
+created-size-requires c κs = search needs
 
 returns : tie.Need-returns
 returns c = search needs

@@ -7,9 +7,6 @@ use borrow.Author.Needs.{needs}
 use Rattle.manifest.proofs.judge.whole.Statement.{statement}
 use Rattle.manifest.proofs.judge.whole.Tie as tie
 
-seed-allowed-requires : tie.Need-seed-allowed-requires
-seed-allowed-requires c κs = search needs
-
 returns : tie.Need-returns
 unfolding manifestVerdict listed
 returns c = search verdicts depth 40
@@ -22,28 +19,13 @@ returns-3 : tie.Need-returns-3
 unfolding manifestVerdict listed
 returns-3 c = search (verdicts, hold-both, first-fails, second-fails) depth 40
 
-list-requires : tie.Need-list-requires
-list-requires c κs = search needs
-
-enum-known-j : tie.Need-enum-known-j
-enum-known-j c = search needs
-
-enum-told : tie.Need-enum-told
-enum-told c = search needs
-
 returns-4 : tie.Need-returns-4
 unfolding manifestVerdict listed
 returns-4 c = search (verdicts, hold-both, first-fails, second-fails, outcome-stop) depth 40
 
-agree-requires : tie.Need-agree-requires
-agree-requires c κs = search needs
-
 returns-5 : tie.Need-returns-5
 unfolding manifestVerdict listed
 returns-5 c = search (verdicts, hold-both, first-fails, second-fails, outcome-on) depth 40
-
-created-allowed-requires : tie.Need-created-allowed-requires
-created-allowed-requires c κs = search needs
 
 returns-6 : tie.Need-returns-6
 unfolding manifestVerdict listed
@@ -57,6 +39,26 @@ returns-7 c = search judge-large
 
 returns-8 : tie.Need-returns-8
 returns-8 c = search judge-whole
+
+-- Found by search:
+
+seed-allowed-requires : tie.Need-seed-allowed-requires
+seed-allowed-requires c κs = search needs
+
+list-requires : tie.Need-list-requires
+list-requires c κs = search needs
+
+enum-known-j : tie.Need-enum-known-j
+enum-known-j c = search needs
+
+enum-told : tie.Need-enum-told
+enum-told c = search needs
+
+agree-requires : tie.Need-agree-requires
+agree-requires c κs = search needs
+
+created-allowed-requires : tie.Need-created-allowed-requires
+created-allowed-requires c κs = search needs
 
 pub whole-spec : {M : Type 1} → statement M
 whole-spec =

@@ -12,6 +12,8 @@ Inv-loop fd saved₀ len₀ saved len = (length saved ≡ length saved₀) × (l
 abbrev μ-loop : tie.MeasureT-loop
 μ-loop fd saved₀ len₀ saved len = length saved - len
 
+-- Found by search:
+
 loop-holds : tie.Need-loop-holds Inv-loop μ-loop
 loop-holds c = search needs
 

@@ -1,14 +1,22 @@
 -- `scan` meets its contract. Assumes nothing.
-use native.Mathlib.Omega.{arith}
 use borrow.Author.Needs.{needs}
-use lib.ListN.{replicate}
-use Rattle.text.specs.Text.{base64, readText}
 use Rattle.scan.proofs.Scans.{done-fits, scan-long, scan-bad, scan-good}
 use Rattle.scan.proofs.session.scan.Statement.{statement}
 use Rattle.scan.proofs.session.scan.Tie as tie
 
 returns : tie.Need-returns
 returns c = search scan-long
+
+returns-2 : tie.Need-returns-2
+returns-2 c = search scan-bad
+
+part-offer-end : tie.Need-part-offer-end
+part-offer-end c = search done-fits
+
+returns-3 : tie.Need-returns-3
+returns-3 c = search scan-good
+
+-- Found by search:
 
 slice-aggregate-base64-read : tie.Need-slice-aggregate-base64-read
 slice-aggregate-base64-read c = search needs
@@ -22,29 +30,17 @@ enum-known-read c = search needs
 enum-told : tie.Need-enum-told
 enum-told c = search needs
 
-returns-2 : tie.Need-returns-2
-returns-2 c = search scan-bad
-
 sub-offer : tie.Need-sub-offer
 sub-offer c = search needs
 
 part-offer-start : tie.Need-part-offer-start
 part-offer-start c = search needs
 
-part-offer-end : tie.Need-part-offer-end
-part-offer-end c =
-    let w = c .before .before .before .before .before .before .base64-read in
-    let m = c .before .before .before .read .given in
-    omega (arith, done-fits (readText base64 (c .before .before .before .before .before .before .before .before .before .before .before .args .line .now)) (replicate 1024 0) (w .last .1 .0) (w .result) (m .0 .0) (w .ensures) (m .1), w .kept)
-
 offer-requires : tie.Need-offer-requires
 offer-requires c κs = search needs
 
 same-length : tie.Need-same-length
 same-length c = search needs
-
-returns-3 : tie.Need-returns-3
-returns-3 c = search scan-good
 
 pub scan-spec : {M : Type 1} → statement M
 scan-spec =

@@ -4,6 +4,14 @@ use Rattle.scan.proofs.Sessions.{start-refused, start-open}
 use Rattle.scan.proofs.session.start.Statement.{statement}
 use Rattle.scan.proofs.session.start.Tie as tie
 
+returns : tie.Need-returns
+returns c = search start-refused
+
+returns-2 : tie.Need-returns-2
+returns-2 c = search start-open
+
+-- Found by search:
+
 slice-aggregate-id : tie.Need-slice-aggregate-id
 slice-aggregate-id c = search needs
 
@@ -16,9 +24,6 @@ enum-told c = search needs
 enum-told-2 : tie.Need-enum-told-2
 enum-told-2 c = search needs
 
-returns : tie.Need-returns
-returns c = search start-refused
-
 slice-aggregate-open : tie.Need-slice-aggregate-open
 slice-aggregate-open c = search needs
 
@@ -27,9 +32,6 @@ open-requires c κs = search needs
 
 same-length : tie.Need-same-length
 same-length c = search needs
-
-returns-2 : tie.Need-returns-2
-returns-2 c = search start-open
 
 pub start-spec : {M : Type 1} → statement M
 start-spec =

@@ -4,6 +4,11 @@ use borrow.Author.Needs.{needs}
 use Rattle.shard.proofs.form.content.Statement.{statement}
 use Rattle.shard.proofs.form.content.Tie as tie
 
+returns : tie.Need-returns
+returns c = search content-run
+
+-- Found by search:
+
 slice-aggregate-string-field : tie.Need-slice-aggregate-string-field
 slice-aggregate-string-field c = search needs
 
@@ -24,9 +29,6 @@ number-field-requires c κs = search needs
 
 same-length : tie.Need-same-length
 same-length c = search needs
-
-returns : tie.Need-returns
-returns c = search content-run
 
 pub content-spec : {M : Type 1} → statement M
 content-spec =

@@ -4,6 +4,14 @@ use borrow.Author.Needs.{needs}
 use Rattle.shard.proofs.form.message.Statement.{statement}
 use Rattle.shard.proofs.form.message.Tie as tie
 
+rest-requires : tie.Need-rest-requires
+rest-requires c κs = search signed-room
+
+returns : tie.Need-returns
+returns c = search signed-run
+
+-- Found by search:
+
 slice-aggregate-fixed : tie.Need-slice-aggregate-fixed
 slice-aggregate-fixed c = search needs
 
@@ -22,14 +30,8 @@ slice-aggregate-string-field c = search needs
 string-field-requires : tie.Need-string-field-requires
 string-field-requires c κs = search needs
 
-rest-requires : tie.Need-rest-requires
-rest-requires c κs = search signed-room
-
 same-length : tie.Need-same-length
 same-length c = search needs
-
-returns : tie.Need-returns
-returns c = search signed-run
 
 pub message-spec : {M : Type 1} → statement M
 message-spec =

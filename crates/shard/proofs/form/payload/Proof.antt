@@ -4,6 +4,14 @@ use borrow.Author.Needs.{needs}
 use Rattle.shard.proofs.form.payload.Statement.{statement}
 use Rattle.shard.proofs.form.payload.Tie as tie
 
+rest-requires : tie.Need-rest-requires
+rest-requires c κs = search shard-room
+
+returns : tie.Need-returns
+returns c = search shard-run
+
+-- Found by search:
+
 slice-aggregate-fixed : tie.Need-slice-aggregate-fixed
 slice-aggregate-fixed c = search needs
 
@@ -22,14 +30,8 @@ slice-aggregate-string-field-2 c = search needs
 string-field-requires-2 : tie.Need-string-field-requires-2
 string-field-requires-2 c κs = search needs
 
-rest-requires : tie.Need-rest-requires
-rest-requires c κs = search shard-room
-
 same-length : tie.Need-same-length
 same-length c = search needs
-
-returns : tie.Need-returns
-returns c = search shard-run
 
 pub payload-spec : {M : Type 1} → statement M
 payload-spec =

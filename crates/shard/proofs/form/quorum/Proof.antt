@@ -4,6 +4,11 @@ use borrow.Author.Needs.{needs}
 use Rattle.shard.proofs.form.quorum.Statement.{statement}
 use Rattle.shard.proofs.form.quorum.Tie as tie
 
+returns : tie.Need-returns
+returns c = search quorum-run
+
+-- Found by search:
+
 slice-aggregate-number-field : tie.Need-slice-aggregate-number-field
 slice-aggregate-number-field c = search needs
 
@@ -24,9 +29,6 @@ number-field-requires-3 c κs = search needs
 
 same-length : tie.Need-same-length
 same-length c = search needs
-
-returns : tie.Need-returns
-returns c = search quorum-run
 
 pub quorum-spec : {M : Type 1} → statement M
 quorum-spec =

@@ -4,14 +4,22 @@ use borrow.Author.Needs.{needs}
 use Rattle.shard.proofs.form.rest.Statement.{statement}
 use Rattle.shard.proofs.form.rest.Tie as tie
 
+content-requires : tie.Need-content-requires
+content-requires c κs = search content-room
+
+quorum-requires : tie.Need-quorum-requires
+quorum-requires c κs = search quorum-room
+
+returns : tie.Need-returns
+returns c = search rest-run
+
+-- Found by search:
+
 slice-aggregate-string-field : tie.Need-slice-aggregate-string-field
 slice-aggregate-string-field c = search needs
 
 string-field-requires : tie.Need-string-field-requires
 string-field-requires c κs = search needs
-
-content-requires : tie.Need-content-requires
-content-requires c κs = search content-room
 
 slice-aggregate-number-field : tie.Need-slice-aggregate-number-field
 slice-aggregate-number-field c = search needs
@@ -19,14 +27,8 @@ slice-aggregate-number-field c = search needs
 number-field-requires : tie.Need-number-field-requires
 number-field-requires c κs = search needs
 
-quorum-requires : tie.Need-quorum-requires
-quorum-requires c κs = search quorum-room
-
 same-length : tie.Need-same-length
 same-length c = search needs
-
-returns : tie.Need-returns
-returns c = search rest-run
 
 pub rest-spec : {M : Type 1} → statement M
 rest-spec =

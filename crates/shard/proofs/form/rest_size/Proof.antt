@@ -4,6 +4,19 @@ use borrow.Author.Needs.{needs}
 use Rattle.shard.proofs.form.rest_size.Statement.{statement}
 use Rattle.shard.proofs.form.rest_size.Tie as tie
 
+returns : tie.Need-returns
+returns c =
+    let s = c .before .before .before .before in
+    let p = s .before .before .before .before .pre in
+    rest-size-at _ _ _ _ _ _ _ _ _ _ (p .0) (p .1) (p .2)
+    (s .size .ensures)
+    (c .before .before .before .size2 .ensures)
+    (c .before .before .size3 .ensures)
+    (c .before .size4 .ensures)
+    (c .size5 .ensures)
+
+-- Found by search:
+
 size-requires : tie.Need-size-requires
 size-requires c κs = search needs
 
@@ -39,17 +52,6 @@ add-result-3 c = search needs
 
 add-result-4 : tie.Need-add-result-4
 add-result-4 c = search needs
-
-returns : tie.Need-returns
-returns c =
-    let s = c .before .before .before .before in
-    let p = s .before .before .before .before .pre in
-    rest-size-at _ _ _ _ _ _ _ _ _ _ (p .0) (p .1) (p .2)
-    (s .size .ensures)
-    (c .before .before .before .size2 .ensures)
-    (c .before .before .size3 .ensures)
-    (c .before .size4 .ensures)
-    (c .size5 .ensures)
 
 pub rest-size-spec : {M : Type 1} → statement M
 rest-size-spec =

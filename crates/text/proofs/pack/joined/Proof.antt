@@ -7,9 +7,6 @@ use Rattle.text.proofs.Packing.{shift-exact, shift-small}
 use Rattle.text.proofs.pack.joined.Statement.{statement}
 use Rattle.text.proofs.pack.joined.Tie as tie
 
-shl-result : tie.Need-shl-result
-shl-result c = search needs
-
 add-result : tie.Need-add-result
 add-result c =
     let a = c .args in
@@ -19,6 +16,11 @@ returns : tie.Need-returns
 returns c =
     let a = c .args in
     ap (λ (n : ℕ). n + a .v) (shift-exact (a .bits) (a .size) (c .pre .0) (c .pre .1))
+
+-- Found by search:
+
+shl-result : tie.Need-shl-result
+shl-result c = search needs
 
 pub joined-spec : {M : Type 1} → statement M
 joined-spec = tie.close (tie.spec shl-result add-result returns)

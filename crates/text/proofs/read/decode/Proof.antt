@@ -9,7 +9,7 @@ use borrow.Author.Needs.{needs}
 use lib.ListN.{length, getD, length-append}
 use Rattle.wire.specs.Over.{over}
 use Rattle.wire.proofs.Overs.{over-none, over-then, length-over}
-use Rattle.text.specs.Parts.{Narrow, stepped, emitted, decoded}
+use Rattle.text.specs.Private.{Narrow, stepped, emitted, decoded}
 use Rattle.text.specs.declared.read.Seen.{Seen}
 use Rattle.text.specs.declared.read.Step.the-variants.{On}
 use Rattle.text.proofs.Reading.{Reading, reading-none, reading-on, reading-bad, reading-made, reading-room, reading-bytes}
@@ -40,9 +40,6 @@ loop-holds c =
     let b = c .before .before in
     (omega arith, ([], reading-none (b .args .w) (b .args .text .now), sym (over-none 0 (b .args .out .now))))
 
-shared-slice-read-take : tie.Need-shared-slice-read-take Inv-loop μ-loop
-shared-slice-read-take c = omega arith
-
 take-requires : tie.Need-take-requires Inv-loop μ-loop
 take-requires c κs =
     let l = c .before .before .loop in
@@ -50,42 +47,33 @@ take-requires c κs =
     let r = l .inv .1 .1 in
     (b .pre .0, b .pre .1, r .flow .fits, r .short, omega (arith, reading-made (b .args .w) (b .pre .0) (b .args .text .now) (l .i) (l .s) (l .inv .1 .0) r))
 
-enum-known-seen : tie.Need-enum-known-seen Inv-loop μ-loop
-enum-known-seen c = search needs
-
-enum-told : tie.Need-enum-told Inv-loop μ-loop
-enum-told c = search needs
-
 same-length : tie.Need-same-length Inv-loop μ-loop
 same-length c =
-    let l = c .before .before .before .before .before .loop in
-    kept-length (l .inv .1 .0) (l .out) (c .before .before .before .before .before .before .before .before .args .out .now) (l .inv .1 .2)
+    let k = c .before .before .before .before .before in
+    kept-length (k .loop .inv .1 .0) (k .loop .out) (k .before .before .before .args .out .now) (k .loop .inv .1 .2)
 
 returns : tie.Need-returns Inv-loop μ-loop
 returns c =
-    let l = c .before .before .before .before .before .loop in
-    let b = c .before .before .before .before .before .before .before .before in
+    let k = c .before .before .before .before .before in
+    let l = k .loop in
+    let b = k .before .before .before in
     never (sym (reading-bad (b .args .w) (b .pre .0) (b .args .text .now) (l .i) (omega arith) (l .s) (sym (c .enum-told .given .1) ∙ c .before .before .take .ensures)) ∙ b .pre .2)
 
 emit-requires : tie.Need-emit-requires Inv-loop μ-loop
 emit-requires c κs =
     let e = c .before .before in
-    let l = e .before .before .before .before .before .loop in
-    let b = e .before .before .before .before .before .before .before .before in
+    let k = e .before .before .before .before .before in
+    let l = k .loop in
+    let b = k .before .before .before in
     let t = e .seen .given .0 .0 in
     room (b .args .w) (b .pre .0) (b .args .text .now) (l .i) (omega arith) (l .s) t (l .inv .1 .0) (l .inv .1 .1) (sym (e .seen .given .1) ∙ e .before .before .take .ensures) (b .args .out .now) (l .out) (l .inv .1 .2) (b .pre .3)
-
-add-i : tie.Need-add-i Inv-loop μ-loop
-add-i c = omega arith
-
-loop-less : tie.Need-loop-less Inv-loop μ-loop
-loop-less c = omega arith
 
 loop-again : tie.Need-loop-again Inv-loop μ-loop
 loop-again c =
     let e = c .before .before .before .before .before in
-    let l = e .before .before .before .before .before .loop in
-    let b = e .before .before .before .before .before .before .before .before in
+    let k = e .before .before .before .before .before in
+    let l = k .loop in
+    let b = k .before .before .before in
     let t = e .seen .given .0 .0 in
     let q = sym (e .seen .given .1) ∙ e .before .before .take .ensures in
     let r = l .inv .1 .1 in (
@@ -109,6 +97,23 @@ returns-2 c =
     let b = c .before .before .before .before in
     l .inv .1 .2
     ∙ ap (λ (bs : List ℕ). over 0 bs (b .args .out .now)) (reading-bytes (b .args .w) (b .pre .0) (b .args .text .now) (l .i) (l .s) (l .inv .1 .0) (l .inv .1 .1) (omega arith))
+
+-- Found by search:
+
+shared-slice-read-take : tie.Need-shared-slice-read-take Inv-loop μ-loop
+shared-slice-read-take c = omega arith
+
+enum-known-seen : tie.Need-enum-known-seen Inv-loop μ-loop
+enum-known-seen c = search needs
+
+enum-told : tie.Need-enum-told Inv-loop μ-loop
+enum-told c = search needs
+
+add-i : tie.Need-add-i Inv-loop μ-loop
+add-i c = omega arith
+
+loop-less : tie.Need-loop-less Inv-loop μ-loop
+loop-less c = omega arith
 
 pub decode-spec : {M : Type 1} → statement M
 decode-spec =

@@ -8,7 +8,7 @@ use borrow.Author.Needs.{needs}
 use lib.ListN.{length, set}
 use Rattle.wire.specs.Over.{over}
 use Rattle.wire.proofs.Overs.{set-over, over-none}
-use Rattle.text.specs.Parts.{emitted}
+use Rattle.text.specs.Private.{emitted}
 use Rattle.text.proofs.read.emit.Statement.{statement}
 use Rattle.text.proofs.read.emit.Tie as tie
 
@@ -25,14 +25,16 @@ module _ (full : Bool) (at b : ℕ) (out : List ℕ) (h : at + length (emitted f
 slice-write-out : tie.Need-slice-write-out
 slice-write-out c = let a = c .before .args in room (a .full) (a .at) (a .byte) (a .out .now) (c .before .pre) (c .if1 .taken)
 
-same-length : tie.Need-same-length
-same-length c = search needs
-
 returns : tie.Need-returns
 returns c = let a = c .before .args in stored (a .full) (a .at) (a .byte) (a .out .now) (c .before .pre) (c .if1 .taken)
 
 returns-2 : tie.Need-returns-2
 returns-2 c = let a = c .before .args in kept (a .full) (a .at) (a .byte) (a .out .now) (c .before .pre) (c .if1 .left)
+
+-- Found by search:
+
+same-length : tie.Need-same-length
+same-length c = search needs
 
 pub emit-spec : {M : Type 1} → statement M
 emit-spec = tie.close (tie.spec slice-write-out same-length returns returns-2)

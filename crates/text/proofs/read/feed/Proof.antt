@@ -5,7 +5,7 @@ use Prim.Native.Nat.{ℕ, _+_, _-_, _*_, _/_, _%_, _^_, _≤_, _<_}
 use native.Mathlib.Omega.{arith}
 use borrow.Author.Needs.{needs}
 use borrow.Author.Tests.{lt-ltb, le-ltb}
-use Rattle.text.specs.Parts.{fed}
+use Rattle.text.specs.Private.{fed}
 use Rattle.text.specs.declared.read.Seen.{Seen}
 use Rattle.text.proofs.Counts.{narrow-bounds}
 use Rattle.text.proofs.Packing.{few, joined-lt, top-lt}
@@ -43,9 +43,6 @@ low-requires c κs =
     let p = c .before .before .before .pre in
     omega (arith, p .2, narrow-bounds (c .before .before .before .args .w) (p .0))
 
-add-t9 : tie.Need-add-t9
-add-t9 c = search needs
-
 top-requires : tie.Need-top-requires
 top-requires c κs =
     let b = c .before .before .before in
@@ -61,6 +58,11 @@ returns-2 c =
     let j = d .before .before .joined in
     let a = d .before .before .before .args in
     full (a .w) (a .s) (a .v) (j .result) (j .ensures) (c .before .before .low .result) (c .top .result) (d .if1 .left) (c .before .before .low .ensures) (c .top .ensures)
+
+-- Found by search:
+
+add-t9 : tie.Need-add-t9
+add-t9 c = search needs
 
 pub feed-spec : {M : Type 1} → statement M
 feed-spec =

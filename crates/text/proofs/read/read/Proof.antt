@@ -4,15 +4,6 @@ use Rattle.text.proofs.Verdicts.{read-bad, read-count, read-bits, read-
 use Rattle.text.proofs.read.read.Statement.{statement}
 use Rattle.text.proofs.read.read.Tie as tie
 
-judge-requires : tie.Need-judge-requires
-judge-requires c κs = search needs
-
-enum-known-bits : tie.Need-enum-known-bits
-enum-known-bits c = search needs
-
-enum-told : tie.Need-enum-told
-enum-told c = search needs
-
 returns : tie.Need-returns
 returns c = search read-bad
 
@@ -28,11 +19,22 @@ returns-4 c = search read-short
 decode-requires : tie.Need-decode-requires
 decode-requires c κs = (search needs, search needs, search read-below, search read-fits)
 
-same-length : tie.Need-same-length
-same-length c = search needs
-
 returns-5 : tie.Need-returns-5
 returns-5 c = search read-done
+
+-- Found by search:
+
+judge-requires : tie.Need-judge-requires
+judge-requires c κs = search needs
+
+enum-known-bits : tie.Need-enum-known-bits
+enum-known-bits c = search needs
+
+enum-told : tie.Need-enum-told
+enum-told c = search needs
+
+same-length : tie.Need-same-length
+same-length c = search needs
 
 pub read-spec : {M : Type 1} → statement M
 read-spec =

@@ -8,9 +8,6 @@ use Rattle.text.proofs.Sorts.{take-skipped, take-bad, take-value}
 use Rattle.text.proofs.read.take.Statement.{statement}
 use Rattle.text.proofs.read.take.Tie as tie
 
-element-copy-out-v : tie.Need-element-copy-out-v
-element-copy-out-v c = search needs
-
 returns : tie.Need-returns
 returns c =
     let a = c .before .before .args in
@@ -36,6 +33,11 @@ returns-3 c =
     let p = c .before .before .before .before .pre in
     let t = take-value (a .w) (p .0) (a .s) (a .c) (getD (a .table .now) (a .c) 0) (p .1 (a .c) (omega arith)) (c .before .before .if1 .left) (c .before .if2 .left) in
     ap On (c .feed .ensures) ∙ t .1
+
+-- Found by search:
+
+element-copy-out-v : tie.Need-element-copy-out-v
+element-copy-out-v c = search needs
 
 pub take-spec : {M : Type 1} → statement M
 take-spec = tie.close (tie.spec element-copy-out-v returns returns-2 feed-requires returns-3)

@@ -9,7 +9,7 @@ use lib.ListN.{length, set, getD, length-map}
 use Rattle.wire.specs.Over.{over}
 use Rattle.wire.proofs.Overs.{over-none, over-snoc, length-over}
 use Rattle.text.specs.Text.{letter}
-use Rattle.text.specs.Parts.{Narrow, formOf}
+use Rattle.text.specs.Private.{Narrow, formOf}
 use Rattle.text.proofs.Encoding.{Writing, writing-none, writing-bounds, writing-next, writing-text}
 use Rattle.text.proofs.Sorts.{form-width, form-lawful}
 use Rattle.text.proofs.write.encode.Statement.{statement}
@@ -73,9 +73,6 @@ top-requires c κs =
     let h = writing-bounds (b .args .w) (b .pre .0) (b .args .src .now) (λ i. d .before .before .shared-slice-known2 .given i .fits) (d .loop .j) (d .loop .s) (d .loop .inv .1 .0) (d .loop .inv .1 .1) (c .before .refill .result) (c .before .refill .ensures) (below-total (c .before .before .loop-test .taken) (b .pre .2)) in
     (h .1, omega (arith, h .2, size (b .args .w) (b .pre .0)))
 
-cast-out : tie.Need-cast-out Inv-loop μ-loop
-cast-out c = search needs
-
 shared-slice-read-out : tie.Need-shared-slice-read-out Inv-loop μ-loop
 shared-slice-read-out c =
     let d = c .before .before .before .before .before in
@@ -96,12 +93,6 @@ low-requires c κs =
     let b = d .before .before .before .before in
     let t = c .before .before .before .refill in
     writing-bounds (b .args .w) (b .pre .0) (b .args .src .now) (λ i. d .before .before .shared-slice-known2 .given i .fits) (d .loop .j) (d .loop .s) (d .loop .inv .1 .0) (d .loop .inv .1 .1) (t .result) (t .ensures) (below-total (c .before .before .before .before .loop-test .taken) (b .pre .2)) .1
-
-add-j : tie.Need-add-j Inv-loop μ-loop
-add-j c = omega arith
-
-loop-less : tie.Need-loop-less Inv-loop μ-loop
-loop-less c = omega arith
 
 loop-again : tie.Need-loop-again Inv-loop μ-loop
 loop-again c =
@@ -131,6 +122,17 @@ returns c =
     l .inv .1 .2
     ∙ ap (λ (x : List ℕ). over 0 x (b .args .out .now))
     (writing-text (b .args .w) (b .pre .0) (b .args .src .now) (λ i. c .before .before .before .shared-slice-known2 .given i .fits) (l .j) (l .s) (l .inv .1 .0) (l .inv .1 .1) (done (l .inv .0) (c .loop-test .left) (b .pre .2)))
+
+-- Found by search:
+
+cast-out : tie.Need-cast-out Inv-loop μ-loop
+cast-out c = search needs
+
+add-j : tie.Need-add-j Inv-loop μ-loop
+add-j c = omega arith
+
+loop-less : tie.Need-loop-less Inv-loop μ-loop
+loop-less c = omega arith
 
 pub encode-spec : {M : Type 1} → statement M
 encode-spec =

@@ -4,7 +4,7 @@ use mathlib.Core.Logic.{inl, inr}
 use Prim.Native.Nat.{ℕ, _+_, _-_, _*_, _/_, _%_, _^_, _<_}
 use native.Mathlib.Omega.{arith}
 use Rattle.text.specs.Text.{characters}
-use Rattle.text.specs.Parts.{Narrow}
+use Rattle.text.specs.Private.{Narrow}
 use Rattle.text.proofs.Counts.{narrow-bounds}
 use Rattle.text.proofs.Sorts.{form-width}
 use Rattle.text.proofs.write.length_of.Statement.{statement}

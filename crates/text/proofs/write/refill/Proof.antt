@@ -6,7 +6,7 @@ use native.Mathlib.Omega.{arith}
 use borrow.Author.Needs.{needs}
 use borrow.Author.Tests.{le-leb, lt-leb}
 use lib.ListN.{getD}
-use Rattle.text.specs.Parts.{refilled}
+use Rattle.text.specs.Private.{refilled}
 use Rattle.text.specs.declared.write.Source.{Source}
 use Rattle.text.proofs.Packing.{few}
 use Rattle.text.proofs.write.refill.Statement.{statement}
@@ -25,25 +25,27 @@ module _ (w : ℕ) (bs : List ℕ) (s : Source) where
 returns : tie.Need-returns
 returns c = let a = c .before .before .before .args in enough (a .w) (a .src .now) (a .s) (c .if1 .taken)
 
-byte-or-zero-requires : tie.Need-byte-or-zero-requires
-byte-or-zero-requires c κs = search needs
-
 joined-requires : tie.Need-joined-requires
 joined-requires c κs =
     let b = c .before .before .before .before in
     (few (b .args .s .bits) (b .args .s .count) (b .pre .1) (b .pre .2), omega arith)
-
-add-t7 : tie.Need-add-t7
-add-t7 c = search needs
-
-add-t8 : tie.Need-add-t8
-add-t8 c = search needs
 
 returns-2 : tie.Need-returns-2
 returns-2 c =
     let d = c .before .before .before in
     let a = d .before .before .before .before .args in
     one-more (a .w) (a .src .now) (a .s) (d .before .if1 .left) (d .byte-or-zero .result) (c .before .before .joined .result) (d .byte-or-zero .ensures) (c .before .before .joined .ensures)
+
+-- Found by search:
+
+byte-or-zero-requires : tie.Need-byte-or-zero-requires
+byte-or-zero-requires c κs = search needs
+
+add-t7 : tie.Need-add-t7
+add-t7 c = search needs
+
+add-t8 : tie.Need-add-t8
+add-t8 c = search needs
 
 pub refill-spec : {M : Type 1} → statement M
 refill-spec =

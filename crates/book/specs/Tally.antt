@@ -1,0 +1,10 @@
+-- Pages by the number of their state: 0 absent, 1 held, 2 disputed. Document 01, "The collection".
+use Prim.Native.Nat.{ℕ}
+use mathlib.Core.Bool.{Bool}
+use lib.Dec.{eqb}
+use Rattle.model.specs.Book.{Slot}
+use Rattle.block.specs.Block.{stateOf}
+
+-- whether a page is in the state of this number. Length 0 is no state: a held page of length 0 is held
+unfoldable pub inState : ℕ → Slot → Bool
+inState s p = eqb (stateOf p) s

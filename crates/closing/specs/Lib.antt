@@ -1,3 +1,0 @@
-pub mod Finish
-pub mod Mend
-pub mod Sets

@@ -1,0 +1,26 @@
+-- Numbers in decimal, and the line that says one: document 01, "The collection", of a refusal.
+use Prim.Native.Nat.{ℕ, _+_, _/_, _%_}
+use mathlib.Core.List.{List, [], _∷_, _++_}
+use lib.Dec.{ltb}
+use Rattle.wire.specs.Answer.{choose}
+use Rattle.wire.specs.Ascii.{ascii}
+
+-- the character of a digit: 0 is 30 hex
+abbrev pub digit : ℕ → ℕ
+digit d = 0x30 + d
+
+-- a number below 1,000 without leading zeros: every u8 is one
+unfoldable pub decimal : ℕ → List ℕ
+decimal n =
+    choose (ltb n 10) (digit n ∷ [])
+    (choose (ltb n 100) (digit (n / 10) ∷ digit (n % 10) ∷ []) (digit (n / 100) ∷ digit (n / 10 % 10) ∷ digit (n % 10) ∷ []))
+
+-- what ends a line
+abbrev pub lineFeed : List ℕ
+lineFeed = 10 ∷ []
+
+abbrev pub refusedName : List ℕ
+refusedName = ascii "refused "
+
+unfoldable pub refusedLine : ℕ → List ℕ
+refusedLine e = refusedName ++ decimal e ++ lineFeed

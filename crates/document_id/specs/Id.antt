@@ -1,0 +1,10 @@
+-- The id of a document: document 01, "Frames", the paragraph "Printing"; source document 002, sections 6 and 7.
+use Prim.Native.Nat.{ℕ}
+use mathlib.Core.List.{List}
+use lib.ListN.{take}
+use Rattle.wire.specs.Sizes.{idSize}
+use Rattle.blake2b.specs.Blake2b.{blake2b}
+
+-- the id is the first 8 bytes of unkeyed BLAKE2b with 32-byte output over the ciphertext
+unfoldable pub documentId : List ℕ → List ℕ
+documentId c = take idSize (blake2b c)

@@ -1,0 +1,11 @@
+// The id of a document: document 01, "Frames", the paragraph "Printing". Printing and finishing both compute it.
+ghost use mathlib.Core.Path.{_≡_};
+ghost use Rattle.document_id.specs.Id.{documentId};
+
+// The id is the front of the digest of the whole ciphertext.
+pub fn of(ciphertext: &[u8]) -> [u8; wire::ID_SIZE]
+    ensures { λ r. ⌜ r ≡ documentId (now (ciphertext .entry)) ⌝ }
+{
+    let d = blake2b::blake2b(ciphertext);
+    [d[0], d[1], d[2], d[3], d[4], d[5], d[6], d[7]]
+}

@@ -1,0 +1,4 @@
+pub mod Gathering
+pub mod Finishing
+pub mod Once
+pub mod Demand

@@ -1,0 +1,3 @@
+pub mod Finish
+pub mod Sets
+pub mod Private

@@ -1,0 +1,4 @@
+pub mod Mending
+pub mod Mends
+pub mod Repairs
+pub mod Once

@@ -1,0 +1,39 @@
+-- What a collection can say: document 01, "The collection".
+use Prim.Native.Nat.{ℕ}
+use mathlib.Core.List.{List, []}
+use lib.ListN.{replicate}
+use Rattle.wire.specs.Sizes.{mostPages}
+
+-- a page: absent, held with its data, or disputed, since it came in two versions
+pub data Slot : Type 0 where
+  absent : Slot
+  held : List ℕ → Slot
+  disputed : Slot
+
+-- the data of a page: none unless held
+unfoldable pub dataOf : Slot → List ℕ
+dataOf absent = []
+dataOf (held d) = d
+dataOf disputed = []
+
+-- the whole: no page yet; a total, and a slot for each of the 96 indices; totals that disagree
+pub data Book : Type 0 where
+  empty : Book
+  collecting : ℕ → List Slot → Book
+  disagree : Book
+
+-- every page absent
+unfoldable pub noPages : List Slot
+noPages = replicate mostPages absent
+
+-- "1 to 96 in state 1, else 0"
+unfoldable pub totalOf : Book → ℕ
+totalOf empty = 0
+totalOf (collecting t ss) = t
+totalOf disagree = 0
+
+-- "A page is absent unless the head is in state 1"
+unfoldable pub slotsOf : Book → List Slot
+slotsOf empty = noPages
+slotsOf (collecting t ss) = ss
+slotsOf disagree = noPages

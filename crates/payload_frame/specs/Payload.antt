@@ -1,0 +1,24 @@
+-- Key and auth frames, written: document 01, "Frames", the paragraph "Printing".
+use Prim.Native.Nat.{ℕ}
+use mathlib.Core.List.{List}
+use lib.Dec.{eqb, leb}
+use lib.ListN.{length}
+use Rattle.wire.specs.Answer.{Answer, done, then, demand}
+use Rattle.wire.specs.Sizes.{mostData, idSize}
+use Rattle.frame.specs.Layout.{layout}
+use Rattle.auth.specs.Auth.{authAt}
+use Rattle.shard.specs.Shard.{shardAt}
+
+-- an id that is not of 8 bytes is 19, data above 480 bytes 9; then what the payload's reader refuses of the data; else the frame, the first of one
+unfoldable pub payloadFrame : {A : Type 0} → (kind : ℕ) (id contents : List ℕ) (read : Answer A) → Answer (List ℕ)
+payloadFrame kind id contents read =
+    demand (eqb (length id) idSize) 19
+    (demand (leb (length contents) mostData) 9
+    (then read (λ _.
+    done (layout kind id 0 1 contents))))
+
+abbrev pub keyFrame : List ℕ → List ℕ → Answer (List ℕ)
+keyFrame id contents = payloadFrame 0x4B id contents (shardAt contents)
+
+abbrev pub authFrame : List ℕ → List ℕ → Answer (List ℕ)
+authFrame id contents = payloadFrame 0x41 id contents (authAt contents)

@@ -1,0 +1,65 @@
+// Key and auth frames: document 01, "Frames", the paragraph "Printing". Each carries one payload that its reader accepts.
+ghost use mathlib.Core.Path.{_≡_};
+ghost use lib.ListN.{length};
+ghost use Rattle.wire.specs.Answer.{done};
+ghost use Rattle.wire.specs.Sizes.{idSize};
+ghost use Rattle.wire.specs.Writing.{Written};
+ghost use Rattle.frame.specs.Layout.{layout};
+ghost use Rattle.payload_frame.specs.Payload.{keyFrame, authFrame};
+ghost use Rattle.payload_frame.specs.Private.{faultOf};
+use auth::ClaimRead;
+use shard::ShardRead;
+use wire::Wrote;
+
+// The number of what is refused whatever the payload says, 0 where that is nothing.
+fn fault(id: &[u8], contents: &[u8]) -> u8
+    ensures { λ r. ⌜ r ≡ faultOf (now (id .entry)) (now (contents .entry)) ⌝ }
+{
+    if id.len() != wire::ID_SIZE {
+        return wire::OUT_OF_RANGE;
+    }
+    if wire::MOST_DATA < contents.len() {
+        return wire::TOO_LARGE;
+    }
+    0
+}
+
+// The frame, once its payload is accepted: such a frame is the first of one.
+fn lay(kind: u8, id: &[u8], contents: &[u8], out: &mut [u8]) -> Wrote
+    requires { ⌜ length (now id) ≡ idSize ⌝ }
+    ensures { λ r. ⌜ Written 0 (done (layout kind (now (id .entry)) 0 1 (now (contents .entry)))) (now (out .entry)) (now (out .exit)) r ⌝ }
+{
+    let mut eight = [0u8; wire::ID_SIZE];
+    lend::copy(&mut eight, 0, id);
+    frame::lay(kind, &eight, 0, 1, contents, out)
+}
+
+// A key frame, which carries one shard, at the front of out.
+pub fn key(id: &[u8], contents: &[u8], out: &mut [u8]) -> Wrote
+    ensures { λ r. ⌜ Written 0 (keyFrame (now (id .entry)) (now (contents .entry))) (now (out .entry)) (now (out .exit)) r ⌝ }
+{
+    let no = fault(id, contents);
+    if no != 0 {
+        return Wrote::Refused { no };
+    }
+    let r = shard::read(contents);
+    if let ShardRead::Refused { no } = r {
+        return Wrote::Refused { no };
+    }
+    lay(frame::KEY, id, contents, out)
+}
+
+// An auth frame at the front of out.
+pub fn auth(id: &[u8], contents: &[u8], out: &mut [u8]) -> Wrote
+    ensures { λ r. ⌜ Written 0 (authFrame (now (id .entry)) (now (contents .entry))) (now (out .entry)) (now (out .exit)) r ⌝ }
+{
+    let no = fault(id, contents);
+    if no != 0 {
+        return Wrote::Refused { no };
+    }
+    let r = auth::read(contents);
+    if let ClaimRead::Refused { no } = r {
+        return Wrote::Refused { no };
+    }
+    lay(frame::AUTH, id, contents, out)
+}

@@ -1,5 +1,0 @@
-pub mod State
-pub mod Take
-pub mod Meaning
-pub mod Finish
-pub mod Complete
