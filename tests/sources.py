@@ -8,6 +8,7 @@ IN_ANTT = re.compile(r"Rattle·(\w+)\.")
 OWN_MODULE = re.compile(r"^\s*(?:pub )?mod (\w+)", re.MULTILINE)
 KIT = ("io", "libc", "os")
 PUBLIC = re.compile(r'^\s*pub (?:extern "C" )?fn (\w+)')
+METHODS = re.compile(r"^impl (\w+) \{")
 ANY = re.compile(r'^\s*(?:pub(?:\(super\))? )?(?:extern "C" )?fn (\w+)')
 CALL = re.compile(r"((?:\w+::)*\w+)\(")
 ROW = re.compile(r"^\| `(\w+(?:::\w+)+)` \|(.*)\|$")
@@ -65,16 +66,25 @@ def rattle_files(root):
                     yield os.path.join(folder, file), program
 
 
+def owned(lines):
+    """Each line, with the type whose methods it stands among, as a list of no or one name."""
+    owner = []
+    for line in lines:
+        methods = METHODS.match(line)
+        owner = [methods[1]] if methods else [] if line.startswith("}") else owner
+        yield owner, line
+
+
 def functions(path):
-    """Each public function of a file: its line, its name, and its text up to its body."""
+    """Each public function of a file: its line, its name, before which a method has its type's, and its text up to its body."""
     lines = open(path, encoding="utf-8").read().split("\n")
-    for number, text in enumerate(lines):
+    for number, (owner, text) in enumerate(owned(lines)):
         found = PUBLIC.match(text)
         if found:
             end = number
             while lines[end].strip() != "{" and not lines[end].endswith(" {"):
                 end += 1
-            yield number + 1, found.group(1), "\n".join(lines[number:end + 1])
+            yield number + 1, "::".join([*owner, found[1]]), "\n".join(lines[number:end + 1])
 
 
 def module(root, path):
@@ -94,9 +104,9 @@ def bodies(root, crate):
     found = {}
     for path, _ in rattle_files(root):
         place, name = module(root, path), None
-        for line in open(path, encoding="utf-8") if place[0] == crate else ():
+        for owner, line in owned(open(path, encoding="utf-8") if place[0] == crate else ()):
             start = ANY.match(line)
-            name = "::".join([*place, start[1]]) if start else name
+            name = "::".join([*place, *owner, start[1]]) if start else name
             if name and not line.lstrip().startswith("//"):
                 found[name] = found.get(name, "") + ("" if start else line)
     return found

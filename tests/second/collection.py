@@ -6,7 +6,7 @@ says of a page follows from membership: no pair with that index, one, or
 several that differ. Offering is adding to the sets, joining is their union;
 order and repeats cannot matter.
 
-A saved file keeps less than that: of a page in two versions, or of totals
+A saved file keeps less than that: of a disputed page, or of totals
 that disagree, the fact alone. In their place `read` puts two marks that are
 different from each other and from anything that a frame can bring.
 """
@@ -14,7 +14,7 @@ different from each other and from anything that a frame can bring.
 from collections import namedtuple
 
 from .answers import (MISSING, NO_ROOM, NOT_WELL_FORMED, OTHER_DOCUMENT, OUT_OF_RANGE,
-                      TOTALS_DISAGREE, TWO_VERSIONS, WRONG_ID, Refusal, lend, refuse_if)
+                      TOTALS_DISAGREE, PAGE_DISPUTED, WRONG_ID, Refusal, lend, refuse_if)
 from .frames import MAIN, MOST_DATA, MOST_PAGES, frame_read
 from .sums import crc, doc_id
 
@@ -174,7 +174,7 @@ def offer(raw, raw_frame):
 
 
 def kind_of(collection, index):
-    """1 page held, 2 page in two versions, 3 totals disagree."""
+    """1 page held, 2 page disputed, 3 totals disagree."""
     if head_of(collection).state == DISAGREE:
         return 3
     return 1 if page_of(collection, index)[0] == HELD else 2
@@ -197,7 +197,7 @@ def finish(raw, room):
     collection = read(raw)
     refuse_if(head_of(collection).state == DISAGREE, TOTALS_DISAGREE)
     disputed = indices_in(collection, DISPUTED)
-    refuse_if(disputed, TWO_VERSIONS, *disputed[:1])
+    refuse_if(disputed, PAGE_DISPUTED, *disputed[:1])
     refuse_if(head_of(collection).state == EMPTY, MISSING, 0)
     missing = indices_in(collection, ABSENT)
     refuse_if(missing, MISSING, *missing[:1])

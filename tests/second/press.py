@@ -8,7 +8,7 @@ import re
 from itertools import chain
 
 from . import collection
-from .answers import INDEX_TOTAL, MISSING, NO_ROOM, OUT_OF_RANGE, TOTALS_DISAGREE, TWO_VERSIONS, Refusal, refuse_if
+from .answers import INDEX_TOTAL, MISSING, NO_ROOM, OUT_OF_RANGE, TOTALS_DISAGREE, PAGE_DISPUTED, Refusal, refuse_if
 from .collection import Collection
 from .forms import base64_read, base64_write, zbase32_write
 from .frames import MAIN, MOST_DATA, MOST_PAGES, frame_read, page_write
@@ -122,7 +122,7 @@ def shown(saved):
     try:
         return collection.finish(saved, MOST)
     except Refusal as refusal:
-        if refusal.number in (TOTALS_DISAGREE, TWO_VERSIONS, MISSING):
+        if refusal.number in (TOTALS_DISAGREE, PAGE_DISPUTED, MISSING):
             return ended([collection.status(saved).encode("ascii")])
         return refused(refusal)
 
