@@ -5,6 +5,6 @@ use lib.ListN.{take}
 use Rattle.wire.specs.Sizes.{idSize}
 use Rattle.blake2b.specs.Blake2b.{blake2b}
 
--- the id is the first 8 bytes of unkeyed BLAKE2b with 32-byte output over the ciphertext
+-- a digest of the whole ciphertext, BLAKE2b without a key and 32 bytes long, of which 8 are kept
 unfoldable pub documentId : List ℕ → List ℕ
 documentId c = take idSize (blake2b c)

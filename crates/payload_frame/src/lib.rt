@@ -21,7 +21,7 @@ fn fault(id: &[u8], contents: &[u8]) -> u8
     if wire::MOST_DATA < contents.len() {
         return wire::TOO_LARGE;
     }
-    0
+    wire::DONE
 }
 
 // The frame, once its payload is accepted: such a frame is the first of one.
@@ -39,7 +39,7 @@ pub fn key(id: &[u8], contents: &[u8], out: &mut [u8]) -> Wrote
     ensures { λ r. ⌜ Written 0 (keyFrame (now (id .entry)) (now (contents .entry))) (now (out .entry)) (now (out .exit)) r ⌝ }
 {
     let no = fault(id, contents);
-    if no != 0 {
+    if no != wire::DONE {
         return Wrote::Refused { no };
     }
     let r = shard::read(contents);
@@ -54,7 +54,7 @@ pub fn auth(id: &[u8], contents: &[u8], out: &mut [u8]) -> Wrote
     ensures { λ r. ⌜ Written 0 (authFrame (now (id .entry)) (now (contents .entry))) (now (out .entry)) (now (out .exit)) r ⌝ }
 {
     let no = fault(id, contents);
-    if no != 0 {
+    if no != wire::DONE {
         return Wrote::Refused { no };
     }
     let r = auth::read(contents);

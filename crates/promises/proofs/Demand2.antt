@@ -32,7 +32,7 @@ use Rattle.promises.proofs.Links.Page.{page-write-base64-link, page-wri
 use Rattle.promises.proofs.Links.PayloadFrame.{payload-frame-auth-link, payload-frame-key-link}
 
 -- bytes that the rules read as a value are read so by every call
-by-rule : (f : Format) → Exact f → (s : List ℕ) (v : f .Value) (p : f .Place) → f .read s ≡ done p → f .says s p ≡ v → ReadAs f s v
+by-rule : {Place Value : Type 0} (f : Format Place Value) → Exact f → (s : List ℕ) (v : Value) (p : Place) → f .read s ≡ done p → f .says s p ≡ v → ReadAs f s v
 by-rule f x s v p e h a r = (p, x .reason s a r ∙ e, h)
 
 -- a frame that is read as its parts says them
@@ -101,10 +101,10 @@ module _ (c : List ℕ) (size : ℕ) (y : Bytes c) (p : Printed c size) where
 -- ---- key and auth frames
 
 -- a key or auth frame for the payload f: each call of its writer keeps what `payloadFrame` says, and whatever the payload's writer wrote is carried
-module _ (f : Format) (exactly : Exact f) (kind : ℕ) (k : Kind kind) (reader : List ℕ → Got (f .Place)) (rule : (s : List ℕ) → f .read s ≡ valueOf (reader s))
+module _ {Place Value : Type 0} (f : Format Place Value) (exactly : Exact f) (kind : ℕ) (k : Kind kind) (reader : List ℕ → Got Place) (rule : (s : List ℕ) → f .read s ≡ valueOf (reader s))
     (Writer : List ℕ → List ℕ → List ℕ → List ℕ → Answer ℕ → Type 0)
     (keeps : (id contents out x : List ℕ) (a : Answer ℕ) → Writer id contents out x a → Kept (writing 0 out (payloadFrame kind id contents (reader contents))) out x a)
-    (carried : (v : f .Value) (lent y : List ℕ) (m : ℕ) → f .Writes v lent y (done m) → (id : List ℕ) → length id ≡ 8
+    (carried : (v : Value) (lent y : List ℕ) (m : ℕ) → f .Writes v lent y (done m) → (id : List ℕ) → length id ≡ 8
     → (frame : List ℕ) × (payloadFrame kind id (take m y) (reader (take m y)) ≡ done frame)) where
   wrote-payload : (id contents out x : List ℕ) (n : ℕ) → Writer id contents out x (done n) → (frame : List ℕ) × (payloadFrame kind id contents (reader contents) ≡ done frame) × Stands frame out x n
   wrote-payload id contents out x n c = wrote-done (payloadFrame kind id contents (reader contents)) out x n (keeps id contents out x (done n) c)

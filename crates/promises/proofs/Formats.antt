@@ -26,40 +26,40 @@ use Rattle.promises.proofs.Links.Frame.{frame-lay-link, frame-read-link
 -- ---- what all formats share
 
 -- the rules of a format, where `Form v s` says that s is the written form of v; and what its calls say
-pub record Ruled (f : Format) (Form : f .Value → List ℕ → Type 0) : Type 0 where
-  pub back : (v : f .Value) (s : List ℕ) → Form v s → (p : f .Place) × (f .read s ≡ done p) × (f .says s p ≡ v)
-  pub only : (s : List ℕ) (p : f .Place) → Slice s → f .read s ≡ done p → Form (f .says s p) (f .counting s)
-  pub form : (v : f .Value) (s t : List ℕ) → Form v s → Form v t → s ≡ t
-  pub can-read : (s : List ℕ) → (a : Answer (f .Place)) × f .Reads s a
-  pub reads : (s : List ℕ) (a : Answer (f .Place)) → f .Reads s a → a ≡ f .read s
-  pub writes : (v : f .Value) (out x : List ℕ) (n : ℕ) → f .Writes v out x (done n) → (s : List ℕ) × Form v s × Stands s out x n
-  pub write : (v : f .Value) (s : List ℕ) → Form v s → (out : List ℕ) → length s ≤ length out → f .Writes v out (over 0 s out) (done (length s))
+pub record Ruled {Place Value : Type 0} (f : Format Place Value) (Form : Value → List ℕ → Type 0) : Type 0 where
+  pub back : (v : Value) (s : List ℕ) → Form v s → (p : Place) × (f .read s ≡ done p) × (f .says s p ≡ v)
+  pub only : (s : List ℕ) (p : Place) → Slice s → f .read s ≡ done p → Form (f .says s p) (f .counting s)
+  pub form : (v : Value) (s t : List ℕ) → Form v s → Form v t → s ≡ t
+  pub can-read : (s : List ℕ) → (a : Answer Place) × f .Reads s a
+  pub reads : (s : List ℕ) (a : Answer Place) → f .Reads s a → a ≡ f .read s
+  pub writes : (v : Value) (out x : List ℕ) (n : ℕ) → f .Writes v out x (done n) → (s : List ℕ) × Form v s × Stands s out x n
+  pub write : (v : Value) (s : List ℕ) → Form v s → (out : List ℕ) → length s ≤ length out → f .Writes v out (over 0 s out) (done (length s))
 
-module _ (f : Format) (Form : f .Value → List ℕ → Type 0) (w : Ruled f Form) where
-  exact-back : (v : f .Value) (out x : List ℕ) (n : ℕ) (a : Answer (f .Place)) → f .Writes v out x (done n) → f .Reads (take n x) a
-      → (p : f .Place) × (a ≡ done p) × (f .says (take n x) p ≡ v)
+module _ {Place Value : Type 0} (f : Format Place Value) (Form : Value → List ℕ → Type 0) (w : Ruled f Form) where
+  exact-back : (v : Value) (out x : List ℕ) (n : ℕ) (a : Answer Place) → f .Writes v out x (done n) → f .Reads (take n x) a
+      → (p : Place) × (a ≡ done p) × (f .says (take n x) p ≡ v)
   exact-back v out x n a k r =
       let t = w .writes v out x n k in
       let e : take n x ≡ t .0 = stands-front (t .2) in
       let b = w .back v (t .0) (t .1) in
       (b .0, w .reads (take n x) a r ∙ ap (f .read) e ∙ b .1, ap (λ (s : List ℕ). f .says s (b .0)) e ∙ b .2)
 
-  exact-only : (s : List ℕ) (p : f .Place) → Slice s → f .Reads s (done p) → (out : List ℕ) → length (f .counting s) ≤ length out
+  exact-only : (s : List ℕ) (p : Place) → Slice s → f .Reads s (done p) → (out : List ℕ) → length (f .counting s) ≤ length out
       → f .Writes (f .says s p) out (over 0 (f .counting s) out) (done (length (f .counting s)))
   exact-only s p y r = w .write (f .says s p) (f .counting s) (w .only s p y (sym (w .reads s (done p) r)))
 
-  exact-form : (v : f .Value) (out x : List ℕ) (m : ℕ) (out' y : List ℕ) (n : ℕ) → f .Writes v out x (done m) → f .Writes v out' y (done n) → take m x ≡ take n y
+  exact-form : (v : Value) (out x : List ℕ) (m : ℕ) (out' y : List ℕ) (n : ℕ) → f .Writes v out x (done m) → f .Writes v out' y (done n) → take m x ≡ take n y
   exact-form v out x m out' y n k l =
       let t = w .writes v out x m k in
       let u = w .writes v out' y n l in
       stands-front (t .2) ∙ w .form v (t .0) (u .0) (t .1) (u .1) ∙ sym (stands-front (u .2))
 
-  exact-refused : (s : List ℕ) (a : Answer (f .Place)) → Slice s
-      → ((v : f .Value) (out x : List ℕ) (n : ℕ) → f .Writes v out x (done n) → take n x ≡ f .counting s → ⊥) → f .Reads s a
+  exact-refused : (s : List ℕ) (a : Answer Place) → Slice s
+      → ((v : Value) (out x : List ℕ) (n : ℕ) → f .Writes v out x (done n) → take n x ≡ f .counting s → ⊥) → f .Reads s a
       → (n : ℕ) × (place : ℕ) × (a ≡ refusedAt n place)
   exact-refused s a y none r = go (f .read s) refl
     where
-      go : (x : Answer (f .Place)) → f .read s ≡ x → (n : ℕ) × (place : ℕ) × (a ≡ refusedAt n place)
+      go : (x : Answer Place) → f .read s ≡ x → (n : ℕ) × (place : ℕ) × (a ≡ refusedAt n place)
       go (done p) e =
           let c : List ℕ = f .counting s in
           let k = w .write (f .says s p) c (w .only s p y e) c (omega arith) in

@@ -20,8 +20,8 @@ use Rattle.promises.specs.Calls.{Call}
 use Rattle.promises.specs.Formats.{Format, Exact, Frame, frames, scans, typing, envelopes, manifests, auths, shards}
 
 -- these bytes are read as this value: by every call of the reader
-abbrev pub ReadAs : (f : Format) → List ℕ → f .Value → Type 0
-ReadAs f s v = (a : Answer (f .Place)) → f .Reads s a → (p : f .Place) × (a ≡ done p) × (f .says s p ≡ v)
+abbrev pub ReadAs : {Place Value : Type 0} (f : Format Place Value) → List ℕ → Value → Type 0
+ReadAs {Place = Place} f s v = (a : Answer Place) → f .Reads s a → (p : Place) × (a ≡ done p) × (f .says s p ≡ v)
 
 -- ---- the pages of a document
 
@@ -81,11 +81,11 @@ payloadSays kind id contents = record { kind = kind; id = id; index = 0; total =
 
 -- no payload that was written is too long for a key or auth frame: under an id of 8 bytes it is taken where 500 bytes are lent. And a key or auth frame that is written reads back, and carries
 -- what the payload's reader accepts
-pub record Carries (f : Format) (kind : ℕ) (Writer : List ℕ → List ℕ → List ℕ → List ℕ → Answer ℕ → Type 0) : Type 0 where
-  pub taken : (v : f .Value) (lent y : List ℕ) (m : ℕ) → f .Writes v lent y (done m)
+pub record Carries {Place Value : Type 0} (f : Format Place Value) (kind : ℕ) (Writer : List ℕ → List ℕ → List ℕ → List ℕ → Answer ℕ → Type 0) : Type 0 where
+  pub taken : (v : Value) (lent y : List ℕ) (m : ℕ) → f .Writes v lent y (done m)
       → (id out x : List ℕ) (a : Answer ℕ) → length id ≡ 8 → 500 ≤ length out → Writer id (take m y) out x a → (n : ℕ) × (a ≡ done n)
   pub back : (id contents out x : List ℕ) (n : ℕ) → Writer id contents out x (done n) → ReadAs frames (take n x) (payloadSays kind id contents)
-  pub accepted : (id contents out x : List ℕ) (n : ℕ) → Writer id contents out x (done n) → (a : Answer (f .Place)) → f .Reads contents a → (p : f .Place) × (a ≡ done p)
+  pub accepted : (id contents out x : List ℕ) (n : ℕ) → Writer id contents out x (done n) → (a : Answer Place) → f .Reads contents a → (p : Place) × (a ≡ done p)
 
 pub record Demand2 : Type 0 where
   -- pages: any frame; those of a printed document; key and auth frames

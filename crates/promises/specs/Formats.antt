@@ -50,11 +50,8 @@ Slice s = Bytes s × (length s < 2 ^ 64)
 
 -- ---- a format
 
-pub record Format : Type 1 where
-  -- what the reader answers with 0: places in its input, and numbers
-  pub Place : Type 0
-  -- what they say, as bytes and numbers
-  pub Value : Type 0
+-- Place is what the reader answers with 0, places in its input and numbers; Value what they say, as bytes and numbers
+pub record Format (Place Value : Type 0) : Type 1 where
   pub says : List ℕ → Place → Value
   -- what counts of the input: all of it, except for what a text's reader skips
   pub counting : List ℕ → List ℕ
@@ -65,22 +62,22 @@ pub record Format : Type 1 where
   -- Writes v out x a: a call of the writer with the value v, lent out, answered a and left x
   pub Writes : Value → List ℕ → List ℕ → Answer ℕ → Type 0
 
-pub record Exact (f : Format) : Type 0 where
+pub record Exact {Place Value : Type 0} (f : Format Place Value) : Type 0 where
   -- nothing below is said of calls that cannot be: the reader can be called on any bytes
-  pub happens : (s : List ℕ) → (a : Answer (f .Place)) × f .Reads s a
+  pub happens : (s : List ℕ) → (a : Answer Place) × f .Reads s a
   -- whatever is read, the reader's answer is the one that 01 defines: accepted with this value, or refused with this number and place
-  pub reason : (s : List ℕ) (a : Answer (f .Place)) → f .Reads s a → a ≡ f .read s
+  pub reason : (s : List ℕ) (a : Answer Place) → f .Reads s a → a ≡ f .read s
   -- what is written reads back equal
-  pub back : (v : f .Value) (out x : List ℕ) (n : ℕ) (a : Answer (f .Place)) → f .Writes v out x (done n) → f .Reads (take n x) a
-      → (p : f .Place) × (a ≡ done p) × (f .says (take n x) p ≡ v)
+  pub back : (v : Value) (out x : List ℕ) (n : ℕ) (a : Answer Place) → f .Writes v out x (done n) → f .Reads (take n x) a
+      → (p : Place) × (a ≡ done p) × (f .says (take n x) p ≡ v)
   -- what is read is what the writer writes of the value read, into any output with room for it
-  pub only : (s : List ℕ) (p : f .Place) → Slice s → f .Reads s (done p) → (out : List ℕ) → length (f .counting s) ≤ length out
+  pub only : (s : List ℕ) (p : Place) → Slice s → f .Reads s (done p) → (out : List ℕ) → length (f .counting s) ≤ length out
       → f .Writes (f .says s p) out (over 0 (f .counting s) out) (done (length (f .counting s)))
   -- one form for each value
-  pub form : (v : f .Value) (out x : List ℕ) (m : ℕ) (out' y : List ℕ) (n : ℕ) → f .Writes v out x (done m) → f .Writes v out' y (done n) → take m x ≡ take n y
+  pub form : (v : Value) (out x : List ℕ) (m : ℕ) (out' y : List ℕ) (n : ℕ) → f .Writes v out x (done m) → f .Writes v out' y (done n) → take m x ≡ take n y
   -- bytes that no value is written as are refused
-  pub refused : (s : List ℕ) (a : Answer (f .Place)) → Slice s
-      → ((v : f .Value) (out x : List ℕ) (n : ℕ) → f .Writes v out x (done n) → take n x ≡ f .counting s → ⊥)
+  pub refused : (s : List ℕ) (a : Answer Place) → Slice s
+      → ((v : Value) (out x : List ℕ) (n : ℕ) → f .Writes v out x (done n) → take n x ≡ f .counting s → ⊥)
       → f .Reads s a → (n : ℕ) × (place : ℕ) × (a ≡ refusedAt n place)
 
 -- ---- a page: any frame
@@ -96,10 +93,8 @@ abbrev pub frameSays : List ℕ → F.Frame → Frame
 frameSays s f = record { kind = f .kind; id = F.idOf s; index = f .index; total = f .total; contents = F.dataOf s f }
 
 -- the writer lays out any parts; those of a frame are the allowed ones
-abbrev pub frames : Format
+abbrev pub frames : Format F.Frame Frame
 frames = record {
-  Place = F.Frame;
-  Value = Frame;
   says = frameSays;
   counting = λ s. s;
   read = λ s. valueOf (F.frameOf s);
@@ -119,10 +114,8 @@ abbrev pub textSaid : Answer ℕ → List ℕ → Answer (List ℕ)
 textSaid a x = then a (λ n. done (take n x))
 
 -- over the calls of a reader and a writer: (what was given) (what was lent) (what was left) (the answer). A reader is lent as many bytes as the text has
-abbrev pub texts : Form → (Reader Writer : List ℕ → List ℕ → List ℕ → Answer ℕ → Type 0) → Format
+abbrev pub texts : Form → (Reader Writer : List ℕ → List ℕ → List ℕ → Answer ℕ → Type 0) → Format (List ℕ) (List ℕ)
 texts f Reader Writer = record {
-  Place = List ℕ;
-  Value = List ℕ;
   says = λ s bs. bs;
   counting = kept f;
   read = readText f;
@@ -136,10 +129,10 @@ TextCall contract s out x a =
     (k : Call text-base64-read.Kinds.ps text-base64-read.Kinds.r contract)
     × (now (k .args .0) ≡ s) × (now (k .args .1 .0) ≡ out) × (k .left .1 .0 ≡ x) × (told (k .answer) ≡ a)
 
-abbrev pub scans : Format
+abbrev pub scans : Format (List ℕ) (List ℕ)
 scans = texts base64 (TextCall text-base64-read.Reads.Learnt) (TextCall text-base64-write.Reads.Learnt)
 
-abbrev pub typing : Format
+abbrev pub typing : Format (List ℕ) (List ℕ)
 typing = texts zbase32 (TextCall text-zbase32-read.Reads.Learnt) (TextCall text-zbase32-write.Reads.Learnt)
 
 -- ---- the envelope
@@ -148,10 +141,8 @@ pub record Enclosed : Type 0 where
   pub manifest : List ℕ
   pub payload : List ℕ
 
-abbrev pub envelopes : Format
+abbrev pub envelopes : Format Cover Enclosed
 envelopes = record {
-  Place = Cover;
-  Value = Enclosed;
   says = λ s c. record { manifest = partAt s (c .manifest); payload = partAt s (c .payload) };
   counting = λ s. s;
   read = envelopeAt;
@@ -170,10 +161,8 @@ abbrev pub manifestTold : StepRead → Manifest → Answer Listing
 manifestTold (step.Past next) m = done (listed m)
 manifestTold (step.Refused e) m = refused e
 
-abbrev pub manifests : Format
+abbrev pub manifests : Format Listing Said
 manifests = record {
-  Place = Listing;
-  Value = Said;
   says = saidIn;
   counting = λ s. s;
   read = λ s. valueOf (manifestAt s);
@@ -196,10 +185,8 @@ pub record Auth : Type 0 where
 abbrev pub authSays : List ℕ → Claim → Auth
 authSays s c = record { public = take 32 (drop (c .public) s); sig = take 64 (drop (c .sig) s); hash = take 32 (drop (c .hash) s) }
 
-abbrev pub auths : Format
+abbrev pub auths : Format Claim Auth
 auths = record {
-  Place = Claim;
-  Value = Auth;
   says = authSays;
   counting = λ s. s;
   read = λ s. valueOf (authAt s);
@@ -229,10 +216,8 @@ shardSays s v = record {
   quorum = v .quorum;
 }
 
-abbrev pub shards : Format
+abbrev pub shards : Format Shard Share
 shards = record {
-  Place = Shard;
-  Value = Share;
   says = shardSays;
   counting = λ s. s;
   read = λ s. valueOf (shardAt s);

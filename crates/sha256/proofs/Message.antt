@@ -96,6 +96,10 @@ block-append n b r h =
     let l : 64 ≤ length (drop (n * 64) b) = simp length-drop (omega arith) in
     ap (take 64) (drop-append-le (n * 64) b r (omega arith)) ∙ take-append-le 64 (drop (n * 64) b) r l
 
+-- a loop over n blocks that has turned n times
+pub all-blocks : (n k : ℕ) (b : List ℕ) (s x : State) → n ≤ k → (k ≤ n) × (x ≡ blocks k b s) → x ≡ blocks n b s
+all-blocks n k b s x h (l, e) = let q : n ≡ k = omega arith in rw q e
+
 blocks-append : (n : ℕ) (b r : List ℕ) (s : State) → n * 64 ≤ length b → blocks n (b ++ r) s ≡ blocks n b s
 unfolding blocks
 blocks-append zero b r s h = refl

@@ -6,6 +6,7 @@ use native.Mathlib.Omega.{arith}
 use Rattle.sha256.specs.Message.{block}
 use Rattle.sha256.specs.Sha.{blocks}
 use borrow.Author.Needs.{needs}
+use Rattle.sha256.proofs.Message.{all-blocks}
 use Rattle.sha256.proofs.blocks.Statement.{statement}
 use Rattle.sha256.proofs.blocks.Tie as tie
 
@@ -24,7 +25,7 @@ unfolding blocks block
 loop-again c = (omega arith, rw add-one (cc))
 
 returns : tie.Need-returns Inv-loop μ-loop
-returns c = let e : c .before .loop .i ≡ c .before .before .before .args .n = omega arith in cc
+returns c = search all-blocks
 
 -- Found by search:
 
