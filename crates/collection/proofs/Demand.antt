@@ -1,5 +1,5 @@
 -- The third demand, for open, offer and join: what a collection saves is fixed by the SET of good pages that were offered to it.
--- The words are those of Built.antt and of state's Meaning: no order, no grouping and no count stands in them. Assumes nothing.
+-- The words are those of Built.antt and of model's Meaning: no order, no grouping and no count stands in them. Assumes nothing.
 use mathlib.Core.Path.{_≡_, refl, sym, ap, _∙_, subst}
 use mathlib.Core.Bool.{true}
 use mathlib.Core.Logic.{_⊎_, inl, inr, ⊎-elim}

@@ -1,4 +1,4 @@
--- What is printed and what is taken up, said of the SET of pages: the third demand (collection and closing, Demand) at the pantry. Assumes nothing.
+-- What is printed and what is taken up, said of the SET of pages: the third demand (collection and finish, Demand) at the pantry. Assumes nothing.
 use mathlib.Core.Path.{_≡_, refl, ap, _∙_}
 use mathlib.Core.Bool.{true}
 use mathlib.Core.Logic.{_⊎_, inl, inr, _↔_}

@@ -3,8 +3,8 @@
 -- the document's own.
 --
 -- How a collection came to be is a `Built` (collection, Built): opened, any bytes offered, others joined, in any order; `In` is the set of good pages that
--- were offered in it. What a collection is for a SET of pages, without order or count, is `BookIs` (state, Meaning), its bytes are `encode` (book, Encode),
--- and when a set is complete is `Complete` (state, Complete).
+-- were offered in it. What a collection is for a SET of pages, without order or count, is `BookIs` (model, Meaning), its bytes are `encode` (book, Encode),
+-- and when a set is complete is `Complete` (model, Complete).
 use mathlib.Core.Path.{_≡_}
 use mathlib.Core.List.{List, _++_}
 use Prim.Native.Nat.{ℕ, _≤_}
