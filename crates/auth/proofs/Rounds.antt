@@ -38,16 +38,17 @@ field-back {s} k name bs b c e h =
     (r .0, r .1, ap (λ (n : ℕ). take n (drop (r .0 .start) s)) (sym (f .long ∙ e)) ∙ f .part)
 
 module _ {s : List ℕ} (public sig hash : List ℕ) (p : length public ≡ 32) (g : length sig ≡ 64) (h : length hash ≡ 32) where
-  -- the three fields, one after the other
-  pub claim-back : {at a b next : ℕ} → Stands s at (stringFieldOf (ascii "pub") 2 public) a → Stands s a (stringFieldOf (ascii "sig") 2 sig) b → Stands s b (stringFieldOf (ascii "hash") 2 hash) next
-      → (v : Claim) × (claimAt s at ≡ got v next) × Claimed s public sig hash v
+  -- the map's head and the three fields, one after the other
+  pub claim-back : {at a b next : ℕ} (map : ℕ) → Stands s 0 (map ∷ []) at
+      → Stands s at (stringFieldOf (ascii "pub") 2 public) a → Stands s a (stringFieldOf (ascii "sig") 2 sig) b → Stands s b (stringFieldOf (ascii "hash") 2 hash) next
+      → (v : Claim) × (claimAt s map ≡ got v next) × Claimed s public sig hash v
   unfolding claimAt
-  claim-back h₁ h₂ h₃ =
+  claim-back map h₀ h₁ h₂ h₃ =
       let r₁ = field-back 32 (ascii "pub") public (omega arith) (omega arith) p h₁ in
       let r₂ = field-back 64 (ascii "sig") sig (omega arith) (omega arith) g h₂ in
       let r₃ = field-back 32 (ascii "hash") hash (omega arith) (omega arith) h h₃ in (
         record { public = r₁ .0 .start; sig = r₂ .0 .start; hash = r₃ .0 .start },
-        rw (r₁ .1, r₂ .1, r₃ .1),
+        rw (one-back map h₀, r₁ .1, r₂ .1, r₃ .1),
         record { public-is = r₁ .2; sig-is = r₂ .2; hash-is = r₃ .2 },
       )
 
@@ -74,10 +75,11 @@ auth-back public sig hash p g h = go (authOf public sig hash) (stands-whole (aut
         let t₁ = stands-second (0xA4 ∷ []) (P ++ (G ++ (H ++ N))) t₀ in
         let t₂ = stands-second P (G ++ (H ++ N)) t₁ in
         let t₃ = stands-second G (H ++ N) t₂ in
-        let c = claim-back public sig hash p g h (stands-first P (G ++ (H ++ N)) t₁) (stands-first G (H ++ N) t₂) (stands-first H N t₃) in
+        let c = claim-back public sig hash p g h 0xA4 (stands-first (0xA4 ∷ []) (P ++ (G ++ (H ++ N))) t₀)
+        (stands-first P (G ++ (H ++ N)) t₁) (stands-first G (H ++ N) t₂) (stands-first H N t₃) in
         let n = number-field-back (ascii "version") 1 1 1 (omega arith) (omega arith) (omega arith) (omega arith) (stands-second H N t₃) in (
           c .0,
-          rw (one-back 0xA4 (stands-first (0xA4 ∷ []) (P ++ (G ++ (H ++ N))) t₀), c .1, n, eq-eqb (length s) (length s) refl),
+          rw (c .1, n, eq-eqb (length s) (length s) refl),
           c .2,
         )
 
@@ -117,18 +119,21 @@ module _ (s : List ℕ) (v : Claim) where
     pub sig-long : length sigIn ≡ 64
     pub hash-long : length hashIn ≡ 32
 
--- the three fields stand one after the other
-pub record Three (s : List ℕ) (at : ℕ) (v : Claim) (next : ℕ) : Type 0 where
+-- the map's head and the three fields stand one after the other
+pub record Three (s : List ℕ) (map : ℕ) (v : Claim) (next : ℕ) : Type 0 where
+  pub after-head : ℕ
   pub after-public : ℕ
   pub after-sig : ℕ
-  pub public-stands : Stands s at (stringFieldOf (ascii "pub") 2 (publicIn s v)) after-public
+  pub head-stands : Stands s 0 (map ∷ []) after-head
+  pub public-stands : Stands s after-head (stringFieldOf (ascii "pub") 2 (publicIn s v)) after-public
   pub sig-stands : Stands s after-public (stringFieldOf (ascii "sig") 2 (sigIn s v)) after-sig
   pub hash-stands : Stands s after-sig (stringFieldOf (ascii "hash") 2 (hashIn s v)) next
 
-pub claim-only : {s : List ℕ} {at next : ℕ} {v : Claim} → Bytes s → claimAt s at ≡ got v next → Three s at v next × Long s v
+pub claim-only : {s : List ℕ} {next : ℕ} {v : Claim} (map : ℕ) → Bytes s → claimAt s map ≡ got v next → Three s map v next × Long s v
 unfolding claimAt
-claim-only {s} {at} {next} {v} y e =
-    let t₁ = then-passed (stringFieldAt s at (ascii "pub") 2 32 32 19) _ e in
+claim-only {s} {next} {v} map y e =
+    let t₀ = then-passed (oneAt s 0 map) _ e in
+    let t₁ = then-passed (stringFieldAt s (t₀ .1) (ascii "pub") 2 32 32 19) _ (t₀ .3) in
     let t₂ = then-passed (stringFieldAt s (t₁ .1) (ascii "sig") 2 64 64 19) _ (t₁ .3) in
     let t₃ = then-passed (stringFieldAt s (t₂ .1) (ascii "hash") 2 32 32 19) _ (t₂ .3) in
     let f : _≡_ {A = Claim} (record { public = t₁ .0 .start; sig = t₂ .0 .start; hash = t₃ .0 .start }) v = got-value (t₃ .3) in
@@ -136,8 +141,8 @@ claim-only {s} {at} {next} {v} y e =
     let r₁ = field-only 32 (ascii "pub") y (t₁ .2) in
     let r₂ = field-only 64 (ascii "sig") y (t₂ .2) in
     let r₃ = field-only 32 (ascii "hash") y (t₃ .2) in
-    subst (λ (w : Claim). Three s at w next × Long s w) f (
-      record { after-public = t₁ .1; after-sig = t₂ .1; public-stands = r₁ .0; sig-stands = r₂ .0; hash-stands = stands-as refl n (r₃ .0) },
+    subst (λ (w : Claim). Three s map w next × Long s w) f (
+      record { after-head = t₀ .1; after-public = t₁ .1; after-sig = t₂ .1; head-stands = one-only map (t₀ .2); public-stands = r₁ .0; sig-stands = r₂ .0; hash-stands = stands-as refl n (r₃ .0) },
       record { public-long = r₁ .1; sig-long = r₂ .1; hash-long = r₃ .1 },
     )
 
@@ -145,20 +150,19 @@ claim-only {s} {at} {next} {v} y e =
 pub auth-only : {s : List ℕ} {v : Claim} {next : ℕ} → Bytes s → authAt s ≡ got v next → (s ≡ authOf (publicIn s v) (sigIn s v) (hashIn s v)) × (next ≡ length s) × Long s v
 unfolding authAt authOf
 auth-only {s} {v} {next} y e =
-    let t₁ = then-passed (oneAt s 0 0xA4) _ e in
-    let t₂ = then-passed (claimAt s (t₁ .1)) _ (t₁ .3) in
-    let t₃ = then-passed (numberFieldAt s (t₂ .1) (ascii "version") 1 1) _ (t₂ .3) in
-    let u = passed (eqb (t₃ .1) (length s)) (got (t₂ .0) (t₃ .1)) 3 (t₃ .3) in
-    let f : t₂ .0 ≡ v = got-value (u .1) in
-    let n : t₃ .1 ≡ next = got-next (u .1) in
-    let l : t₃ .1 ≡ length s = eqb-true (t₃ .1) (length s) (u .0) in
-    let c = claim-only y (t₂ .2) in
+    let t₁ = then-passed (claimAt s 0xA4) _ e in
+    let t₂ = then-passed (numberFieldAt s (t₁ .1) (ascii "version") 1 1) _ (t₁ .3) in
+    let u = passed (eqb (t₂ .1) (length s)) (got (t₁ .0) (t₂ .1)) 3 (t₂ .3) in
+    let f : t₁ .0 ≡ v = got-value (u .1) in
+    let n : t₂ .1 ≡ next = got-next (u .1) in
+    let l : t₂ .1 ≡ length s = eqb-true (t₂ .1) (length s) (u .0) in
+    let c = claim-only 0xA4 y (t₁ .2) in
     let r = c .0 in
-    let w = number-field-within s (t₂ .1) (ascii "version") 1 1 (t₃ .2) in
-    let k : t₃ .0 ≡ 1 = omega (arith, w .0, w .1) in
-    let d : Stands s (t₂ .1) (numberFieldOf (ascii "version") 1) (length s) = stands-as (ap (numberFieldOf (ascii "version")) k) l (number-field-only (ascii "version") 1 1 y (t₃ .2)) in
+    let w = number-field-within s (t₁ .1) (ascii "version") 1 1 (t₂ .2) in
+    let k : t₂ .0 ≡ 1 = omega (arith, w .0, w .1) in
+    let d : Stands s (t₁ .1) (numberFieldOf (ascii "version") 1) (length s) = stands-as (ap (numberFieldOf (ascii "version")) k) l (number-field-only (ascii "version") 1 1 y (t₂ .2)) in
     subst (λ (w : Claim). (s ≡ authOf (publicIn s w) (sigIn s w) (hashIn s w)) × (next ≡ length s) × Long s w) f (
-      stands-all (stands-join (one-only 0xA4 (t₁ .2)) (stands-join (r .public-stands) (stands-join (r .sig-stands) (stands-join (r .hash-stands) d)))),
+      stands-all (stands-join (r .head-stands) (stands-join (r .public-stands) (stands-join (r .sig-stands) (stands-join (r .hash-stands) d)))),
       sym n ∙ l,
       c .1,
     )

@@ -14,21 +14,21 @@ pub record Claim : Type 0 where
   pub sig : ℕ
   pub hash : ℕ
 
--- `pub`, `sig`, `hash`: a shard has them too
+-- what a payload begins with, a shard too: the head of its map, `pub`, `sig`, `hash`
 unfoldable pub claimAt : List ℕ → ℕ → Got Claim
-claimAt s at =
+claimAt s map =
+    then (oneAt s 0 map) (λ (_, at).
     then (stringFieldAt s at (ascii "pub") 2 32 32 19) (λ (public, a).
     then (stringFieldAt s a (ascii "sig") 2 64 64 19) (λ (sig, b).
     then (stringFieldAt s b (ascii "hash") 2 32 32 19) (λ (hash, next).
-    got (record { public = public .start; sig = sig .start; hash = hash .start }) next)))
+    got (record { public = public .start; sig = sig .start; hash = hash .start }) next))))
 
 -- head A4: the three and `version`, which is 1, and nothing after
 unfoldable pub authAt : List ℕ → Got Claim
 authAt s =
-    then (oneAt s 0 0xA4) (λ (_, a).
-    then (claimAt s a) (λ (claim, b).
-    then (numberFieldAt s b (ascii "version") 1 1) (λ (_, next).
-    demand (eqb next (length s)) 3 (got claim next))))
+    then (claimAt s 0xA4) (λ (claim, a).
+    then (numberFieldAt s a (ascii "version") 1 1) (λ (_, next).
+    demand (eqb next (length s)) 3 (got claim next)))
 
 -- the same, written
 unfoldable pub authOf : List ℕ → List ℕ → List ℕ → List ℕ

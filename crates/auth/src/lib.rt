@@ -8,10 +8,10 @@ ghost use Rattle.wire.specs.Writing.{Written};
 ghost use Rattle.auth.specs.Auth.{claimAt, authAt, authOf, authVerdict, signedOf, signedVerdict};
 ghost use Rattle.auth.specs.Answer.{claimTold};
 use cbor::BYTES;
-use cbor::NumberRead;
-use cbor::StepRead;
 use cbor::StringRead;
+use wire::NumberRead;
 use wire::OUT_OF_RANGE;
+use wire::StepRead;
 use wire::Wrote;
 
 pub enum ClaimRead {
@@ -40,10 +40,14 @@ impl ClaimRead {
     }
 }
 
-// The fields pub, sig and hash at position at.
-pub fn claim(s: &[u8], at: usize) -> ClaimRead
-    ensures { λ r. ⌜ claimTold r ≡ claimAt (now (s .entry)) at ⌝ }
+// What s begins with: a map's head, which the caller gives, and the fields pub, sig and hash.
+pub fn claim(s: &[u8], map: u8) -> ClaimRead
+    ensures { λ r. ⌜ claimTold r ≡ claimAt (now (s .entry)) map ⌝ }
 {
+    let m = cbor::read::one_byte(s, 0, map);
+    let StepRead::Past { next: at } = m else {
+        return ClaimRead::Refused { no: m.no() };
+    };
     let p = cbor::read::string_field(s, at, b"pub", BYTES, 32, 32, OUT_OF_RANGE);
     let StringRead::Value {
         start: public,
@@ -83,21 +87,17 @@ pub fn claim(s: &[u8], at: usize) -> ClaimRead
 pub fn read(s: &[u8]) -> ClaimRead
     ensures { λ r. ⌜ claimTold r ≡ authAt (now (s .entry)) ⌝ }
 {
-    let m = cbor::read::one_byte(s, 0, 0xA4);
-    let StepRead::Past { next: a } = m else {
-        return ClaimRead::Refused { no: m.no() };
-    };
-    let c = claim(s, a);
+    let c = claim(s, 0xA4);
     let ClaimRead::Value {
         public,
         sig,
         hash,
-        next: b,
+        next: a,
     } = c
     else {
         return ClaimRead::Refused { no: c.no() };
     };
-    let v = cbor::read::number_field(s, b, b"version", 1, 1);
+    let v = cbor::read::number_field(s, a, b"version", 1, 1);
     let NumberRead::Value { n: _, next } = v else {
         return ClaimRead::Refused { no: v.no() };
     };

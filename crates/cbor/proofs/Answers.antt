@@ -6,32 +6,17 @@ use borrow.Author.Tests.{eq-eqb, ne-eqb}
 use lib.Dec.{eqb}
 use Rattle.wire.specs.Answer.{refused, numberOf, then, Got, Answer}
 use Rattle.wire.proofs.Cases.{got-value, got-next}
-use Rattle.wire.proofs.Branch.{branch, go, stop}
+use Rattle.wire.proofs.Branch.{go, stop}
+use Rattle.wire.proofs.Answers.{reads}
 use Rattle.wire.specs.declared.Span.{Span}
 use Rattle.cbor.specs.Item.{Head}
-use Rattle.cbor.specs.Answer.{stepTold, numberTold, headTold, stringTold}
-use Rattle.cbor.specs.declared.StepRead.{StepRead}
-use Rattle.cbor.specs.declared.StepRead.the-variants as step
-use Rattle.cbor.specs.declared.NumberRead.{NumberRead}
-use Rattle.cbor.specs.declared.NumberRead.the-variants as number
+use Rattle.cbor.specs.Answer.{headTold, stringTold}
 use Rattle.cbor.specs.declared.HeadRead.{HeadRead}
 use Rattle.cbor.specs.declared.HeadRead.the-variants as head
 use Rattle.cbor.specs.declared.StringRead.{StringRead}
 use Rattle.cbor.specs.declared.StringRead.the-variants as string
 
 -- ---- an enum says no more than 01's answer does
-
-pub step-injective : (r q : StepRead) → stepTold r ≡ stepTold q → r ≡ q
-step-injective (step.Past i) (step.Past j) e = ap step.Past (got-next e)
-step-injective (step.Past i) (step.Refused n) e = cc
-step-injective (step.Refused m) (step.Past j) e = cc
-step-injective (step.Refused m) (step.Refused n) e = cc
-
-pub number-injective : (r q : NumberRead) → numberTold r ≡ numberTold q → r ≡ q
-number-injective (number.Value m i) (number.Value n j) e = cc (got-value e, got-next e)
-number-injective (number.Value m i) (number.Refused n) e = cc
-number-injective (number.Refused m) (number.Value n j) e = cc
-number-injective (number.Refused m) (number.Refused n) e = cc
 
 pub head-injective : (r q : HeadRead) → headTold r ≡ headTold q → r ≡ q
 head-injective (head.Value a m i) (head.Value b n j) e =
@@ -48,20 +33,6 @@ string-injective (string.Refused m) (string.Value b n j) e = cc
 string-injective (string.Refused m) (string.Refused n) e = cc
 
 -- ---- for `search`: one item of a chain. g is what a reader's contract says, r what it answered, n the number that the code took from r
-
-module _ {B : Type 0} (g : Got Unit) (f : Unit × ℕ → Answer B) where
-  pub go-step : (r : StepRead) (next : ℕ) (y : Answer B) → stepTold r ≡ g → r ≡ step.Past next → y ≡ f (tt, next) → y ≡ then g f
-  go-step r next y = go stepTold g f r (step.Past next) y
-
-  pub no-step : (r : StepRead) (n e : ℕ) → stepTold r ≡ g → r ≡ step.Refused e → n ≡ numberOf (stepTold r) → refused n ≡ then g f
-  no-step r n e h k q = stop stepTold g f r (step.Refused e) n e h k refl q
-
-module _ {B : Type 0} (g : Got ℕ) (f : ℕ × ℕ → Answer B) where
-  pub go-number : (r : NumberRead) (v next : ℕ) (y : Answer B) → numberTold r ≡ g → r ≡ number.Value v next → y ≡ f (v, next) → y ≡ then g f
-  go-number r v next y = go numberTold g f r (number.Value v next) y
-
-  pub no-number : (r : NumberRead) (n e : ℕ) → numberTold r ≡ g → r ≡ number.Refused e → n ≡ numberOf (numberTold r) → refused n ≡ then g f
-  no-number r n e h k q = stop numberTold g f r (number.Refused e) n e h k refl q
 
 module _ {B : Type 0} (g : Got Head) (f : Head × ℕ → Answer B) where
   pub go-head : (r : HeadRead) (m v next : ℕ) (y : Answer B) → headTold r ≡ g → r ≡ head.Value m v next → y ≡ f ((record { major = m; number = v }), next) → y ≡ then g f
@@ -88,4 +59,4 @@ answered r x k e h = eq-eqb x k (sym e ∙ h)
 pub differed : (r x k : ℕ) → r ≡ x → (r ≡ k → ⊥) → eqb x k ≡ false
 differed r x k e h = ne-eqb x k (λ (q : x ≡ k). h (e ∙ q))
 
-pub ruleset chain = (branch, go-step, no-step, go-number, no-number, go-head, no-head, go-string, no-string)
+pub ruleset chain = (reads, go-head, no-head, go-string, no-string)

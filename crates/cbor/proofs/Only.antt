@@ -6,6 +6,8 @@ use mathlib.Core.Bool.{true, false}
 use mathlib.Core.List.{List, [], _∷_, _++_}
 use native.Mathlib.Nat.{pow-le-pow-right}
 use native.Mathlib.Omega.{arith}
+use mir.Val.{Fits}
+use mir.Syntax.{w64}
 use borrow.Author.Tests.{ltb-true, leb-true, eqb-true}
 use lib.Dec.{ltb, leb, eqb, lit<}
 use lib.ListN.{length, take, drop, getD, length-drop, List·getD-eq-default}
@@ -15,12 +17,15 @@ use Rattle.wire.specs.Number.{Bytes, bigEndian, digits, number}
 use Rattle.wire.proofs.Cases.{lt-or-le, passed, then-passed, got-next, got-value}
 use Rattle.wire.proofs.Digits.{digits-number, number-lt}
 use Rattle.wire.proofs.Standing.{Stands, stands-none, stands-as, stands-join, stands-part, byte-stands}
+use Rattle.wire.specs.Reading.{numberTold}
+use Rattle.wire.specs.declared.NumberRead.{NumberRead}
+use Rattle.wire.specs.declared.NumberRead.the-variants as number
 use Rattle.wire.specs.declared.Span.{Span}
 use Rattle.wire.specs.Span.{partAt}
 use Rattle.lend.specs.Same.{same}
 use Rattle.lend.proofs.Sames.{same-eq}
 use Rattle.cbor.specs.Form.{infoOf, widthOf, headOf, stringOf, doubleOf, stringFieldOf, numberFieldOf}
-use Rattle.cbor.specs.Item.{byteAt, oneAt, bigEndianAt, argumentAt, kindOf, Head, headAt, numberAt, contentsAt, stringAt, nameAt, keyAt, doubleAt, stringFieldAt, numberFieldAt}
+use Rattle.cbor.specs.Item.{byteAt, oneAt, bigEndianAt, argumentAt, kindOf, Head, headAt, numberAt, contentsAt, stringAt, nameAt, keyAt, doubleAt, stringFieldAt, numberFieldAt, anyFieldAt}
 use Rattle.cbor.proofs.Sizes.{either, width-none, width-most, head-low}
 use Rattle.cbor.proofs.Within.{contents-within}
 
@@ -166,3 +171,20 @@ module _ {s : List ℕ} (name : List ℕ) where
       let t = then-passed (keyAt s at name) _ e in
       let r = number-only 0 least most 19 y (t .3) in
       stands-join (key-only name (t .2) .0) (r .0)
+
+-- a key, and the first byte behind it
+pub any-field-only : {s : List ℕ} {at a x : ℕ} (name : List ℕ) → anyFieldAt s at name ≡ got x a → Stands s at (stringOf 3 name) a × Stands s a (x ∷ []) (a + 1)
+unfolding anyFieldAt
+any-field-only {s} {at} {a} {x} name h =
+    let k = then-passed (keyAt s at name) _ h in
+    let b = then-passed (byteAt s (k .1)) _ (k .3) in
+    let f : b .0 ≡ x = got-value (b .3) in
+    let n : k .1 ≡ a = got-next (b .3) in
+    let r : Stands s (k .1) (b .0 ∷ []) (b .1) = byte-only (b .2) in
+    let d : Stands s (k .1) (x ∷ []) (k .1 + 1) = stands-as (ap (λ (z : ℕ). z ∷ []) f) (r .ends) r in
+    (stands-as refl n (key-only name (k .2) .0), subst (λ (i : ℕ). Stands s i (x ∷ []) (i + 1)) n d)
+
+-- for `search`: the position past that byte
+pub any-field-next : (s : List ℕ) (at : ℕ) (name : List ℕ) (r : NumberRead) (x a : ℕ) → numberTold r ≡ anyFieldAt s at name → r ≡ number.Value x a
+    → length s < 2 ^ 64 → Fits w64 (a + 1)
+any-field-next s at name r x a e k l = record { fits = omega (arith, any-field-only name (sym e ∙ ap numberTold k) .1 .within) }

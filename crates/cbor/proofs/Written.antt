@@ -16,7 +16,7 @@ use Rattle.wire.specs.declared.Span.{Span}
 use Rattle.wire.specs.Span.{partAt}
 use Rattle.lend.proofs.Sames.{same-refl}
 use Rattle.cbor.specs.Form.{infoOf, widthOf, headOf, stringOf, doubleOf, stringFieldOf, numberFieldOf}
-use Rattle.cbor.specs.Item.{byteAt, oneAt, bigEndianAt, argumentAt, kindOf, headAt, numberAt, contentsAt, stringAt, nameAt, keyAt, doubleAt, stringFieldAt, numberFieldAt}
+use Rattle.cbor.specs.Item.{byteAt, oneAt, bigEndianAt, argumentAt, kindOf, headAt, numberAt, contentsAt, stringAt, nameAt, keyAt, doubleAt, stringFieldAt, numberFieldAt, anyFieldAt}
 use Rattle.cbor.proofs.Sizes.{info-most, info-low, info-high, width-none, width-holds, head-low}
 
 module _ {s : List ℕ} {at next : ℕ} where
@@ -138,3 +138,8 @@ unfolding numberFieldAt numberFieldOf
 number-field-back name least most n c l a b h =
     rw (key-back name c (stands-first (stringOf 3 name) (headOf 0 n) h))
     (number-back 0 least most 19 kind-integer n l a b (stands-second (stringOf 3 name) (headOf 0 n) h))
+
+pub any-field-back : {s : List ℕ} {at a x next : ℕ} (name : List ℕ) → length name < 24 → Stands s at (stringOf 3 name) a → byteAt s a ≡ got x next
+    → anyFieldAt s at name ≡ got x a
+unfolding anyFieldAt
+any-field-back name l h b = rw (key-back name l h, b)

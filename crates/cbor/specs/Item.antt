@@ -81,3 +81,7 @@ stringFieldAt s at name kind least most fault = then (keyAt s at name) (λ (_, p
 -- a key and a number
 unfoldable pub numberFieldAt : (s : List ℕ) (at : ℕ) (name : List ℕ) (least most : ℕ) → Got ℕ
 numberFieldAt s at name least most = then (keyAt s at name) (λ (_, p). numberAt s p 0 least most 19)
+
+-- a key and any value, by its first byte and its position
+unfoldable pub anyFieldAt : (s : List ℕ) (at : ℕ) (name : List ℕ) → Got ℕ
+anyFieldAt s at name = then (keyAt s at name) (λ (_, a). then (byteAt s a) (λ (x, _). got x a))

@@ -5,52 +5,7 @@ pub mod write;
 
 ghost use mathlib.Core.Path.{_≡_};
 ghost use Rattle.wire.specs.Answer.{numberOf};
-ghost use Rattle.cbor.specs.Answer.{stepTold, numberTold, headTold, stringTold};
-
-// The kinds of items. Each is the major type of its heads, but that a negative integer has the major type NEGATIVE.
-pub const INTEGER: u8 = 0;
-
-pub const NEGATIVE: u8 = 1;
-
-pub const BYTES: u8 = 2;
-
-pub const TEXT: u8 = 3;
-
-pub const ARRAY: u8 = 4;
-
-// The answer of a reader that looks for one thing only: the position past it.
-pub enum StepRead {
-    Past { next: usize },
-    Refused { no: u8 },
-}
-
-impl StepRead {
-    // The number of a refusal, for a caller's `else`.
-    pub fn no(self) -> u8
-        ensures { λ n. ⌜ n ≡ numberOf (stepTold self) ⌝ }
-    {
-        match self {
-            StepRead::Refused { no } => no,
-            _ => 0,
-        }
-    }
-}
-
-pub enum NumberRead {
-    Value { n: u64, next: usize },
-    Refused { no: u8 },
-}
-
-impl NumberRead {
-    pub fn no(self) -> u8
-        ensures { λ n. ⌜ n ≡ numberOf (numberTold self) ⌝ }
-    {
-        match self {
-            NumberRead::Refused { no } => no,
-            _ => 0,
-        }
-    }
-}
+ghost use Rattle.cbor.specs.Answer.{headTold, stringTold};
 
 // A head's major type and number. Of major type 0 the number is n, of 1 it is -1 - n.
 pub enum HeadRead {
@@ -59,6 +14,7 @@ pub enum HeadRead {
 }
 
 impl HeadRead {
+    // The number of a refusal, for a caller's `else`.
     pub fn no(self) -> u8
         ensures { λ n. ⌜ n ≡ numberOf (headTold self) ⌝ }
     {
@@ -91,3 +47,14 @@ impl StringRead {
         }
     }
 }
+
+// The kinds of items. Each is the major type of its heads, but that a negative integer has the major type NEGATIVE.
+pub const INTEGER: u8 = 0;
+
+pub const NEGATIVE: u8 = 1;
+
+pub const BYTES: u8 = 2;
+
+pub const TEXT: u8 = 3;
+
+pub const ARRAY: u8 = 4;

@@ -3,13 +3,14 @@ ghost use mathlib.Core.Path.{_≡_};
 ghost use Prim.Native.Nat.{_+_, _<_, _≤_};
 ghost use lib.ListN.{length, take, drop};
 ghost use Rattle.wire.specs.Number.{number};
-ghost use Rattle.cbor.specs.Item.{byteAt, oneAt, bigEndianAt, argumentAt, kindOf, headAt, numberAt, contentsAt, stringAt, nameAt, keyAt, doubleAt, stringFieldAt, numberFieldAt};
-ghost use Rattle.cbor.specs.Answer.{stepTold, numberTold, headTold, stringTold};
+ghost use Rattle.wire.specs.Reading.{stepTold, numberTold};
+ghost use Rattle.cbor.specs.Item.{byteAt, oneAt, bigEndianAt, argumentAt, kindOf, headAt, numberAt, contentsAt, stringAt, nameAt, keyAt, doubleAt, stringFieldAt, numberFieldAt, anyFieldAt};
+ghost use Rattle.cbor.specs.Answer.{headTold, stringTold};
 use super::HeadRead;
-use super::NumberRead;
-use super::StepRead;
 use super::StringRead;
 use super::short;
+use wire::NumberRead;
+use wire::StepRead;
 
 fn wide(x: u8) -> u64
     ensures { λ r. ⌜ (r ≡ x) × (r < 256) ⌝ }
@@ -273,4 +274,19 @@ pub fn number_field(s: &[u8], at: usize, name: &[u8], least: u64, most: u64) -> 
         return NumberRead::Refused { no: k.no() };
     };
     number(s, next, super::INTEGER, least, most, wire::OUT_OF_RANGE)
+}
+
+// A key, and a value of any kind: its first byte, which tells the kind, and its position.
+pub fn any_field(s: &[u8], at: usize, name: &[u8]) -> NumberRead
+    ensures { λ r. ⌜ numberTold r ≡ anyFieldAt (now (s .entry)) at (now (name .entry)) ⌝ }
+{
+    let k = key(s, at, name);
+    let StepRead::Past { next } = k else {
+        return NumberRead::Refused { no: k.no() };
+    };
+    let b = byte(s, next);
+    let NumberRead::Value { n, next: _ } = b else {
+        return NumberRead::Refused { no: b.no() };
+    };
+    NumberRead::Value { n, next }
 }

@@ -8,16 +8,15 @@ use lib.Dec.{leb}
 use lib.ListN.{length}
 use Rattle.wire.specs.Answer.{refused, numberOf, then, Got, got, Answer}
 use Rattle.wire.specs.Number.{Bytes}
-use Rattle.wire.proofs.Branch.{branch, go, stop}
+use Rattle.wire.proofs.Branch.{go, stop}
+use Rattle.wire.proofs.Answers.{reads}
 use Rattle.wire.proofs.Cases.{passed, then-passed, got-next, got-value}
 use Rattle.wire.specs.declared.Span.{Span}
-use Rattle.varint.specs.Answer as Varint
+use Rattle.wire.specs.Reading.{numberTold}
 use Rattle.varint.specs.Varint.{varintAt}
-use Rattle.varint.specs.declared.VarintRead.{VarintRead}
-use Rattle.varint.specs.declared.VarintRead.the-variants.{Value}
-use Rattle.varint.proofs.Answers.{go-varint, no-varint}
+use Rattle.wire.specs.declared.NumberRead.{NumberRead}
+use Rattle.wire.specs.declared.NumberRead.the-variants.{Value}
 use Rattle.varint.proofs.Rounds.{read-stands}
-use Rattle.mark.proofs.Answers.{go-mark, no-mark}
 use Rattle.cover.specs.Cover.{chunkAt}
 use Rattle.cover.specs.Answer.{chunkTold}
 use Rattle.cover.specs.declared.ChunkRead.{ChunkRead}
@@ -30,7 +29,7 @@ module _ {B : Type 0} (g : Got Span) (f : Span × ℕ → Answer B) where
   pub no-chunk : (r : ChunkRead) (n e : ℕ) → chunkTold r ≡ g → r ≡ K.Refused e → n ≡ numberOf (chunkTold r) → refused n ≡ then g f
   no-chunk r n e h k q = stop chunkTold g f r (K.Refused e) n e h k refl q
 
-pub ruleset chain = (branch, go-varint, no-varint, go-mark, no-mark, go-chunk, no-chunk)
+pub ruleset chain = (reads, go-chunk, no-chunk)
 
 -- ---- a field that was read ends within the input
 
@@ -52,9 +51,9 @@ pub chunk-within : (s : List ℕ) (at : ℕ) (r : ChunkRead) (v : Span) → chun
 chunk-within s at r v e k = chunk-got s at v (v .start + v .len) (sym e ∙ ap chunkTold k) .2
 
 -- a length was read: its bytes start at next, and what is left of the input decides
-module _ (s : List ℕ) (at : ℕ) (r : VarintRead) (n next : ℕ) (y : Bytes s) (e : Varint.told r ≡ varintAt s at) (k : r ≡ Value n next) where
+module _ (s : List ℕ) (at : ℕ) (r : NumberRead) (n next : ℕ) (y : Bytes s) (e : numberTold r ≡ varintAt s at) (k : r ≡ Value n next) where
   length-read : varintAt s at ≡ got n next
-  length-read = sym e ∙ ap Varint.told k
+  length-read = sym e ∙ ap numberTold k
 
   pub length-within : next ≤ length s
   length-within = read-stands s at n next y length-read .0 .within

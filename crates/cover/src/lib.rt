@@ -6,9 +6,9 @@ ghost use Rattle.wire.specs.Answer.{done, numberOf};
 ghost use Rattle.wire.specs.Writing.{Written};
 ghost use Rattle.cover.specs.Cover.{chunkAt, coverAt, coverOf};
 ghost use Rattle.cover.specs.Answer.{told, chunkTold};
-use mark::MarkRead;
-use varint::VarintRead;
+use wire::NumberRead;
 use wire::Span;
+use wire::StepRead;
 use wire::Wrote;
 
 pub enum CoverRead {
@@ -52,7 +52,7 @@ fn chunk(s: &[u8], at: usize) -> ChunkRead
     ensures { λ r. ⌜ chunkTold r ≡ chunkAt (now (s .entry)) at ⌝ }
 {
     let r = varint::read(s, at);
-    let VarintRead::Value { n, next } = r else {
+    let NumberRead::Value { n, next } = r else {
         return ChunkRead::Refused { no: r.no() };
     };
     if ((s.len() - next) as u64) < n {
@@ -73,7 +73,7 @@ pub fn read(s: &[u8]) -> CoverRead
     ensures { λ r. ⌜ told r ≡ coverAt (now (s .entry)) ⌝ }
 {
     let r1 = mark::read(b"AY", s);
-    let MarkRead::Past { next } = r1 else {
+    let StepRead::Past { next } = r1 else {
         return CoverRead::Refused { no: r1.no() };
     };
     let r2 = chunk(s, next);

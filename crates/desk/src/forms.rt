@@ -1,16 +1,16 @@
 // The verb that reads a varint.
 use crate::reply;
 use crate::reply::Reply;
-use varint::VarintRead;
+use wire::NumberRead;
 
 pub(crate) fn varint_read(s: &[u8], out: &mut Reply) -> usize {
     let answer = varint::read(s, 0);
     match answer {
-        VarintRead::Value { n, next } => {
+        NumberRead::Value { n, next } => {
             let at = reply::done(out);
             let at = reply::number(out, at, n);
             reply::number(out, at, next as u64)
         }
-        VarintRead::Refused { no } => reply::refused(out, no),
+        NumberRead::Refused { no } => reply::refused(out, no),
     }
 }

@@ -4,7 +4,6 @@ use crate::reply;
 use crate::reply::Reply;
 use crate::said;
 use crate::words;
-use cbor::StepRead;
 use entry::File;
 use entry::Mtime;
 use envelope::EnvelopeRead;
@@ -13,6 +12,7 @@ use manifest::Created;
 use manifest::Manifest;
 use manifest::Seed;
 use wire::Span;
+use wire::StepRead;
 
 fn seed(s: &[u8], v: Seed, out: &mut Reply, at: usize) -> usize {
     match v {

@@ -17,12 +17,12 @@ use Rattle.path.specs.Order.{below}
 use Rattle.path.specs.Path.{pathLeast, pathMost, pathAllowed}
 use Rattle.path.proofs.Paths.{allowed-length}
 use Rattle.cbor.specs.Form.{infoOf, widthOf, headOf, stringOf, stringFieldOf, numberFieldOf}
-use Rattle.cbor.specs.Item.{byteAt, oneAt, kindOf, Head, headAt, keyAt, stringFieldAt, numberFieldAt}
+use Rattle.cbor.specs.Item.{byteAt, oneAt, kindOf, Head, headAt, stringFieldAt, numberFieldAt, anyFieldAt}
 use Rattle.wire.specs.Ascii.{ascii}
 use Rattle.cbor.proofs.Sizes.{info-most, either}
 use Rattle.cbor.proofs.Within.{string-field-within, number-field-within}
-use Rattle.cbor.proofs.Written.{kind-bytes, kind-text, byte-back, one-back, head-back, key-back, string-field-back, number-field-back}
-use Rattle.cbor.proofs.Only.{byte-only, one-only, head-only, key-only, string-field-only, number-field-only}
+use Rattle.cbor.proofs.Written.{kind-bytes, kind-text, byte-back, one-back, head-back, string-field-back, number-field-back, any-field-back}
+use Rattle.cbor.proofs.Only.{one-only, head-only, string-field-only, number-field-only, any-field-only}
 use Rattle.entry.specs.File.{integerAt, mtimeAt, pathAt, fileAt}
 use Rattle.entry.specs.Writing.{Entry, entryIn, integerOf, mtimeOf, entryOf, fileOf, mtimeAllowed}
 use Rattle.entry.specs.declared.Mtime.{Mtime}
@@ -90,44 +90,42 @@ integer-only {s} {at} {next} {h} y e =
 
 pub mtime-back : {s : List ℕ} {at next : ℕ} (t : Mtime) → mtimeAllowed t ≡ true → Stands s at (stringOf 3 (ascii "mtime") ++ mtimeOf t) next → mtimeAt s at ≡ got t next
 unfolding mtimeAt mtimeOf mtimeAllowed
-mtime-back Null a h =
+mtime-back {next = next} Null a h =
     let k = stands-first (stringOf 3 (ascii "mtime")) (0xF6 ∷ []) h in
     let v = stands-second (stringOf 3 (ascii "mtime")) (0xF6 ∷ []) h in
-    rw (key-back (ascii "mtime") (omega arith) k, byte-back 0xF6 v)
+    rw (any-field-back (ascii "mtime") (omega arith) k (byte-back 0xF6 v)) (ap (got Null) (sym (v .ends)))
 mtime-back {s} {at} (Integer negative n) a h =
     let k = stands-first (stringOf 3 (ascii "mtime")) (integerOf negative n) h in
     let v = stands-second (stringOf 3 (ascii "mtime")) (integerOf negative n) h in
     let l = ltb-true n 9223372036854775808 a in
     let b = integer-first negative n l v in
-    rw (key-back (ascii "mtime") (omega arith) k, b .1, ne-eqb (b .0) 0xF6 (omega (arith, b .2)), integer-back negative n l v, sign-major negative)
+    rw (any-field-back (ascii "mtime") (omega arith) k (b .1), ne-eqb (b .0) 0xF6 (omega (arith, b .2)), integer-back negative n l v, sign-major negative)
 
 pub mtime-only : {s : List ℕ} {at next : ℕ} {t : Mtime} → Bytes s → mtimeAt s at ≡ got t next → Stands s at (stringOf 3 (ascii "mtime") ++ mtimeOf t) next × (mtimeAllowed t ≡ true)
 unfolding mtimeAt mtimeOf mtimeAllowed
 mtime-only {s} {at} {next} {t} y e =
-    let k = then-passed (keyAt s at (ascii "mtime")) _ e in
-    let b = then-passed (byteAt s (k .1)) _ (k .3) in
-    let v = value (k .1) (b .0) (b .1) (b .2) (b .3) in
-    (stands-join (key-only (ascii "mtime") (k .2) .0) (v .0), v .1)
+    let k = then-passed (anyFieldAt s at (ascii "mtime")) _ e in
+    let o = any-field-only (ascii "mtime") (k .2) in
+    let v = value (k .1) (k .0) (o .1) (k .3) in
+    (stands-join (o .0) (v .0), v .1)
   where
-    value : (a x p : ℕ) → byteAt s a ≡ got x p
-        → choose (eqb x 0xF6) (got Null p) (then (integerAt s a) (λ (h, next). got (Integer (eqb (h .major) 1) (h .number)) next)) ≡ got t next
+    value : (a x : ℕ) → Stands s a (x ∷ []) (a + 1)
+        → choose (eqb x 0xF6) (got Null (a + 1)) (then (integerAt s a) (λ (h, next). got (Integer (eqb (h .major) 1) (h .number)) next)) ≡ got t next
         → Stands s a (mtimeOf t) next × (mtimeAllowed t ≡ true)
-    value a x p b = either (λ (g : Got Mtime). g ≡ got t next → Stands s a (mtimeOf t) next × (mtimeAllowed t ≡ true)) (eqb x 0xF6) null whole
+    value a x b = either (λ (g : Got Mtime). g ≡ got t next → Stands s a (mtimeOf t) next × (mtimeAllowed t ≡ true)) (eqb x 0xF6) null whole
       where
-        null : eqb x 0xF6 ≡ true → got Null p ≡ got t next → Stands s a (mtimeOf t) next × (mtimeAllowed t ≡ true)
+        null : eqb x 0xF6 ≡ true → got Null (a + 1) ≡ got t next → Stands s a (mtimeOf t) next × (mtimeAllowed t ≡ true)
         null q g =
             subst (λ (t : Mtime). Stands s a (mtimeOf t) next × (mtimeAllowed t ≡ true)) (got-value g)
-            (stands-as (ap (λ (z : ℕ). z ∷ []) (eqb-true x 0xF6 q)) (got-next g) (byte-only b), refl)
+            (stands-as (ap (λ (z : ℕ). z ∷ []) (eqb-true x 0xF6 q)) (got-next g) b, refl)
 
         whole : eqb x 0xF6 ≡ false → then (integerAt s a) (λ (h, next). got (Integer (eqb (h .major) 1) (h .number)) next) ≡ got t next
             → Stands s a (mtimeOf t) next × (mtimeAllowed t ≡ true)
         whole q g =
             let i = then-passed (integerAt s a) (λ (h, next). got (Integer (eqb (h .major) 1) (h .number)) next) g in
             let r = integer-only y (i .2) in
-            let f : Integer (eqb (i .0 .major) 1) (i .0 .number) ≡ t = got-value (i .3) in
-            let n : i .1 ≡ next = got-next (i .3) in
-            subst (λ (t : Mtime). Stands s a (mtimeOf t) next × (mtimeAllowed t ≡ true)) f
-            (stands-as refl n (r .0), lt-ltb (i .0 .number) 9223372036854775808 (r .1))
+            subst (λ (t : Mtime). Stands s a (mtimeOf t) next × (mtimeAllowed t ≡ true)) (got-value (i .3))
+            (stands-as refl (got-next (i .3)) (r .0), lt-ltb (i .0 .number) 9223372036854775808 (r .1))
 
 -- ---- the path
 

@@ -1,5 +1,5 @@
 -- One file of a manifest, as it is read: document 01, "CBOR payloads".
-use Prim.Native.Nat.{ℕ, _^_}
+use Prim.Native.Nat.{ℕ, _+_, _^_}
 use mathlib.Core.List.{List}
 use lib.Dec.{ltb, eqb}
 use Rattle.wire.specs.Answer.{choose, then, demand, Got, got}
@@ -8,7 +8,7 @@ use Rattle.wire.specs.declared.Span.{Span}
 use Rattle.wire.specs.Span.{partAt}
 use Rattle.path.specs.Order.{below}
 use Rattle.path.specs.Path.{pathLeast, pathMost, pathAllowed}
-use Rattle.cbor.specs.Item.{byteAt, oneAt, Head, headAt, keyAt, stringFieldAt, numberFieldAt}
+use Rattle.cbor.specs.Item.{oneAt, Head, headAt, stringFieldAt, numberFieldAt, anyFieldAt}
 use Rattle.wire.specs.Ascii.{ascii}
 use Rattle.entry.specs.declared.Mtime.{Mtime}
 use Rattle.entry.specs.declared.Mtime.the-variants.{Null, Integer}
@@ -18,12 +18,11 @@ use Rattle.entry.specs.declared.File.{File}
 unfoldable pub integerAt : List ℕ → ℕ → Got Head
 integerAt s at = then (headAt s at 0) (λ (h, next). demand (ltb (h .number) (2 ^ 63)) 19 (got h next))
 
--- "mtime may be null", which is F6
+-- `mtime` may be null, which is F6
 unfoldable pub mtimeAt : List ℕ → ℕ → Got Mtime
 mtimeAt s at =
-    then (keyAt s at (ascii "mtime")) (λ (_, a).
-    then (byteAt s a) (λ (x, p).
-    choose (eqb x 0xF6) (got Null p) (then (integerAt s a) (λ (h, next). got (Integer (eqb (h .major) 1) (h .number)) next))))
+    then (anyFieldAt s at (ascii "mtime")) (λ (first, a).
+    choose (eqb first 0xF6) (got Null (a + 1)) (then (integerAt s a) (λ (h, next). got (Integer (eqb (h .major) 1) (h .number)) next)))
 
 -- a path that is allowed, and above prev, the path before it: its length is judged before its contents
 unfoldable pub pathAt : List ℕ → ℕ → List ℕ → Got Span

@@ -13,13 +13,13 @@ use cbor::BYTES;
 use cbor::HeadRead;
 use cbor::INTEGER;
 use cbor::NEGATIVE;
-use cbor::NumberRead;
-use cbor::StepRead;
 use cbor::StringRead;
 use cbor::TEXT;
 use wire::BAD_PATH;
+use wire::NumberRead;
 use wire::OUT_OF_RANGE;
 use wire::Span;
+use wire::StepRead;
 
 // 2^63: an integer is n or -1 - n with n below it.
 const END: u64 = 0x8000000000000000;
@@ -41,29 +41,23 @@ pub fn integer(s: &[u8], at: usize) -> HeadRead
 fn mtime_field(s: &[u8], at: usize) -> MtimeRead
     ensures { λ r. ⌜ mtimeTold r ≡ mtimeAt (now (s .entry)) at ⌝ }
 {
-    let k = cbor::read::key(s, at, b"mtime");
-    let StepRead::Past { next: a } = k else {
-        return MtimeRead::Refused { no: k.no() };
-    };
-    let b = cbor::read::byte(s, a);
-    let NumberRead::Value { n: first, next: p } = b else {
-        return MtimeRead::Refused { no: b.no() };
+    let f = cbor::read::any_field(s, at, b"mtime");
+    let NumberRead::Value { n: first, next: a } = f else {
+        return MtimeRead::Refused { no: f.no() };
     };
     if first == 0xF6 {
         return MtimeRead::Value {
             mtime: Mtime::Null,
-            next: p,
+            next: a + 1,
         };
     }
     let h = integer(s, a);
     let HeadRead::Value { major, n, next } = h else {
         return MtimeRead::Refused { no: h.no() };
     };
+    let negative = major == NEGATIVE;
     MtimeRead::Value {
-        mtime: Mtime::Integer {
-            negative: major == NEGATIVE,
-            n,
-        },
+        mtime: Mtime::Integer { negative, n },
         next,
     }
 }

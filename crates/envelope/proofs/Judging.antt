@@ -10,8 +10,8 @@ use lib.ListN.{length, take, length-append, replicate}
 use lib.Seq.{take-at}
 use Rattle.wire.proofs.Cases.{said-yes}
 use Rattle.wire.specs.Answer.{Answer, done, refusedAt, numberOf, then, Got, got, valueOf}
-use Rattle.cbor.specs.Answer.{stepTold}
-use Rattle.cbor.specs.declared.StepRead.the-variants as step
+use Rattle.wire.specs.Reading.{stepTold}
+use Rattle.wire.specs.declared.StepRead.the-variants as step
 use Rattle.entry.specs.declared.File.{File}
 use Rattle.manifest.specs.Manifest.{Listing, manifestAt}
 use Rattle.manifest.specs.Answer.{blankFile, padded, answerFor}

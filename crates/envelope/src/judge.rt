@@ -6,9 +6,9 @@ ghost use lib.ListN.{length, take};
 ghost use Rattle.wire.specs.Sizes.{mostFiles};
 ghost use Rattle.envelope.specs.Envelope.{total, digests, judged};
 ghost use Rattle.envelope.specs.Private.{judgeTold};
-use cbor::StepRead;
 use entry::File;
 use wire::BAD_CONTENTS;
+use wire::StepRead;
 
 pub enum Judge {
     Fine,

@@ -2,24 +2,14 @@
 use Prim.Native.Nat.{ℕ}
 use mathlib.Core.Path.{_≡_, refl}
 use Rattle.wire.specs.Answer.{refused, numberOf, then, Got, Answer}
-use Rattle.wire.proofs.Branch.{branch, go, stop}
-use Rattle.varint.proofs.Answers.{go-varint, no-varint}
-use Rattle.mark.proofs.Answers.{go-mark, no-mark}
+use Rattle.wire.proofs.Branch.{go, stop}
+use Rattle.wire.proofs.Answers.{reads}
 use Rattle.frame.specs.Frame.{Numbers}
-use Rattle.frame.specs.Private.{stepOf, kindOf, numbersOf}
-use Rattle.frame.specs.declared.fields.Step.{Step}
-use Rattle.frame.specs.declared.fields.Step.the-variants as S
+use Rattle.frame.specs.Private.{kindOf, numbersOf}
 use Rattle.frame.specs.declared.fields.KindRead.{KindRead}
 use Rattle.frame.specs.declared.fields.KindRead.the-variants as K
 use Rattle.frame.specs.declared.fields.NumbersRead.{NumbersRead}
 use Rattle.frame.specs.declared.fields.NumbersRead.the-variants as N
-
-module _ {B : Type 0} (g : Got Unit) (f : Unit × ℕ → Answer B) where
-  pub go-step : (r : Step) (next : ℕ) (y : Answer B) → stepOf r ≡ g → r ≡ S.At next → y ≡ f (tt, next) → y ≡ then g f
-  go-step r next y = go stepOf g f r (S.At next) y
-
-  pub no-step : (r : Step) (n e : ℕ) → stepOf r ≡ g → r ≡ S.Refused e → n ≡ numberOf (stepOf r) → refused n ≡ then g f
-  no-step r n e h k q = stop stepOf g f r (S.Refused e) n e h k refl q
 
 module _ {B : Type 0} (g : Got ℕ) (f : ℕ × ℕ → Answer B) where
   pub go-kind : (r : KindRead) (kind next : ℕ) (y : Answer B) → kindOf r ≡ g → r ≡ K.Kind kind next → y ≡ f (kind, next) → y ≡ then g f
@@ -36,4 +26,4 @@ module _ {B : Type 0} (g : Got Numbers) (f : Numbers × ℕ → Answer B) where
   pub no-numbers : (r : NumbersRead) (n e : ℕ) → numbersOf r ≡ g → r ≡ N.Refused e → n ≡ numberOf (numbersOf r) → refused n ≡ then g f
   no-numbers r n e h k q = stop numbersOf g f r (N.Refused e) n e h k refl q
 
-pub ruleset chain = (branch, go-varint, no-varint, go-mark, no-mark, go-step, no-step, go-kind, no-kind, go-numbers, no-numbers)
+pub ruleset chain = (reads, go-kind, no-kind, go-numbers, no-numbers)

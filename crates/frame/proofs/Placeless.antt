@@ -5,7 +5,7 @@ use Rattle.wire.proofs.Placeless.{Placeless, placeless-done, placeless-then, pl
 use Rattle.varint.specs.Varint.{varintAt}
 use Rattle.varint.proofs.Placeless.{varint-placeless}
 use Rattle.mark.specs.Mark.{markOf}
-use Rattle.mark.proofs.Answers.{mark-placeless}
+use Rattle.mark.proofs.Placeless.{mark-placeless}
 use Rattle.frame.specs.Frame.{magic, kindAt, idAt, startOf, numbersAt, dataAt, judged, frameOf}
 
 module _ (s : List ℕ) where

@@ -16,9 +16,10 @@ use Rattle.crc.specs.Crc.{crc32}
 use Rattle.varint.specs.Varint.{varintAt}
 use Rattle.varint.proofs.Rounds.{read-stands}
 use Rattle.frame.specs.Frame.{Numbers, known, kindAt, numbersAt, dataAt}
-use Rattle.frame.specs.Private.{stepOf, kindOf, numbersOf}
-use Rattle.frame.specs.declared.fields.Step.{Step}
-use Rattle.frame.specs.declared.fields.Step.the-variants as S
+use Rattle.frame.specs.Private.{kindOf, numbersOf}
+use Rattle.wire.specs.Reading.{stepTold}
+use Rattle.wire.specs.declared.StepRead.{StepRead}
+use Rattle.wire.specs.declared.StepRead.the-variants as step
 use Rattle.frame.specs.declared.fields.KindRead.{KindRead}
 use Rattle.frame.specs.declared.fields.KindRead.the-variants as K
 use Rattle.frame.specs.declared.fields.NumbersRead.{NumbersRead}
@@ -60,10 +61,10 @@ module _ (s : List ℕ) (at len : ℕ) where
     data-differs e = rw (eq-eqb (length s - at) (len + 4) left, e)
 
 -- for `search`, the last field of a chain: it ends where the data and the CRC do
-pub go-data : {B : Type 0} (s : List ℕ) (at len : ℕ) (f : Unit × ℕ → Answer B) (r : Step) (next : ℕ) (y : Answer B)
-    → stepOf r ≡ dataAt s at len → r ≡ S.At next → y ≡ f (tt, (at + len + 4)) → y ≡ then (dataAt s at len) f
+pub go-data : {B : Type 0} (s : List ℕ) (at len : ℕ) (f : Unit × ℕ → Answer B) (r : StepRead) (next : ℕ) (y : Answer B)
+    → stepTold r ≡ dataAt s at len → r ≡ step.Past next → y ≡ f (tt, (at + len + 4)) → y ≡ then (dataAt s at len) f
 go-data s at len f r next y e k h =
-    let g : dataAt s at len ≡ got tt next = sym e ∙ ap stepOf k in
+    let g : dataAt s at len ≡ got tt next = sym e ∙ ap stepTold k in
     rw (g, data-got s at len next tt g .0) h
 
 -- for `search`, what a caller of a reader knows of the position

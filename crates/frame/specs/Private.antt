@@ -2,18 +2,12 @@
 use Prim.Native.Nat.{ℕ}
 use Rattle.wire.specs.Answer.{refused, Got, got}
 use Rattle.frame.specs.Frame as F
-use Rattle.frame.specs.declared.fields.Step.{Step}
-use Rattle.frame.specs.declared.fields.Step.the-variants as S
 use Rattle.frame.specs.declared.fields.KindRead.{KindRead}
 use Rattle.frame.specs.declared.fields.KindRead.the-variants as K
 use Rattle.frame.specs.declared.fields.NumbersRead.{NumbersRead}
 use Rattle.frame.specs.declared.fields.NumbersRead.the-variants as N
 
--- a field with no value, the type byte, and the three numbers; each with the position past it
-abbrev pub stepOf : Step → Got Unit
-stepOf (S.At next) = got tt next
-stepOf (S.Refused e) = refused e
-
+-- the type byte, and the three numbers; each with the position past it
 abbrev pub kindOf : KindRead → Got ℕ
 kindOf (K.Kind kind next) = got kind next
 kindOf (K.Refused e) = refused e

@@ -4,30 +4,13 @@ ghost use Prim.Native.Nat.{_≤_};
 ghost use lib.ListN.{length, take, drop};
 ghost use Rattle.wire.specs.Answer.{numberOf};
 ghost use Rattle.wire.specs.Number.{bigEndian};
+ghost use Rattle.wire.specs.Reading.{stepTold};
 ghost use Rattle.lend.specs.Same.{same};
 ghost use Rattle.crc.specs.Crc.{crc32};
 ghost use Rattle.frame.specs.Frame.{known, kindAt, idAt, startOf, numbersAt, dataAt};
-ghost use Rattle.frame.specs.Private.{stepOf, kindOf, numbersOf};
-use mark::MarkRead;
-use varint::VarintRead;
-
-// A field that has no value, and the position past it.
-pub enum Step {
-    At { next: usize },
-    Refused { no: u8 },
-}
-
-impl Step {
-    // The number of a refusal, which leaves at once.
-    pub(super) fn no(self) -> u8
-        ensures { λ n. ⌜ n ≡ numberOf (stepOf self) ⌝ }
-    {
-        match self {
-            Step::Refused { no } => no,
-            _ => 0,
-        }
-    }
-}
+ghost use Rattle.frame.specs.Private.{kindOf, numbersOf};
+use wire::NumberRead;
+use wire::StepRead;
 
 pub enum KindRead {
     Kind { kind: u8, next: usize },
@@ -35,6 +18,7 @@ pub enum KindRead {
 }
 
 impl KindRead {
+    // The number of a refusal, which leaves at once.
     pub(super) fn no(self) -> u8
         ensures { λ n. ⌜ n ≡ numberOf (kindOf self) ⌝ }
     {
@@ -99,16 +83,16 @@ fn kind(s: &[u8], at: usize) -> KindRead
     }
 }
 
-fn id(s: &[u8], at: usize) -> Step
+fn id(s: &[u8], at: usize) -> StepRead
     requires { ⌜ at ≤ length (now s) ⌝ }
-    ensures { λ r. ⌜ stepOf r ≡ idAt (now (s .entry)) at ⌝ }
+    ensures { λ r. ⌜ stepTold r ≡ idAt (now (s .entry)) at ⌝ }
 {
     if s.len() - at < wire::ID_SIZE {
-        return Step::Refused {
+        return StepRead::Refused {
             no: wire::CUT_OR_LEFT_OVER,
         };
     }
-    Step::At {
+    StepRead::Past {
         next: at + wire::ID_SIZE,
     }
 }
@@ -118,7 +102,7 @@ pub(super) fn start(s: &[u8]) -> KindRead
     ensures { λ r. ⌜ kindOf r ≡ startOf (now (s .entry)) ⌝ }
 {
     let r1 = mark::read(b"AP", s);
-    let MarkRead::Past { next: a } = r1 else {
+    let StepRead::Past { next: a } = r1 else {
         return KindRead::Refused { no: r1.no() };
     };
     let r2 = kind(s, a);
@@ -126,7 +110,7 @@ pub(super) fn start(s: &[u8]) -> KindRead
         return KindRead::Refused { no: r2.no() };
     };
     let r3 = id(s, b);
-    let Step::At { next: c } = r3 else {
+    let StepRead::Past { next: c } = r3 else {
         return KindRead::Refused { no: r3.no() };
     };
     KindRead::Kind { kind, next: c }
@@ -137,15 +121,15 @@ pub(super) fn numbers(s: &[u8], at: usize) -> NumbersRead
     ensures { λ r. ⌜ numbersOf r ≡ numbersAt (now (s .entry)) at ⌝ }
 {
     let r1 = varint::read(s, at);
-    let VarintRead::Value { n: index, next: a } = r1 else {
+    let NumberRead::Value { n: index, next: a } = r1 else {
         return NumbersRead::Refused { no: r1.no() };
     };
     let r2 = varint::read(s, a);
-    let VarintRead::Value { n: total, next: b } = r2 else {
+    let NumberRead::Value { n: total, next: b } = r2 else {
         return NumbersRead::Refused { no: r2.no() };
     };
     let r3 = varint::read(s, b);
-    let VarintRead::Value { n: len, next: c } = r3 else {
+    let NumberRead::Value { n: len, next: c } = r3 else {
         return NumbersRead::Refused { no: r3.no() };
     };
     NumbersRead::Numbers {
@@ -166,26 +150,26 @@ fn sum_stands(s: &[u8], end: usize) -> bool
 }
 
 // The data, len bytes from at on, and the CRC of all before it. A length near 2^64 is compared, and never added to.
-pub(super) fn data_and_sum(s: &[u8], at: usize, len: u64) -> Step
+pub(super) fn data_and_sum(s: &[u8], at: usize, len: u64) -> StepRead
     requires { ⌜ at ≤ length (now s) ⌝ }
-    ensures { λ r. ⌜ stepOf r ≡ dataAt (now (s .entry)) at len ⌝ }
+    ensures { λ r. ⌜ stepTold r ≡ dataAt (now (s .entry)) at len ⌝ }
 {
     let left = s.len() - at;
     if left < 4 {
-        return Step::Refused {
+        return StepRead::Refused {
             no: wire::CUT_OR_LEFT_OVER,
         };
     }
     if (left - 4) as u64 != len {
-        return Step::Refused {
+        return StepRead::Refused {
             no: wire::CUT_OR_LEFT_OVER,
         };
     }
     let end = at + (len as usize);
     if sum_stands(s, end) {
-        return Step::At { next: end + 4 };
+        return StepRead::Past { next: end + 4 };
     }
-    Step::Refused {
+    StepRead::Refused {
         no: wire::BAD_CHECKSUM,
     }
 }

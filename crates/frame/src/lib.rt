@@ -11,8 +11,8 @@ ghost use Rattle.frame.specs.Layout.{layout};
 ghost use Rattle.frame.specs.Answer.{told};
 use fields::KindRead;
 use fields::NumbersRead;
-use fields::Step;
 use wire::Span;
+use wire::StepRead;
 use wire::Wrote;
 
 // The type bytes of source 6.
@@ -116,7 +116,7 @@ pub fn read(s: &[u8]) -> FrameRead
         return FrameRead::Refused { no: r2.no() };
     };
     let r3 = fields::data_and_sum(s, b, len);
-    let Step::At { next: _ } = r3 else {
+    let StepRead::Past { next: _ } = r3 else {
         return FrameRead::Refused { no: r3.no() };
     };
     judge(kind, index, total, len, b)

@@ -7,11 +7,11 @@ use native.Mathlib.Omega.{arith}
 use borrow.Author.Tests.{le-leb, lt-leb}
 use lib.ListN.{length, length-append, length-replicate}
 use Rattle.wire.specs.Answer.{choose, done, refusedAt, refused, numberOf, then, Got, got, Answer}
-use Rattle.cbor.specs.Answer.{stepTold, numberTold}
-use Rattle.cbor.specs.declared.StepRead.{StepRead}
-use Rattle.cbor.specs.declared.StepRead.the-variants as step
-use Rattle.cbor.specs.declared.NumberRead.{NumberRead}
-use Rattle.cbor.specs.declared.NumberRead.the-variants as number
+use Rattle.wire.specs.Reading.{stepTold, numberTold}
+use Rattle.wire.specs.declared.StepRead.{StepRead}
+use Rattle.wire.specs.declared.StepRead.the-variants as step
+use Rattle.wire.specs.declared.NumberRead.{NumberRead}
+use Rattle.wire.specs.declared.NumberRead.the-variants as number
 use Rattle.wire.proofs.Branch.{go, stop}
 use Rattle.cbor.proofs.Answers.{chain}
 use Rattle.entry.specs.declared.File.{File}

@@ -9,7 +9,7 @@ use lib.Seq.{set-at}
 use Rattle.wire.specs.Answer.{done, refusedAt, refused, numberOf, then, Got, got}
 use Rattle.wire.specs.declared.Span.{Span}
 use Rattle.wire.specs.Span.{partAt}
-use Rattle.cbor.specs.declared.NumberRead.the-variants as number
+use Rattle.wire.specs.declared.NumberRead.the-variants as number
 use Rattle.entry.specs.File.{fileAt}
 use Rattle.entry.specs.Answer.{fileTold}
 use Rattle.entry.specs.declared.File.{File}

@@ -13,12 +13,12 @@ use Rattle.wire.proofs.Cases.{passed, then-passed, got-next, got-value}
 use Rattle.wire.proofs.Standing.{Stands, stands-none, stands-first, stands-second, stands-join, stands-as}
 use Rattle.wire.specs.Span.{partAt}
 use Rattle.cbor.specs.Form.{infoOf, widthOf, headOf, stringOf, doubleOf}
-use Rattle.cbor.specs.Item.{byteAt, numberAt, keyAt, stringAt, doubleAt}
+use Rattle.cbor.specs.Item.{byteAt, numberAt, keyAt, stringAt, doubleAt, anyFieldAt}
 use Rattle.wire.specs.Ascii.{ascii}
 use Rattle.cbor.proofs.Sizes.{info-most, either}
 use Rattle.cbor.proofs.Within.{number-within, string-within}
-use Rattle.cbor.proofs.Written.{kind-bytes, kind-array, byte-back, double-back, key-back, number-back, string-back}
-use Rattle.cbor.proofs.Only.{byte-only, double-only, key-only, number-only, string-only}
+use Rattle.cbor.proofs.Written.{kind-bytes, kind-array, byte-back, double-back, key-back, number-back, string-back, any-field-back}
+use Rattle.cbor.proofs.Only.{double-only, key-only, number-only, string-only, any-field-only}
 use Rattle.entry.specs.File.{integerAt, fileAt}
 use Rattle.entry.specs.Writing.{Entry, entryIn, entryOf, integerOf, fileOf}
 use Rattle.entry.specs.declared.File.{File}
@@ -53,34 +53,34 @@ unfolding seedAt secretOf seedIn
 seed-back none l h =
     let k = stands-first (stringOf 3 (ascii "seed")) (0xF6 ∷ []) h in
     let v = stands-second (stringOf 3 (ascii "seed")) (0xF6 ∷ []) h in
-    (seed.Null, rw (key-back (ascii "seed") (omega arith) k, byte-back 0xF6 v), refl)
+    (seed.Null, rw (any-field-back (ascii "seed") (omega arith) k (byte-back 0xF6 v)) (ap (got seed.Null) (sym (v .ends))), refl)
 seed-back {s} {at} {next} (some bs) l h =
     let k = stands-first (stringOf 3 (ascii "seed")) (stringOf 2 bs) h in
     let v = stands-second (stringOf 3 (ascii "seed")) (stringOf 2 bs) h in
     let r = string-back 2 32 32 19 kind-bytes bs (omega arith) (omega arith) (omega arith) v in
     let b = string-first bs v in (
       seed.Bytes (r .0),
-      rw (key-back (ascii "seed") (omega arith) k, b .1, ne-eqb (b .0) 0xF6 (omega (arith, b .2)), r .1),
+      rw (any-field-back (ascii "seed") (omega arith) k (b .1), ne-eqb (b .0) 0xF6 (omega (arith, b .2)), r .1),
       ap some (r .2 .part),
     )
 
 pub seed-only : {s : List ℕ} {at next : ℕ} {v : Seed} → Bytes s → seedAt s at ≡ got v next → Stands s at (stringOf 3 (ascii "seed") ++ secretOf (seedIn s v)) next × (seedAllowed s v ≡ true)
 unfolding seedAt secretOf seedIn seedAllowed
 seed-only {s} {at} {next} {v} y e =
-    let k = then-passed (keyAt s at (ascii "seed")) _ e in
-    let b = then-passed (byteAt s (k .1)) _ (k .3) in
-    let r = value (k .1) (b .0) (b .1) (b .2) (b .3) in
-    (stands-join (key-only (ascii "seed") (k .2) .0) (r .0), r .1)
+    let k = then-passed (anyFieldAt s at (ascii "seed")) _ e in
+    let o = any-field-only (ascii "seed") (k .2) in
+    let r = value (k .1) (k .0) (o .1) (k .3) in
+    (stands-join (o .0) (r .0), r .1)
   where
-    value : (a x p : ℕ) → byteAt s a ≡ got x p
-        → choose (eqb x 0xF6) (got seed.Null p) (then (stringAt s a 2 32 32 19) (λ (v, next). got (seed.Bytes v) next)) ≡ got v next
+    value : (a x : ℕ) → Stands s a (x ∷ []) (a + 1)
+        → choose (eqb x 0xF6) (got seed.Null (a + 1)) (then (stringAt s a 2 32 32 19) (λ (v, next). got (seed.Bytes v) next)) ≡ got v next
         → Stands s a (secretOf (seedIn s v)) next × (seedAllowed s v ≡ true)
-    value a x p b = either (λ (g : Got Seed). g ≡ got v next → Stands s a (secretOf (seedIn s v)) next × (seedAllowed s v ≡ true)) (eqb x 0xF6) null whole
+    value a x b = either (λ (g : Got Seed). g ≡ got v next → Stands s a (secretOf (seedIn s v)) next × (seedAllowed s v ≡ true)) (eqb x 0xF6) null whole
       where
-        null : eqb x 0xF6 ≡ true → got seed.Null p ≡ got v next → Stands s a (secretOf (seedIn s v)) next × (seedAllowed s v ≡ true)
+        null : eqb x 0xF6 ≡ true → got seed.Null (a + 1) ≡ got v next → Stands s a (secretOf (seedIn s v)) next × (seedAllowed s v ≡ true)
         null q g =
             subst (λ (v : Seed). Stands s a (secretOf (seedIn s v)) next × (seedAllowed s v ≡ true)) (got-value g)
-            (stands-as (ap (λ (z : ℕ). z ∷ []) (eqb-true x 0xF6 q)) (got-next g) (byte-only b), refl)
+            (stands-as (ap (λ (z : ℕ). z ∷ []) (eqb-true x 0xF6 q)) (got-next g) b, refl)
 
         whole : eqb x 0xF6 ≡ false → then (stringAt s a 2 32 32 19) (λ (v, next). got (seed.Bytes v) next) ≡ got v next
             → Stands s a (secretOf (seedIn s v)) next × (seedAllowed s v ≡ true)
@@ -185,8 +185,8 @@ unfolding sealedAt
 sealed-back {s} {at} {a} {next} v b g h₁ h₂ =
     let x : ℕ = choose b 0xF5 0xF4 in
     let r = sealed-range b in
-    rw (key-back (ascii "sealed") (omega arith) h₁, byte-back (choose b 0xF5 0xF4) h₂)
-    (rw (le-leb 0xF4 (choose b 0xF5 0xF4) (r .0), le-leb (choose b 0xF5 0xF4) 0xF5 (r .1), sealed-byte b, g))
+    rw (any-field-back (ascii "sealed") (omega arith) h₁ (byte-back (choose b 0xF5 0xF4) h₂))
+    (rw (le-leb 0xF4 (choose b 0xF5 0xF4) (r .0), le-leb (choose b 0xF5 0xF4) 0xF5 (r .1), sealed-byte b, g) (ap (got b) (sym (h₂ .ends))))
 
 pub record Flagged (s : List ℕ) (at : ℕ) (v : Seed) (b : Bool) (next : ℕ) : Type 0 where
   pub after-key : ℕ
@@ -201,18 +201,18 @@ flag-of x l m = either (λ (k : ℕ). x ≡ k) (eqb x 0xF5) (λ t. eqb-true x 0x
 pub sealed-only : {s : List ℕ} {at next : ℕ} {v : Seed} {b : Bool} → sealedAt s at v ≡ got b next → Flagged s at v b next
 unfolding sealedAt
 sealed-only {s} {at} {next} {v} {b} e =
-    let k = then-passed (keyAt s at (ascii "sealed")) _ e in
-    let c = then-passed (byteAt s (k .1)) _ (k .3) in
+    let c = then-passed (anyFieldAt s at (ascii "sealed")) _ e in
+    let o = any-field-only (ascii "sealed") (c .2) in
     let p = passed (leb 0xF4 (c .0)) _ 18 (c .3) in
     let q = passed (leb (c .0) 0xF5) _ 18 (p .1) in
-    let r = passed (agrees v (eqb (c .0) 0xF5)) (got (eqb (c .0) 0xF5) (c .1)) 19 (q .1) in
+    let r = passed (agrees v (eqb (c .0) 0xF5)) (got (eqb (c .0) 0xF5) (c .1 + 1)) 19 (q .1) in
     let f : eqb (c .0) 0xF5 ≡ b = got-value (r .1) in
-    let n : c .1 ≡ next = got-next (r .1) in
+    let n : c .1 + 1 ≡ next = got-next (r .1) in
     let x = flag-of (c .0) (leb-true 0xF4 (c .0) (p .0)) (leb-true (c .0) 0xF5 (q .0)) in
     record {
-      after-key = k .1;
-      key-stands = key-only (ascii "sealed") (k .2) .0;
-      byte-stands = stands-as (ap (λ (z : ℕ). z ∷ []) (x ∙ ap (λ (t : Bool). choose t 0xF5 0xF4) f)) n (byte-only (c .2));
+      after-key = c .1;
+      key-stands = o .0;
+      byte-stands = stands-as (ap (λ (z : ℕ). z ∷ []) (x ∙ ap (λ (t : Bool). choose t 0xF5 0xF4) f)) n (o .1);
       agreed = ap (agrees v) (sym f) ∙ r .0;
     }
 
@@ -233,20 +233,19 @@ created-back (created.Integer negative n) t a h =
     let v = stands-second (stringOf 3 (ascii "created")) (integerOf negative n) h in
     let l = ltb-true n 9223372036854775808 a in
     let b = integer-first negative n l v in
-    rw (key-back (ascii "created") (omega arith) k, b .1, ne-eqb (b .0) 0xFB (omega (arith, b .2)), integer-back negative n l v, sign-major negative)
+    rw (any-field-back (ascii "created") (omega arith) k (b .1), ne-eqb (b .0) 0xFB (omega (arith, b .2)), integer-back negative n l v, sign-major negative)
 created-back {s} {at} {next} (created.Double bits) t a h =
     let k = stands-first (stringOf 3 (ascii "created")) (doubleOf bits) h in
     let v = stands-second (stringOf 3 (ascii "created")) (doubleOf bits) h in
-    rw (key-back (ascii "created") (omega arith) k, double-first bits v) (finite-back bits t a v)
+    rw (any-field-back (ascii "created") (omega arith) k (double-first bits v)) (finite-back bits t a v)
 
 pub created-only : {s : List ℕ} {at next : ℕ} {v : Created} → Bytes s → createdAt s at ≡ got v next
     → Stands s at (stringOf 3 (ascii "created") ++ createdOf v) next × (createdAllowed v ≡ true) × CreatedFits v
 unfolding createdAt finiteAt createdOf createdAllowed
 created-only {s} {at} {next} {v} y e =
-    let k = then-passed (keyAt s at (ascii "created")) _ e in
-    let b = then-passed (byteAt s (k .1)) _ (k .3) in
-    let r = value (k .1) (b .0) (b .3) in
-    (stands-join (key-only (ascii "created") (k .2) .0) (r .0), r .1, r .2)
+    let k = then-passed (anyFieldAt s at (ascii "created")) _ e in
+    let r = value (k .1) (k .0) (k .3) in
+    (stands-join (any-field-only (ascii "created") (k .2) .0) (r .0), r .1, r .2)
   where
     value : (a x : ℕ) → choose (eqb x 0xFB) (finiteAt s a) (then (integerAt s a) (λ (h, next). got (created.Integer (eqb (h .major) 1) (h .number)) next)) ≡ got v next
         → Stands s a (createdOf v) next × (createdAllowed v ≡ true) × CreatedFits v

@@ -5,7 +5,7 @@ use mathlib.Core.List.{List, [], _++_}
 use lib.ListN.{length, replicate}
 use Rattle.wire.specs.Answer.{done, refusedAt, Got}
 use Rattle.wire.specs.Sizes.{mostFiles}
-use Rattle.cbor.specs.declared.StepRead.the-variants as step
+use Rattle.wire.specs.declared.StepRead.the-variants as step
 use Rattle.entry.specs.declared.Mtime.the-variants as mtime
 use Rattle.entry.specs.declared.File.{File}
 use Rattle.manifest.specs.Manifest.{Listing}

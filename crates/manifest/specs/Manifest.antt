@@ -1,5 +1,5 @@
 -- The manifest, as it is read: document 01, "CBOR payloads" and "House sizes".
-use Prim.Native.Nat.{ℕ, zero, suc, _-_, _/_, _%_, _^_}
+use Prim.Native.Nat.{ℕ, zero, suc, _+_, _-_, _/_, _%_, _^_}
 use mathlib.Core.Bool.{Bool, not}
 use mathlib.Core.List.{List, [], _∷_}
 use lib.Dec.{leb, eqb}
@@ -7,7 +7,7 @@ use lib.ListN.{length}
 use Rattle.wire.specs.Answer.{choose, then, demand, Got, got}
 use Rattle.wire.specs.Sizes.{mostManifest, mostFiles}
 use Rattle.wire.specs.Span.{partAt}
-use Rattle.cbor.specs.Item.{byteAt, oneAt, numberAt, keyAt, stringAt, doubleAt, numberFieldAt}
+use Rattle.cbor.specs.Item.{oneAt, numberAt, keyAt, stringAt, doubleAt, numberFieldAt, anyFieldAt}
 use Rattle.wire.specs.Ascii.{ascii}
 use Rattle.entry.specs.File.{integerAt, fileAt}
 use Rattle.entry.specs.declared.File.{File}
@@ -26,9 +26,8 @@ pub record Listing : Type 0 where
 -- null, which is F6, or 32 bytes
 unfoldable pub seedAt : List ℕ → ℕ → Got Seed
 seedAt s at =
-    then (keyAt s at (ascii "seed")) (λ (_, a).
-    then (byteAt s a) (λ (x, p).
-    choose (eqb x 0xF6) (got seed.Null p) (then (stringAt s a 2 32 32 19) (λ (v, next). got (seed.Bytes v) next))))
+    then (anyFieldAt s at (ascii "seed")) (λ (first, a).
+    choose (eqb first 0xF6) (got seed.Null (a + 1)) (then (stringAt s a 2 32 32 19) (λ (v, next). got (seed.Bytes v) next)))
 
 -- so many files, the first above prev and each above the one before it
 unfoldable pub filesAt : (s : List ℕ) (k at : ℕ) (prev : List ℕ) → Got (List File)
@@ -48,9 +47,10 @@ agrees (seed.Bytes span) sealed = not sealed
 -- true, which is F5, or false, which is F4; it is judged here whether it agrees with the seed
 unfoldable pub sealedAt : List ℕ → ℕ → Seed → Got Bool
 sealedAt s at key =
-    then (keyAt s at (ascii "sealed")) (λ (_, a).
-    then (byteAt s a) (λ (x, next).
-    demand (leb 0xF4 x) 18 (demand (leb x 0xF5) 18 (demand (agrees key (eqb x 0xF5)) 19 (got (eqb x 0xF5) next)))))
+    then (anyFieldAt s at (ascii "sealed")) (λ (first, a).
+    demand (leb 0xF4 first) 18
+    (demand (leb first 0xF5) 18
+    (demand (agrees key (eqb first 0xF5)) 19 (got (eqb first 0xF5) (a + 1)))))
 
 -- a double is finite where its eleven exponent bits are not all ones
 unfoldable pub finite : ℕ → Bool
@@ -62,10 +62,9 @@ finiteAt s at = then (doubleAt s at) (λ (bits, next). demand (finite bits) 19 (
 -- an integer, or FB with eight bytes
 unfoldable pub createdAt : List ℕ → ℕ → Got Created
 createdAt s at =
-    then (keyAt s at (ascii "created")) (λ (_, a).
-    then (byteAt s a) (λ (x, _).
-    choose (eqb x 0xFB) (finiteAt s a)
-    (then (integerAt s a) (λ (h, next). got (created.Integer (eqb (h .major) 1) (h .number)) next))))
+    then (anyFieldAt s at (ascii "created")) (λ (first, a).
+    choose (eqb first 0xFB) (finiteAt s a)
+    (then (integerAt s a) (λ (h, next). got (created.Integer (eqb (h .major) 1) (h .number)) next)))
 
 -- what stands after the files
 pub record Ending : Type 0 where

@@ -8,7 +8,7 @@ use Rattle.wire.specs.Answer.{choose, done, refusedAt, refused, Got, got}
 use Rattle.wire.specs.Sizes.{mostFiles}
 use Rattle.cbor.specs.Form.{headOf, headSize, stringOf, numberFieldOf}
 use Rattle.wire.specs.Ascii.{ascii}
-use Rattle.cbor.specs.declared.NumberRead.the-variants as number
+use Rattle.wire.specs.declared.NumberRead.the-variants as number
 use Rattle.entry.specs.declared.File.{File}
 use Rattle.manifest.specs.Manifest.{Ending}
 use Rattle.manifest.specs.Answer.{padded}

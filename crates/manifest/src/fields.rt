@@ -14,40 +14,23 @@ use super::SeedRead;
 use cbor::BYTES;
 use cbor::HeadRead;
 use cbor::NEGATIVE;
-use cbor::NumberRead;
-use cbor::StepRead;
 use cbor::StringRead;
 use wire::NOT_CANONICAL;
+use wire::NumberRead;
 use wire::OUT_OF_RANGE;
 use wire::Span;
-
-impl SeedRead {
-    // The number of a refusal, for a caller's `else`.
-    pub(super) fn no(self) -> u8
-        ensures { λ n. ⌜ n ≡ numberOf (seedTold self) ⌝ }
-    {
-        match self {
-            SeedRead::Refused { no } => no,
-            _ => 0,
-        }
-    }
-}
 
 pub(super) fn seed_field(s: &[u8], at: usize) -> SeedRead
     ensures { λ r. ⌜ seedTold r ≡ seedAt (now (s .entry)) at ⌝ }
 {
-    let k = cbor::read::key(s, at, b"seed");
-    let StepRead::Past { next: a } = k else {
-        return SeedRead::Refused { no: k.no() };
-    };
-    let f = cbor::read::byte(s, a);
-    let NumberRead::Value { n: first, next: p } = f else {
+    let f = cbor::read::any_field(s, at, b"seed");
+    let NumberRead::Value { n: first, next: a } = f else {
         return SeedRead::Refused { no: f.no() };
     };
     if first == 0xF6 {
         return SeedRead::Value {
             seed: Seed::Null,
-            next: p,
+            next: a + 1,
         };
     }
     let b = cbor::read::string(s, a, BYTES, 32, 32, OUT_OF_RANGE);
@@ -73,6 +56,7 @@ pub(super) fn agree(seed: Seed, sealed: bool) -> bool
 }
 
 impl SealedRead {
+    // The number of a refusal, for a caller's `else`.
     fn no(self) -> u8
         ensures { λ n. ⌜ n ≡ numberOf (sealedTold self) ⌝ }
     {
@@ -86,12 +70,8 @@ impl SealedRead {
 fn sealed_field(s: &[u8], at: usize, seed: Seed) -> SealedRead
     ensures { λ r. ⌜ sealedTold r ≡ sealedAt (now (s .entry)) at seed ⌝ }
 {
-    let k = cbor::read::key(s, at, b"sealed");
-    let StepRead::Past { next: a } = k else {
-        return SealedRead::Refused { no: k.no() };
-    };
-    let f = cbor::read::byte(s, a);
-    let NumberRead::Value { n: first, next } = f else {
+    let f = cbor::read::any_field(s, at, b"sealed");
+    let NumberRead::Value { n: first, next: a } = f else {
         return SealedRead::Refused { no: f.no() };
     };
     if first < 0xF4 {
@@ -105,7 +85,7 @@ fn sealed_field(s: &[u8], at: usize, seed: Seed) -> SealedRead
     }
     SealedRead::Value {
         sealed: first == 0xF5,
-        next,
+        next: a + 1,
     }
 }
 
@@ -146,12 +126,8 @@ impl CreatedRead {
 fn created_field(s: &[u8], at: usize) -> CreatedRead
     ensures { λ r. ⌜ createdTold r ≡ createdAt (now (s .entry)) at ⌝ }
 {
-    let k = cbor::read::key(s, at, b"created");
-    let StepRead::Past { next: a } = k else {
-        return CreatedRead::Refused { no: k.no() };
-    };
-    let f = cbor::read::byte(s, a);
-    let NumberRead::Value { n: first, next: _ } = f else {
+    let f = cbor::read::any_field(s, at, b"created");
+    let NumberRead::Value { n: first, next: a } = f else {
         return CreatedRead::Refused { no: f.no() };
     };
     if first == 0xFB {
@@ -167,17 +143,6 @@ fn created_field(s: &[u8], at: usize) -> CreatedRead
             n,
         },
         next,
-    }
-}
-
-impl EndRead {
-    pub(super) fn no(self) -> u8
-        ensures { λ n. ⌜ n ≡ numberOf (endTold self) ⌝ }
-    {
-        match self {
-            EndRead::Refused { no } => no,
-            _ => 0,
-        }
     }
 }
 

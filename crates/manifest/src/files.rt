@@ -9,13 +9,13 @@ ghost use Rattle.manifest.specs.Private.{filesAnswer};
 use super::FilesRead;
 use super::blank_files;
 use cbor::ARRAY;
-use cbor::NumberRead;
-use cbor::StepRead;
 use entry::File;
 use entry::FileRead;
 use entry::write::part;
+use wire::NumberRead;
 use wire::OUT_OF_RANGE;
 use wire::Span;
+use wire::StepRead;
 
 fn no_files(no: u8) -> FilesRead
     ensures { λ r. ⌜ r ≡ filesAnswer (refused no) ⌝ }

@@ -6,16 +6,17 @@ mod judge;
 
 ghost use mathlib.Core.Path.{_≡_};
 ghost use mathlib.Core.List.{[]};
-ghost use Rattle.wire.specs.Answer.{refused};
+ghost use Rattle.wire.specs.Answer.{refused, numberOf};
 ghost use Rattle.wire.specs.Writing.{Written};
 ghost use Rattle.manifest.specs.Manifest.{manifestAt};
 ghost use Rattle.manifest.specs.Writing.{manifestVerdict};
 ghost use Rattle.manifest.specs.Answer.{padded, answerFor};
-use cbor::NumberRead;
-use cbor::StepRead;
+ghost use Rattle.manifest.specs.Private.{seedTold, endTold};
 use entry::File;
 use entry::Mtime;
+use wire::NumberRead;
 use wire::Span;
+use wire::StepRead;
 use wire::Wrote;
 
 pub enum Seed {
@@ -53,6 +54,18 @@ enum SeedRead {
     Refused { no: u8 },
 }
 
+impl SeedRead {
+    // The number of a refusal, for a caller's `else`.
+    fn no(self) -> u8
+        ensures { λ n. ⌜ n ≡ numberOf (seedTold self) ⌝ }
+    {
+        match self {
+            SeedRead::Refused { no } => no,
+            _ => 0,
+        }
+    }
+}
+
 enum SealedRead {
     Value { sealed: bool, next: usize },
     Refused { no: u8 },
@@ -72,6 +85,17 @@ struct Ending {
 enum EndRead {
     Value { end: Ending, next: usize },
     Refused { no: u8 },
+}
+
+impl EndRead {
+    fn no(self) -> u8
+        ensures { λ n. ⌜ n ≡ numberOf (endTold self) ⌝ }
+    {
+        match self {
+            EndRead::Refused { no } => no,
+            _ => 0,
+        }
+    }
 }
 
 // How many files there are and the position past them, or the refusal; and the files.

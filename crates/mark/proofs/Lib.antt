@@ -1,2 +1,2 @@
-pub mod Answers
+pub mod Placeless
 pub mod Marks

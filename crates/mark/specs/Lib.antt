@@ -1,2 +1,1 @@
 pub mod Mark
-pub mod Answer

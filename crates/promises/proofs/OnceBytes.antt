@@ -3,8 +3,9 @@ use mathlib.Core.Path.{refl, sym, _∙_}
 use Rattle.promises.specs.Once.{Once}
 use Rattle.promises.proofs.Lasts.{here, past}
 use Rattle.wire.proofs.Writes.{written-once}
-use Rattle.varint.proofs.Answers as varint
-use Rattle.mark.proofs.Answers as mark
+use Rattle.wire.proofs.Answers.{step-injective, number-injective}
+use Rattle.wire.proofs.StepRead.no as wire-StepRead-no
+use Rattle.wire.proofs.NumberRead.no as wire-NumberRead-no
 use Rattle.lend.proofs.put as lend-put
 use Rattle.lend.proofs.copy as lend-copy
 use Rattle.lend.proofs.fill as lend-fill
@@ -19,8 +20,6 @@ use Rattle.digits.proofs.hex_read as digits-hex-read
 use Rattle.varint.proofs.read as varint-read
 use Rattle.varint.proofs.size as varint-size
 use Rattle.varint.proofs.write as varint-write
-use Rattle.varint.proofs.VarintRead.no as varint-VarintRead-no
-use Rattle.mark.proofs.MarkRead.no as mark-MarkRead-no
 use Rattle.mark.proofs.read as mark-read
 use Rattle.mark.proofs.lay as mark-lay
 use Rattle.path.proofs.allowed as path-allowed
@@ -34,6 +33,12 @@ use Rattle.crc.proofs.sum as crc-sum
 use Rattle.sha256.proofs.sha256 as sha256-sha256
 use Rattle.blake2b.proofs.blake2b as blake2b-blake2b
 use Rattle.document_id.proofs.of as document-id-of
+
+pub wire-StepRead-no-once : Once wire-StepRead-no.Kinds.ps wire-StepRead-no.Kinds.r wire-StepRead-no.Reads.Learnt
+wire-StepRead-no-once κs args x y u v p q = (p ∙ sym q, refl)
+
+pub wire-NumberRead-no-once : Once wire-NumberRead-no.Kinds.ps wire-NumberRead-no.Kinds.r wire-NumberRead-no.Reads.Learnt
+wire-NumberRead-no-once κs args x y u v p q = (p ∙ sym q, refl)
 
 pub lend-equal-once : Once lend-equal.Kinds.ps lend-equal.Kinds.r lend-equal.Reads.Learnt
 lend-equal-once κs args x y u v p q = (p ∙ sym q, refl)
@@ -69,7 +74,7 @@ pub digits-hex-read-once : Once digits-hex-read.Kinds.ps digits-hex-read.Kinds.r
 digits-hex-read-once κs args x y u v p q = let e = written-once x y p q in (e .0, past (here (e .1)))
 
 pub varint-read-once : Once varint-read.Kinds.ps varint-read.Kinds.r varint-read.Reads.Learnt
-varint-read-once κs args x y u v p q = (varint.told-injective x y (p ∙ sym q), refl)
+varint-read-once κs args x y u v p q = (number-injective x y (p ∙ sym q), refl)
 
 pub varint-size-once : Once varint-size.Kinds.ps varint-size.Kinds.r varint-size.Reads.Learnt
 varint-size-once κs args x y u v p q = (p ∙ sym q, refl)
@@ -77,14 +82,8 @@ varint-size-once κs args x y u v p q = (p ∙ sym q, refl)
 pub varint-write-once : Once varint-write.Kinds.ps varint-write.Kinds.r varint-write.Reads.Learnt
 varint-write-once κs args x y u v p q = let e = written-once x y p q in (e .0, past (here (e .1)))
 
-pub varint-VarintRead-no-once : Once varint-VarintRead-no.Kinds.ps varint-VarintRead-no.Kinds.r varint-VarintRead-no.Reads.Learnt
-varint-VarintRead-no-once κs args x y u v p q = (p ∙ sym q, refl)
-
-pub mark-MarkRead-no-once : Once mark-MarkRead-no.Kinds.ps mark-MarkRead-no.Kinds.r mark-MarkRead-no.Reads.Learnt
-mark-MarkRead-no-once κs args x y u v p q = (p ∙ sym q, refl)
-
 pub mark-read-once : Once mark-read.Kinds.ps mark-read.Kinds.r mark-read.Reads.Learnt
-mark-read-once κs args x y u v p q = (mark.told-injective x y (p ∙ sym q), refl)
+mark-read-once κs args x y u v p q = (step-injective x y (p ∙ sym q), refl)
 
 pub mark-lay-once : Once mark-lay.Kinds.ps mark-lay.Kinds.r mark-lay.Reads.Learnt
 mark-lay-once κs args x y u v p q = (refl, past (here (p ∙ sym q)))

@@ -2,10 +2,9 @@
 use mathlib.Core.Path.{refl, sym, _∙_}
 use Rattle.promises.specs.Once.{Once}
 use Rattle.promises.proofs.Lasts.{here}
-use Rattle.cbor.proofs.Answers.{step-injective, number-injective, head-injective, string-injective}
+use Rattle.wire.proofs.Answers.{step-injective, number-injective}
+use Rattle.cbor.proofs.Answers.{head-injective, string-injective}
 use Rattle.cbor.proofs.Runs.{put-once}
-use Rattle.cbor.proofs.StepRead.no as cbor-StepRead-no
-use Rattle.cbor.proofs.NumberRead.no as cbor-NumberRead-no
 use Rattle.cbor.proofs.HeadRead.no as cbor-HeadRead-no
 use Rattle.cbor.proofs.StringRead.no as cbor-StringRead-no
 use Rattle.cbor.proofs.read.byte as cbor-read-byte
@@ -18,6 +17,7 @@ use Rattle.cbor.proofs.read.key as cbor-read-key
 use Rattle.cbor.proofs.read.double as cbor-read-double
 use Rattle.cbor.proofs.read.string_field as cbor-read-string-field
 use Rattle.cbor.proofs.read.number_field as cbor-read-number-field
+use Rattle.cbor.proofs.read.any_field as cbor-read-any-field
 use Rattle.cbor.proofs.write.size as cbor-write-size
 use Rattle.cbor.proofs.write.fixed as cbor-write-fixed
 use Rattle.cbor.proofs.write.head as cbor-write-head
@@ -25,12 +25,6 @@ use Rattle.cbor.proofs.write.string as cbor-write-string
 use Rattle.cbor.proofs.write.double as cbor-write-double
 use Rattle.cbor.proofs.write.string_field as cbor-write-string-field
 use Rattle.cbor.proofs.write.number_field as cbor-write-number-field
-
-pub cbor-StepRead-no-once : Once cbor-StepRead-no.Kinds.ps cbor-StepRead-no.Kinds.r cbor-StepRead-no.Reads.Learnt
-cbor-StepRead-no-once κs args x y u v p q = (p ∙ sym q, refl)
-
-pub cbor-NumberRead-no-once : Once cbor-NumberRead-no.Kinds.ps cbor-NumberRead-no.Kinds.r cbor-NumberRead-no.Reads.Learnt
-cbor-NumberRead-no-once κs args x y u v p q = (p ∙ sym q, refl)
 
 pub cbor-HeadRead-no-once : Once cbor-HeadRead-no.Kinds.ps cbor-HeadRead-no.Kinds.r cbor-HeadRead-no.Reads.Learnt
 cbor-HeadRead-no-once κs args x y u v p q = (p ∙ sym q, refl)
@@ -67,6 +61,9 @@ cbor-read-string-field-once κs args x y u v p q = (string-injective x y (p ∙ 
 
 pub cbor-read-number-field-once : Once cbor-read-number-field.Kinds.ps cbor-read-number-field.Kinds.r cbor-read-number-field.Reads.Learnt
 cbor-read-number-field-once κs args x y u v p q = (number-injective x y (p ∙ sym q), refl)
+
+pub cbor-read-any-field-once : Once cbor-read-any-field.Kinds.ps cbor-read-any-field.Kinds.r cbor-read-any-field.Reads.Learnt
+cbor-read-any-field-once κs args x y u v p q = (number-injective x y (p ∙ sym q), refl)
 
 pub cbor-write-size-once : Once cbor-write-size.Kinds.ps cbor-write-size.Kinds.r cbor-write-size.Reads.Learnt
 cbor-write-size-once κs args x y u v p q = (p ∙ sym q, refl)

@@ -18,8 +18,8 @@ use Rattle.frame.specs.Answer as frame
 use Rattle.cover.specs.Cover.{Cover}
 use Rattle.envelope.specs.Envelope.{envelopeAt}
 use Rattle.envelope.specs.Answer as envelope
-use Rattle.cbor.specs.declared.StepRead.{StepRead}
-use Rattle.cbor.specs.declared.StepRead.the-variants as step
+use Rattle.wire.specs.declared.StepRead.{StepRead}
+use Rattle.wire.specs.declared.StepRead.the-variants as step
 use Rattle.manifest.specs.Manifest.{Listing, manifestAt}
 use Rattle.manifest.specs.Writing.{Said, saidIn, listed, Typed}
 use Rattle.manifest.specs.declared.Manifest.{Manifest}
@@ -80,6 +80,11 @@ pub record Exact {Place Value : Type 0} (f : Format Place Value) : Type 0 where
       → ((v : Value) (out x : List ℕ) (n : ℕ) → f .Writes v out x (done n) → take n x ≡ f .counting s → ⊥)
       → f .Reads s a → (n : ℕ) × (place : ℕ) × (a ≡ refusedAt n place)
 
+-- a format in which all of the input counts
+abbrev pub whole : {Place Value : Type 0} (says : List ℕ → Place → Value) (read : List ℕ → Answer Place)
+    (Reads : List ℕ → Answer Place → Type 0) (Writes : Value → List ℕ → List ℕ → Answer ℕ → Type 0) → Format Place Value
+whole says read Reads Writes = record { says = says; counting = λ s. s; read = read; Reads = Reads; Writes = Writes }
+
 -- ---- a page: any frame
 
 pub record Frame : Type 0 where
@@ -94,18 +99,14 @@ frameSays s f = record { kind = f .kind; id = F.idOf s; index = f .index; total 
 
 -- the writer lays out any parts; those of a frame are the allowed ones
 abbrev pub frames : Format F.Frame Frame
-frames = record {
-  says = frameSays;
-  counting = λ s. s;
-  read = λ s. valueOf (F.frameOf s);
-  Reads = λ s a.
-      (k : Call frame-read.Kinds.ps frame-read.Kinds.r frame-read.Reads.Learnt) × (now (k .args .0) ≡ s) × (valueOf (frame.told (k .answer)) ≡ a);
-  Writes = λ v out x a.
-      Allowed (v .kind) (v .id) (v .index) (v .total) (v .contents)
-      × ((k : Call frame-lay.Kinds.ps frame-lay.Kinds.r frame-lay.Reads.Learnt)
-      × (k .args .0 ≡ v .kind) × (now (k .args .1 .0) ≡ v .id) × (k .args .1 .1 .0 ≡ v .index) × (k .args .1 .1 .1 .0 ≡ v .total)
-      × (now (k .args .1 .1 .1 .1 .0) ≡ v .contents) × (now (k .args .1 .1 .1 .1 .1 .0) ≡ out) × (k .left .1 .1 .1 .1 .1 .0 ≡ x) × (told (k .answer) ≡ a));
-}
+frames = whole frameSays (λ s. valueOf (F.frameOf s))
+    (λ s a.
+    (k : Call frame-read.Kinds.ps frame-read.Kinds.r frame-read.Reads.Learnt) × (now (k .args .0) ≡ s) × (valueOf (frame.told (k .answer)) ≡ a))
+    (λ v out x a.
+    Allowed (v .kind) (v .id) (v .index) (v .total) (v .contents)
+    × ((k : Call frame-lay.Kinds.ps frame-lay.Kinds.r frame-lay.Reads.Learnt)
+    × (k .args .0 ≡ v .kind) × (now (k .args .1 .0) ≡ v .id) × (k .args .1 .1 .0 ≡ v .index) × (k .args .1 .1 .1 .0 ≡ v .total)
+    × (now (k .args .1 .1 .1 .1 .0) ≡ v .contents) × (now (k .args .1 .1 .1 .1 .1 .0) ≡ out) × (k .left .1 .1 .1 .1 .1 .0 ≡ x) × (told (k .answer) ≡ a)))
 
 -- ---- both text forms
 
@@ -142,18 +143,14 @@ pub record Enclosed : Type 0 where
   pub payload : List ℕ
 
 abbrev pub envelopes : Format Cover Enclosed
-envelopes = record {
-  says = λ s c. record { manifest = partAt s (c .manifest); payload = partAt s (c .payload) };
-  counting = λ s. s;
-  read = envelopeAt;
-  Reads = λ s a.
-      (k : Call envelope-read.Kinds.ps envelope-read.Kinds.r envelope-read.Reads.Learnt) × (now (k .args .0) ≡ s) × (envelope.readTold (k .answer) ≡ a);
-  Writes = λ v out x a.
-      (length (v .payload) < 2 ^ 64)
-      × ((k : Call envelope-write.Kinds.ps envelope-write.Kinds.r envelope-write.Reads.Learnt)
-      × (now (k .args .0) ≡ v .manifest) × (now (k .args .1 .0) ≡ v .payload) × (now (k .args .1 .1 .0) ≡ out) × (k .left .1 .1 .0 ≡ x)
-      × (envelope.wroteTold (k .answer) ≡ a));
-}
+envelopes = whole (λ s c. record { manifest = partAt s (c .manifest); payload = partAt s (c .payload) }) envelopeAt
+    (λ s a.
+    (k : Call envelope-read.Kinds.ps envelope-read.Kinds.r envelope-read.Reads.Learnt) × (now (k .args .0) ≡ s) × (envelope.readTold (k .answer) ≡ a))
+    (λ v out x a.
+    (length (v .payload) < 2 ^ 64)
+    × ((k : Call envelope-write.Kinds.ps envelope-write.Kinds.r envelope-write.Reads.Learnt)
+    × (now (k .args .0) ≡ v .manifest) × (now (k .args .1 .0) ≡ v .payload) × (now (k .args .1 .1 .0) ≡ out) × (k .left .1 .1 .0 ≡ x)
+    × (envelope.wroteTold (k .answer) ≡ a)))
 
 -- ---- the manifest: the writer's value names its bytes by places in a pool
 
@@ -162,18 +159,14 @@ manifestTold (step.Past next) m = done (listed m)
 manifestTold (step.Refused e) m = refused e
 
 abbrev pub manifests : Format Listing Said
-manifests = record {
-  says = saidIn;
-  counting = λ s. s;
-  read = λ s. valueOf (manifestAt s);
-  Reads = λ s a.
-      (k : Call manifest-read.Kinds.ps manifest-read.Kinds.r manifest-read.Reads.Learnt)
-      × (now (k .args .0) ≡ s) × (manifestTold (k .answer .answer) (k .answer .value) ≡ a);
-  Writes = λ v out x a.
-      (k : Call manifest-write.Kinds.ps manifest-write.Kinds.r manifest-write.Reads.Learnt)
-      × Typed (k .args .1 .0) × (saidIn (now (k .args .0)) (listed (k .args .1 .0)) ≡ v) × (now (k .args .1 .1 .0) ≡ out) × (k .left .1 .1 .0 ≡ x)
-      × (told (k .answer) ≡ a);
-}
+manifests = whole saidIn (λ s. valueOf (manifestAt s))
+    (λ s a.
+    (k : Call manifest-read.Kinds.ps manifest-read.Kinds.r manifest-read.Reads.Learnt)
+    × (now (k .args .0) ≡ s) × (manifestTold (k .answer .answer) (k .answer .value) ≡ a))
+    (λ v out x a.
+    (k : Call manifest-write.Kinds.ps manifest-write.Kinds.r manifest-write.Reads.Learnt)
+    × Typed (k .args .1 .0) × (saidIn (now (k .args .0)) (listed (k .args .1 .0)) ≡ v) × (now (k .args .1 .1 .0) ≡ out) × (k .left .1 .1 .0 ≡ x)
+    × (told (k .answer) ≡ a))
 
 -- ---- the auth payload
 
@@ -186,17 +179,13 @@ abbrev pub authSays : List ℕ → Claim → Auth
 authSays s c = record { public = take 32 (drop (c .public) s); sig = take 64 (drop (c .sig) s); hash = take 32 (drop (c .hash) s) }
 
 abbrev pub auths : Format Claim Auth
-auths = record {
-  says = authSays;
-  counting = λ s. s;
-  read = λ s. valueOf (authAt s);
-  Reads = λ s a.
-      (k : Call auth-read.Kinds.ps auth-read.Kinds.r auth-read.Reads.Learnt) × (now (k .args .0) ≡ s) × (valueOf (claimTold (k .answer)) ≡ a);
-  Writes = λ v out x a.
-      (k : Call auth-write.Kinds.ps auth-write.Kinds.r auth-write.Reads.Learnt)
-      × (now (k .args .0) ≡ v .public) × (now (k .args .1 .0) ≡ v .sig) × (now (k .args .1 .1 .0) ≡ v .hash)
-      × (now (k .args .1 .1 .1 .0) ≡ out) × (k .left .1 .1 .1 .0 ≡ x) × (told (k .answer) ≡ a);
-}
+auths = whole authSays (λ s. valueOf (authAt s))
+    (λ s a.
+    (k : Call auth-read.Kinds.ps auth-read.Kinds.r auth-read.Reads.Learnt) × (now (k .args .0) ≡ s) × (valueOf (claimTold (k .answer)) ≡ a))
+    (λ v out x a.
+    (k : Call auth-write.Kinds.ps auth-write.Kinds.r auth-write.Reads.Learnt)
+    × (now (k .args .0) ≡ v .public) × (now (k .args .1 .0) ≡ v .sig) × (now (k .args .1 .1 .0) ≡ v .hash)
+    × (now (k .args .1 .1 .1 .0) ≡ out) × (k .left .1 .1 .1 .0 ≡ x) × (told (k .answer) ≡ a))
 
 -- ---- the shard payload
 
@@ -217,16 +206,12 @@ shardSays s v = record {
 }
 
 abbrev pub shards : Format Shard Share
-shards = record {
-  says = shardSays;
-  counting = λ s. s;
-  read = λ s. valueOf (shardAt s);
-  Reads = λ s a.
-      (k : Call shard-read.Kinds.ps shard-read.Kinds.r shard-read.Reads.Learnt) × (now (k .args .0) ≡ s) × (valueOf (shardTold (k .answer)) ≡ a);
-  Writes = λ v out x a.
-      (k : Call shard-write.Kinds.ps shard-write.Kinds.r shard-write.Reads.Learnt)
-      × (now (k .args .0) ≡ v .signed .public) × (now (k .args .1 .0) ≡ v .signed .sig) × (now (k .args .1 .1 .0) ≡ v .signed .hash)
-      × (now (k .args .1 .1 .1 .0) ≡ v .kind) × (now (k .args .1 .1 .1 .1 .0) ≡ v .share) × (k .args .1 .1 .1 .1 .1 .0 ≡ v .len)
-      × (k .args .1 .1 .1 .1 .1 .1 .0 ≡ v .quorum)
-      × (now (k .args .1 .1 .1 .1 .1 .1 .1 .0) ≡ out) × (k .left .1 .1 .1 .1 .1 .1 .1 .0 ≡ x) × (told (k .answer) ≡ a);
-}
+shards = whole shardSays (λ s. valueOf (shardAt s))
+    (λ s a.
+    (k : Call shard-read.Kinds.ps shard-read.Kinds.r shard-read.Reads.Learnt) × (now (k .args .0) ≡ s) × (valueOf (shardTold (k .answer)) ≡ a))
+    (λ v out x a.
+    (k : Call shard-write.Kinds.ps shard-write.Kinds.r shard-write.Reads.Learnt)
+    × (now (k .args .0) ≡ v .signed .public) × (now (k .args .1 .0) ≡ v .signed .sig) × (now (k .args .1 .1 .0) ≡ v .signed .hash)
+    × (now (k .args .1 .1 .1 .0) ≡ v .kind) × (now (k .args .1 .1 .1 .1 .0) ≡ v .share) × (k .args .1 .1 .1 .1 .1 .0 ≡ v .len)
+    × (k .args .1 .1 .1 .1 .1 .1 .0 ≡ v .quorum)
+    × (now (k .args .1 .1 .1 .1 .1 .1 .1 .0) ≡ out) × (k .left .1 .1 .1 .1 .1 .1 .1 .0 ≡ x) × (told (k .answer) ≡ a))

@@ -4,9 +4,9 @@ use mathlib.Core.List.{List}
 use lib.Dec.{leb, eqb}
 use Rattle.wire.specs.Answer.{refused}
 use Rattle.wire.proofs.Placeless.{Placeless, placeless-refused, placeless-choose, placeless-demand, placeless-then, placeless}
-use Rattle.cbor.specs.Item.{oneAt, keyAt, numberAt, contentsAt, stringFieldAt, numberFieldAt}
+use Rattle.cbor.specs.Item.{keyAt, numberAt, contentsAt, stringFieldAt, numberFieldAt}
 use Rattle.wire.specs.Ascii.{ascii}
-use Rattle.cbor.proofs.Placeless.{one-placeless, key-placeless, number-placeless, contents-placeless, string-field-placeless, number-field-placeless}
+use Rattle.cbor.proofs.Placeless.{key-placeless, number-placeless, contents-placeless, string-field-placeless, number-field-placeless}
 use Rattle.auth.specs.Auth.{Claim, claimAt}
 use Rattle.auth.proofs.Placeless.{claim-placeless}
 use Rattle.shard.specs.Shard.{kindAt, contentAt, quorumAt, bodyAt, shardAt}
@@ -45,5 +45,4 @@ module _ (s : List ℕ) where
   pub shard-placeless : Placeless (shardAt s)
   unfolding shardAt
   shard-placeless =
-      placeless-then (oneAt s 0 0xAA) _ (one-placeless s 0 0xAA) (λ (_, a).
-      placeless-then (claimAt s a) _ (claim-placeless s a) (λ (claim, b). body-placeless b claim))
+      placeless-then (claimAt s 0xAA) _ (claim-placeless s 0xAA) (λ (claim, at). body-placeless at claim)

@@ -15,11 +15,11 @@ use Rattle.wire.proofs.Standing.{Stands, stands-whole, stands-all, stands-first
 use Rattle.wire.specs.declared.Span.{Span}
 use Rattle.wire.specs.Span.{partAt}
 use Rattle.cbor.specs.Form.{stringFieldOf, numberFieldOf}
-use Rattle.cbor.specs.Item.{oneAt, keyAt, numberAt, contentsAt, stringAt, stringFieldAt, numberFieldAt}
+use Rattle.cbor.specs.Item.{keyAt, numberAt, contentsAt, stringAt, stringFieldAt, numberFieldAt}
 use Rattle.wire.specs.Ascii.{ascii}
 use Rattle.cbor.proofs.Within.{contents-within, string-field-within, number-field-within}
-use Rattle.cbor.proofs.Written.{Found, kind-bytes, kind-text, one-back, string-field-back, number-field-back}
-use Rattle.cbor.proofs.Only.{one-only, string-field-only, number-field-only}
+use Rattle.cbor.proofs.Written.{Found, kind-bytes, kind-text, string-field-back, number-field-back}
+use Rattle.cbor.proofs.Only.{string-field-only, number-field-only}
 use Rattle.auth.specs.Auth.{Claim, claimAt}
 use Rattle.auth.proofs.Rounds.{Claimed, claim-back, publicIn, sigIn, hashIn, Long, Three, claim-only}
 use Rattle.shard.specs.Shard.{known, padded, kindAt, contentAt, quorumAt, Shard, bodyAt, shardAt, contentOf, quorumOf, restOf, shardOf, shardVerdict}
@@ -149,13 +149,13 @@ shard-back public sig hash kind share len q a = go (shardOf public sig hash kind
         let t₃ = stands-second G (H ++ (C ++ (N ++ Q))) t₂ in
         let t₄ = stands-second H (C ++ (N ++ Q)) t₃ in
         let t₅ = stands-second C (N ++ Q) t₄ in
-        let m = claim-back public sig hash (a .public-long) (a .sig-long) (a .rest .hash-long)
+        let m = claim-back public sig hash (a .public-long) (a .sig-long) (a .rest .hash-long) 0xAA (stands-first (0xAA ∷ []) (P ++ (G ++ (H ++ (C ++ (N ++ Q))))) t₀)
         (stands-first P (G ++ (H ++ (C ++ (N ++ Q)))) t₁) (stands-first G (H ++ (C ++ (N ++ Q))) t₂) (stands-first H (C ++ (N ++ Q)) t₃) in
         let c = content-back kind share len (a .rest .content) (stands-first C (N ++ Q) t₄) in
         let n = number-field-back (ascii "version") 1 1 1 (omega arith) (omega arith) (omega arith) (omega arith) (stands-first N Q t₅) in
         let b = quorum-back q (a .rest .quorum) (stands-second N Q t₅) in (
           record { claim = m .0; content = c .0; quorum = q },
-          rw (one-back 0xAA (stands-first (0xAA ∷ []) (P ++ (G ++ (H ++ (C ++ (N ++ Q))))) t₀), m .1, c .1, n, b, eq-eqb (length s) (length s) refl),
+          rw (m .1, c .1, n, b, eq-eqb (length s) (length s) refl),
           record { claim-is = m .2; content-is = c .2; quorum-is = refl },
         )
 
@@ -265,14 +265,13 @@ body-only {s} {at} {next} {claim} {v} y e =
 pub shard-only : {s : List ℕ} {v : Shard} {next : ℕ} → Bytes s → shardAt s ≡ got v next → (s ≡ formIn s v) × (next ≡ length s) × AllowedIn s v
 unfolding shardAt shardOf restOf
 shard-only {s} {v} {next} y e =
-    let t₁ = then-passed (oneAt s 0 0xAA) _ e in
-    let t₂ = then-passed (claimAt s (t₁ .1)) _ (t₁ .3) in
-    let b = body-only y (t₂ .3) in
-    let c : Three s (t₁ .1) (v .claim) (t₂ .1) × Long s (v .claim) =
-    subst (λ (w : Claim). Three s (t₁ .1) w (t₂ .1) × Long s w) (sym (b .0)) (claim-only y (t₂ .2)) in
+    let t = then-passed (claimAt s 0xAA) _ e in
+    let b = body-only y (t .3) in
+    let c : Three s 0xAA (v .claim) (t .1) × Long s (v .claim) =
+    subst (λ (w : Claim). Three s 0xAA w (t .1) × Long s w) (sym (b .0)) (claim-only 0xAA y (t .2)) in
     let r = c .0 in
     let o = c .1 in (
-      stands-all (stands-join (one-only 0xAA (t₁ .2)) (stands-join (r .public-stands) (stands-join (r .sig-stands) (stands-join (r .hash-stands) (b .2))))),
+      stands-all (stands-join (r .head-stands) (stands-join (r .public-stands) (stands-join (r .sig-stands) (stands-join (r .hash-stands) (b .2))))),
       b .1,
       record {
         public-long = o .public-long;

@@ -11,7 +11,7 @@ use Rattle.wire.specs.declared.Span.{Span}
 use Rattle.wire.specs.Span.{partAt}
 use Rattle.lend.specs.Same.{same}
 use Rattle.cbor.specs.Form.{stringFieldOf, numberFieldOf}
-use Rattle.cbor.specs.Item.{oneAt, keyAt, numberAt, contentsAt, stringFieldAt, numberFieldAt}
+use Rattle.cbor.specs.Item.{keyAt, numberAt, contentsAt, stringFieldAt, numberFieldAt}
 use Rattle.auth.specs.Auth.{Claim, claimAt}
 use Rattle.shard.specs.declared.Content.{Content}
 use Rattle.shard.specs.declared.Quorum.{Quorum}
@@ -78,7 +78,7 @@ bodyAt s at claim =
 
 -- head AA; `pub`, `sig` and `hash`; the rest
 unfoldable pub shardAt : List ℕ → Got Shard
-shardAt s = then (oneAt s 0 0xAA) (λ (_, a). then (claimAt s a) (λ (claim, b). bodyAt s b claim))
+shardAt s = then (claimAt s 0xAA) (λ (claim, at). bodyAt s at claim)
 
 -- ---- the payload, written
 

@@ -8,12 +8,12 @@ use super::Content;
 use super::Quorum;
 use super::judge;
 use cbor::BYTES;
-use cbor::NumberRead;
-use cbor::StepRead;
 use cbor::StringRead;
 use cbor::TEXT;
+use wire::NumberRead;
 use wire::OUT_OF_RANGE;
 use wire::Span;
+use wire::StepRead;
 
 pub enum ContentRead {
     Value { content: Content, next: usize },

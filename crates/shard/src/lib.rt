@@ -9,10 +9,9 @@ ghost use Rattle.wire.specs.Writing.{Written};
 ghost use Rattle.shard.specs.Shard.{bodyAt, shardAt, shardVerdict, signedVerdict};
 ghost use Rattle.shard.specs.Answer.{shardTold};
 use auth::ClaimRead;
-use cbor::NumberRead;
-use cbor::StepRead;
 use fields::ContentRead;
 use fields::QuorumRead;
+use wire::NumberRead;
 use wire::OUT_OF_RANGE;
 use wire::Span;
 use wire::Wrote;
@@ -94,21 +93,17 @@ fn body(s: &[u8], at: usize, public: usize, sig: usize, hash: usize) -> ShardRea
 pub fn read(s: &[u8]) -> ShardRead
     ensures { λ r. ⌜ shardTold r ≡ shardAt (now (s .entry)) ⌝ }
 {
-    let m = cbor::read::one_byte(s, 0, 0xAA);
-    let StepRead::Past { next: a } = m else {
-        return ShardRead::Refused { no: m.no() };
-    };
-    let c = auth::claim(s, a);
+    let c = auth::claim(s, 0xAA);
     let ClaimRead::Value {
         public,
         sig,
         hash,
-        next: b,
+        next,
     } = c
     else {
         return ShardRead::Refused { no: c.no() };
     };
-    body(s, b, public, sig, hash)
+    body(s, next, public, sig, hash)
 }
 
 // The payload of these values at the front of out; or 19, then 11. It has at most 456 bytes, so it always fits a page and there is no 9.

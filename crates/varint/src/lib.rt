@@ -1,32 +1,14 @@
 // Unsigned varints: document 01, "Varints and texts". Only the shortest form of a number is read or written.
+use wire::NumberRead;
 use wire::Wrote;
 ghost use mathlib.Core.Path.{_≡_};
 ghost use Prim.Native.Nat.{_+_, _*_, _^_, _<_, _≤_};
 ghost use lib.ListN.{length, drop};
-ghost use Rattle.wire.specs.Answer.{done, numberOf};
+ghost use Rattle.wire.specs.Answer.{done};
 ghost use Rattle.wire.specs.Over.{over};
+ghost use Rattle.wire.specs.Reading.{numberTold};
 ghost use Rattle.wire.specs.Writing.{Written};
 ghost use Rattle.varint.specs.Varint.{varint, onto, ending, tenth, laterFrom, varintAt};
-ghost use Rattle.varint.specs.Answer.{told};
-
-pub enum VarintRead {
-    // A number, and the position past its last byte.
-    Value { n: u64, next: usize },
-    // 01's number of the refusal.
-    Refused { no: u8 },
-}
-
-impl VarintRead {
-    // The number of a refusal, for a caller's `else`.
-    pub fn no(self) -> u8
-        ensures { λ n. ⌜ n ≡ numberOf (told self) ⌝ }
-    {
-        match self {
-            VarintRead::Refused { no } => no,
-            _ => 0,
-        }
-    }
-}
 
 fn wide(x: u8) -> u64
     ensures { λ r. ⌜ r ≡ x ⌝ }
@@ -35,28 +17,28 @@ fn wide(x: u8) -> u64
 }
 
 // b is the last byte of a form, at weight w above the n of the bytes before it; next is the position past it.
-fn read_ending(b: u64, n: u64, w: u64, next: usize) -> VarintRead
+fn read_ending(b: u64, n: u64, w: u64, next: usize) -> NumberRead
     requires { ⌜ n + w * b < 2 ^ 64 ⌝ }
-    ensures { λ r. ⌜ told r ≡ onto n w (ending b next) ⌝ }
+    ensures { λ r. ⌜ numberTold r ≡ onto n w (ending b next) ⌝ }
 {
     if b == 0 {
-        return VarintRead::Refused {
+        return NumberRead::Refused {
             no: wire::BAD_VARINT,
         };
     }
-    VarintRead::Value {
+    NumberRead::Value {
         n: n + w * b,
         next: next,
     }
 }
 
 // The same for a tenth byte, the only one that can take a number to 2^64.
-fn read_tenth(b: u64, n: u64, w: u64, next: usize) -> VarintRead
+fn read_tenth(b: u64, n: u64, w: u64, next: usize) -> NumberRead
     requires { ⌜ n + w < 2 ^ 64 ⌝ }
-    ensures { λ r. ⌜ told r ≡ onto n w (tenth b next) ⌝ }
+    ensures { λ r. ⌜ numberTold r ≡ onto n w (tenth b next) ⌝ }
 {
     if 1 < b {
-        return VarintRead::Refused {
+        return NumberRead::Refused {
             no: wire::BAD_VARINT,
         };
     }
@@ -64,9 +46,9 @@ fn read_tenth(b: u64, n: u64, w: u64, next: usize) -> VarintRead
 }
 
 // The rest of a form whose first byte holds low; its second byte stands at position from.
-fn read_later(s: &[u8], from: usize, low: u64) -> VarintRead
+fn read_later(s: &[u8], from: usize, low: u64) -> NumberRead
     requires { ⌜ low < 128 ⌝ }
-    ensures { λ r. ⌜ told r ≡ onto low 128 (laterFrom 8 from (drop from (now (s .entry)))) ⌝ }
+    ensures { λ r. ⌜ numberTold r ≡ onto low 128 (laterFrom 8 from (drop from (now (s .entry)))) ⌝ }
 {
     let mut n = low;
     let mut w: u64 = 128;
@@ -85,23 +67,23 @@ fn read_later(s: &[u8], from: usize, low: u64) -> VarintRead
         left -= 1;
         i += 1;
     }
-    VarintRead::Refused {
+    NumberRead::Refused {
         no: wire::CUT_OR_LEFT_OVER,
     }
 }
 
 // The number at position at. Past the end of s the input ends inside it.
-pub fn read(s: &[u8], at: usize) -> VarintRead
-    ensures { λ r. ⌜ told r ≡ varintAt (now (s .entry)) at ⌝ }
+pub fn read(s: &[u8], at: usize) -> NumberRead
+    ensures { λ r. ⌜ numberTold r ≡ varintAt (now (s .entry)) at ⌝ }
 {
     if s.len() <= at {
-        return VarintRead::Refused {
+        return NumberRead::Refused {
             no: wire::CUT_OR_LEFT_OVER,
         };
     }
     let first = wide(s[at]);
     if first < 128 {
-        return VarintRead::Value {
+        return NumberRead::Value {
             n: first,
             next: at + 1,
         };

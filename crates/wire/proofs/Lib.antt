@@ -1,4 +1,5 @@
 pub mod Branch
+pub mod Answers
 pub mod Cases
 pub mod Digits
 pub mod Overs

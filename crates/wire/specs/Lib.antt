@@ -4,5 +4,6 @@ pub mod Number
 pub mod Ascii
 pub mod Over
 pub mod Writing
+pub mod Reading
 pub mod Span
 pub mod Every

@@ -1,6 +1,9 @@
-// What every crate of Stiltbasket shares: the numbers that a call may answer, the house sizes, the answer of a call that writes, and where
-// bytes stand.
+// What every crate of Stiltbasket shares: the numbers that a call may answer, the house sizes, the answers of calls that read and write,
+// and where bytes stand.
 // The definitions that contracts cite are in specs/, their laws in proofs/.
+ghost use mathlib.Core.Path.{_≡_};
+ghost use Rattle.wire.specs.Answer.{numberOf};
+ghost use Rattle.wire.specs.Reading.{stepTold, numberTold};
 
 // ---- document 01, "Numbers a call may answer", each named here and nowhere else
 
@@ -87,3 +90,37 @@ pub const SUMMED_SIZE: usize = BLOCK_SIZE - 4;
 pub const COLLECTION_SIZE: usize = (1 + MOST_PAGES) * BLOCK_SIZE;
 
 pub const MOST_CIPHERTEXT: usize = MOST_PAGES * MOST_DATA;
+
+// The answer of a call that reads one thing, and of one that reads a number: the position past it, or the refusal.
+pub enum StepRead {
+    Past { next: usize },
+    Refused { no: u8 },
+}
+
+impl StepRead {
+    // The number of a refusal, for a caller's `else`.
+    pub fn no(self) -> u8
+        ensures { λ n. ⌜ n ≡ numberOf (stepTold self) ⌝ }
+    {
+        match self {
+            StepRead::Refused { no } => no,
+            _ => 0,
+        }
+    }
+}
+
+pub enum NumberRead {
+    Value { n: u64, next: usize },
+    Refused { no: u8 },
+}
+
+impl NumberRead {
+    pub fn no(self) -> u8
+        ensures { λ n. ⌜ n ≡ numberOf (numberTold self) ⌝ }
+    {
+        match self {
+            NumberRead::Refused { no } => no,
+            _ => 0,
+        }
+    }
+}

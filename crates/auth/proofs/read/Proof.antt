@@ -1,4 +1,4 @@
--- `auth::read` meets its contract: the head, the claim, the version and the end. Assumes nothing.
+-- `auth::read` meets its contract: the claim, the version and the end. Assumes nothing.
 use Rattle.auth.specs.Auth.{authAt}
 use Rattle.auth.proofs.Answers.{claims}
 use borrow.Author.Needs.{needs}
@@ -21,23 +21,7 @@ returns-4 : tie.Need-returns-4
 unfolding authAt
 returns-4 c = search claims depth 40
 
-returns-5 : tie.Need-returns-5
-unfolding authAt
-returns-5 c = search claims depth 40
-
 -- Found by search:
-
-one-byte-requires : tie.Need-one-byte-requires
-one-byte-requires c κs = search needs
-
-enum-known-m : tie.Need-enum-known-m
-enum-known-m c = search needs
-
-enum-told : tie.Need-enum-told
-enum-told c = search needs
-
-no-requires : tie.Need-no-requires
-no-requires c κs = search needs
 
 claim-requires : tie.Need-claim-requires
 claim-requires c κs = search needs
@@ -45,11 +29,11 @@ claim-requires c κs = search needs
 enum-known-c : tie.Need-enum-known-c
 enum-known-c c = search needs
 
-enum-told-2 : tie.Need-enum-told-2
-enum-told-2 c = search needs
+enum-told : tie.Need-enum-told
+enum-told c = search needs
 
-no-requires-2 : tie.Need-no-requires-2
-no-requires-2 c κs = search needs
+no-requires : tie.Need-no-requires
+no-requires c κs = search needs
 
 slice-aggregate-number-field : tie.Need-slice-aggregate-number-field
 slice-aggregate-number-field c = search needs
@@ -60,31 +44,26 @@ number-field-requires c κs = search needs
 enum-known-v : tie.Need-enum-known-v
 enum-known-v c = search needs
 
-enum-told-3 : tie.Need-enum-told-3
-enum-told-3 c = search needs
+enum-told-2 : tie.Need-enum-told-2
+enum-told-2 c = search needs
 
-no-requires-3 : tie.Need-no-requires-3
-no-requires-3 c κs = search needs
+no-requires-2 : tie.Need-no-requires-2
+no-requires-2 c κs = search needs
 
 pub read-spec : {M : Type 1} → statement M
 read-spec =
     tie.close
     (tie.spec
-    one-byte-requires
-    enum-known-m
+    claim-requires
+    enum-known-c
     enum-told
     no-requires
     returns
-    claim-requires
-    enum-known-c
-    enum-told-2
-    no-requires-2
-    returns-2
     slice-aggregate-number-field
     number-field-requires
     enum-known-v
-    enum-told-3
-    no-requires-3
+    enum-told-2
+    no-requires-2
+    returns-2
     returns-3
-    returns-4
-    returns-5)
+    returns-4)

@@ -2,7 +2,8 @@
 use borrow.Author.Needs.{needs}
 use Rattle.frame.specs.Frame.{frameOf}
 use Rattle.frame.proofs.Within.{go-data, numbers-within}
-use Rattle.frame.proofs.Chain.{go-kind, no-kind, go-numbers, no-numbers, no-step}
+use Rattle.wire.proofs.Answers.{no-step}
+use Rattle.frame.proofs.Chain.{go-kind, no-kind, go-numbers, no-numbers}
 use Rattle.frame.proofs.read.Statement.{statement}
 use Rattle.frame.proofs.read.Tie as tie
 

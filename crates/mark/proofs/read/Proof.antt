@@ -4,25 +4,26 @@ use native.Mathlib.Omega.{arith}
 use lib.ListN.{length}
 use lib.Seq.{length-take-le}
 use Rattle.mark.specs.Mark.{markOf}
-use Rattle.mark.proofs.Answers.{chain}
+use Rattle.wire.proofs.Answers.{reads}
+use Rattle.wire.proofs.Cases.{flag}
 use borrow.Author.Needs.{needs}
 use Rattle.mark.proofs.read.Statement.{statement}
 use Rattle.mark.proofs.read.Tie as tie
 
 returns : tie.Need-returns
 unfolding markOf
-returns c = search chain
+returns c = search (reads, flag)
 
 slice-aggregate-equal : tie.Need-slice-aggregate-equal
 slice-aggregate-equal c = let a = c .before .before .before .before .args in sym (length-take-le (length (a .magic .now)) (a .s .now) (omega arith))
 
 returns-2 : tie.Need-returns-2
 unfolding markOf
-returns-2 c = search chain
+returns-2 c = search (reads, flag)
 
 returns-3 : tie.Need-returns-3
 unfolding markOf
-returns-3 c = search chain
+returns-3 c = search (reads, flag)
 
 -- Found by search:
 

@@ -1,21 +1,21 @@
 -- `mark::version` meets its contract: what the varint reader answered picks its case. Assumes nothing.
 use Rattle.mark.specs.Mark.{versionAt}
-use Rattle.mark.proofs.Answers.{chain}
+use Rattle.wire.proofs.Answers.{reads}
 use borrow.Author.Needs.{needs}
 use Rattle.mark.proofs.version.Statement.{statement}
 use Rattle.mark.proofs.version.Tie as tie
 
 returns : tie.Need-returns
 unfolding versionAt
-returns c = search chain depth 24
+returns c = search reads depth 24
 
 returns-2 : tie.Need-returns-2
 unfolding versionAt
-returns-2 c = search chain depth 24
+returns-2 c = search reads depth 24
 
 returns-3 : tie.Need-returns-3
 unfolding versionAt
-returns-3 c = search chain depth 24
+returns-3 c = search reads depth 24
 
 -- Found by search:
 

@@ -21,38 +21,22 @@ returns-4 : tie.Need-returns-4
 unfolding createdAt
 returns-4 c = search chain depth 40
 
-returns-5 : tie.Need-returns-5
-unfolding createdAt
-returns-5 c = search chain depth 40
-
 -- Found by search:
 
-slice-aggregate-key : tie.Need-slice-aggregate-key
-slice-aggregate-key c = search needs
+slice-aggregate-any-field : tie.Need-slice-aggregate-any-field
+slice-aggregate-any-field c = search needs
 
-key-requires : tie.Need-key-requires
-key-requires c κs = search needs
+any-field-requires : tie.Need-any-field-requires
+any-field-requires c κs = search needs
 
-enum-known-k : tie.Need-enum-known-k
-enum-known-k c = search needs
+enum-known-f : tie.Need-enum-known-f
+enum-known-f c = search needs
 
 enum-told : tie.Need-enum-told
 enum-told c = search needs
 
 no-requires : tie.Need-no-requires
 no-requires c κs = search needs
-
-byte-requires : tie.Need-byte-requires
-byte-requires c κs = search needs
-
-enum-known-f : tie.Need-enum-known-f
-enum-known-f c = search needs
-
-enum-told-2 : tie.Need-enum-told-2
-enum-told-2 c = search needs
-
-no-requires-2 : tie.Need-no-requires-2
-no-requires-2 c κs = search needs
 
 finite-double-requires : tie.Need-finite-double-requires
 finite-double-requires c κs = search needs
@@ -63,32 +47,27 @@ integer-requires c κs = search needs
 enum-known-h : tie.Need-enum-known-h
 enum-known-h c = search needs
 
-enum-told-3 : tie.Need-enum-told-3
-enum-told-3 c = search needs
+enum-told-2 : tie.Need-enum-told-2
+enum-told-2 c = search needs
 
-no-requires-3 : tie.Need-no-requires-3
-no-requires-3 c κs = search needs
+no-requires-2 : tie.Need-no-requires-2
+no-requires-2 c κs = search needs
 
 pub created-field-spec : {M : Type 1} → statement M
 created-field-spec =
     tie.close
     (tie.spec
-    slice-aggregate-key
-    key-requires
-    enum-known-k
+    slice-aggregate-any-field
+    any-field-requires
+    enum-known-f
     enum-told
     no-requires
     returns
-    byte-requires
-    enum-known-f
-    enum-told-2
-    no-requires-2
-    returns-2
     finite-double-requires
-    returns-3
+    returns-2
     integer-requires
     enum-known-h
-    enum-told-3
-    no-requires-3
-    returns-4
-    returns-5)
+    enum-told-2
+    no-requires-2
+    returns-3
+    returns-4)

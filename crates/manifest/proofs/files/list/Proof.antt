@@ -1,7 +1,7 @@
 -- `manifest::files::list` meets its contract: the key, the count, the files. Assumes nothing.
 use Rattle.cbor.proofs.Answers.{as-told}
 use Rattle.cbor.proofs.Within.{number-within}
-use Rattle.cbor.specs.Answer.{numberTold}
+use Rattle.wire.specs.Reading.{numberTold}
 use Rattle.manifest.specs.Manifest.{listAt}
 use Rattle.manifest.proofs.Answers.{lists}
 use borrow.Author.Needs.{needs}

@@ -1,7 +1,7 @@
 -- `manifest::files::no_files` meets its contract. Assumes nothing.
 use mathlib.Core.List.{List}
 use mathlib.Core.Path.{ap}
-use Rattle.cbor.specs.declared.NumberRead.the-variants as number
+use Rattle.wire.specs.declared.NumberRead.the-variants as number
 use Rattle.entry.specs.declared.File.{File}
 use borrow.Author.Needs.{needs}
 use Rattle.manifest.proofs.files.no_files.Statement.{statement}
