@@ -1,8 +1,9 @@
 """CBOR items (01, "CBOR payloads"; RFC 8949).
 
-In an item, in order: wrong first byte 18; input ends in the head 3; head not
-shortest 18; number or length 19 (a path's 20); input ends in the contents 3;
-contents 18 for a key, 19 for type, 20 for a path.
+An item is judged from its front: what it is, by its first byte (18); whether
+its head is there (3) and the shortest (18); its number or length (19, of a path
+20); whether its contents are there (3); and those (of a key 18, of a type 19,
+of a path 20).
 """
 
 from .answers import NOT_CANONICAL, OUT_OF_RANGE, refuse_if

@@ -156,7 +156,7 @@ def read(raw):
 
 
 def open_collection(ident, room):
-    """Id not 8 bytes 19, then 11; the empty collection."""
+    """The empty collection: 19 for another id than 8 bytes, 11 for another room."""
     refuse_if(len(ident) != 8, OUT_OF_RANGE)
     refuse_if(room != SIZE, NO_ROOM)
     return save(Collection(ident, frozenset(), frozenset()))
@@ -186,14 +186,14 @@ def union(one, other):
 
 
 def join(into, other):
-    """13 for the written, 13 for the read, 12 for two documents."""
+    """The union: each is judged (13), the written one first; then 12 for two documents."""
     written, lent = read(into), read(other)
     refuse_if(written.id != lent.id, OTHER_DOCUMENT)
     return save(union(written, lent))
 
 
 def finish(raw, room):
-    """13, 14, 15, 16, 11, 17, then the data in index order."""
+    """The data of all pages, the lowest index first; its refusals in the order of the code."""
     collection = read(raw)
     refuse_if(head_of(collection).state == DISAGREE, TOTALS_DISAGREE)
     disputed = indices_in(collection, DISPUTED)
@@ -208,7 +208,7 @@ def finish(raw, room):
 
 
 def mend(raw):
-    """Wrong size or a bad head 13; page blocks not well formed become absent."""
+    """13 where the head cannot be relied on; else each bad page block is made absent."""
     first, blocks = blocks_of(raw)
     head = read_head(first)
     bad = [i for i, block in enumerate(blocks) if not well_formed(head, i, block)]

@@ -1,11 +1,11 @@
-"""Fields read from left to right (01, "Frames": the first fault decides)."""
+"""Fields one after the other, of which the first bad one is refused (01, "Frames")."""
 
 from .answers import ENDS_OR_LEFT_OVER, refuse_if
 from .forms import varint_read
 
 
 class Cursor:
-    """A place in the input. A field is judged only once it is whole."""
+    """A place in the input. Where the input ends in a field, that is 3, whatever the field."""
 
     def __init__(self, data):
         self.data = data

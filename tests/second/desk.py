@@ -14,8 +14,8 @@ What CALLS.md leaves open is decided here, and nowhere else:
   (`-0` is 0): one outside 01's range is for the library to refuse.
 - ROOM is a number up to 65,536. SEALED is a number, 0 or 1. The N of
   manifest-write is a number up to 65, and exactly N entries follow it.
-- CREATED is one argument: `i` and a signed number, or `f` and 16 lower-case
-  hex digits. SEED and MTIME may be `null`.
+- CREATED is one argument: a signed number behind `i`, or 16 lower-case hex
+  digits behind `f`. SEED and MTIME may be `null`.
 - A register is one of the letters `a` to `d`, and holds no bytes at first.
   `load` takes at most 65,536 bytes, else the form is wrong.
 - `load` prints `0`, `save` prints `0` and the bytes, `status` only its line.
@@ -96,7 +96,7 @@ def or_null(form):
 
 
 def as_created(argument):
-    """CREATED: `i` and a signed number, or `f` and a double's 16 digits."""
+    """CREATED: a signed number behind `i`, or a double's 16 digits behind `f`."""
     if argument.startswith(b"i"):
         return "i", as_signed(argument[1:])
     demand(DOUBLE.fullmatch(argument))
@@ -279,17 +279,17 @@ class Desk:
         return []
 
     def save(self, register):
-        """The register's bytes; no call is made."""
+        """What the register holds."""
         return [self.registers[register]]
 
     def open(self, register, ident, room):
-        """The register becomes ROOM bytes of A5, and stays so where open refuses."""
+        """A register of that many A5, which it stays where open refuses."""
         self.registers[register] = b"\xa5" * room
         self.registers[register] = collection.open_collection(ident, room)
         return []
 
     def offer(self, register, frame):
-        """One raw frame; KIND is 1, 2 or 3. A refusal changes nothing."""
+        """How the page of a raw frame then stands. A refusal changes nothing."""
         result, kind = collection.offer(self.registers[register], frame)
         self.registers[register] = result
         return [kind]
@@ -311,7 +311,7 @@ class Desk:
         return [count]
 
     def status(self, register):
-        """The status line, and nothing before it."""
+        """The status line alone."""
         return collection.status(self.registers[register])
 
 

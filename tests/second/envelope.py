@@ -8,7 +8,7 @@ from .sums import sha256
 
 
 def envelope_read(raw):
-    """Left to right as for frames, then what manifest and payload say."""
+    """The fields one after the other, then what manifest and payload say."""
     cursor = Cursor(raw)
     refuse_if(cursor.take(2) != b"AY", MAGIC)
     refuse_if(cursor.varint() != 1, VERSION)
@@ -21,7 +21,7 @@ def envelope_read(raw):
 
 
 def judge_contents(manifest, payload):
-    """Manifest size 9, manifest faults, 21 for the sum, 21 for each digest."""
+    """The manifest as its reader judges it; the sum of the sizes; each file's digest."""
     files = manifest_read(manifest).files
     refuse_if(sum(f.size for f in files) != len(payload), NOT_THE_FILES, len(files))
     start = 0
@@ -38,6 +38,6 @@ def envelope_bytes(manifest, payload):
 
 
 def envelope_write(manifest, payload, room):
-    """The same from 9 on, then 11."""
+    """The two parts are judged as in reading, and then the room."""
     judge_contents(manifest, payload)
     return lend(room, envelope_bytes(manifest, payload))

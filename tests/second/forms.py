@@ -17,12 +17,12 @@ FROM_RFC = bytes.maketrans(RFC_BASE32, ZBASE32)
 
 
 def varint_length(number):
-    """A number's length follows from its highest set bit."""
+    """How many bytes hold its bits, seven to a byte; one for zero."""
     return max(1, (number.bit_length() + 6) // 7)
 
 
 def varint_write(number):
-    """Seven bits a byte, lowest first, top bit set on all but the last."""
+    """The lowest seven bits first; the top bit of a byte says that another follows."""
     last = varint_length(number) - 1
     groups = [number >> 7 * i & 0x7F for i in range(last + 1)]
     return bytes(0x80 | g for g in groups[:last]) + bytes(groups[last:])
@@ -31,8 +31,8 @@ def varint_write(number):
 def varint_read(data):
     """The varint at the start of data: its value and how many bytes it used.
 
-    A tenth byte above 1 is 7, and is judged before the input's end behind it;
-    a multi-byte form ending in 00 is 7; input ending inside one is 3.
+    7 where the tenth byte would take it to 2^64, whether or not there is more
+    input, and where a last byte 00 adds nothing; 3 where there is no last byte.
     """
     for used, byte in enumerate(data[:10], start=1):
         refuse_if(used == 10 and byte > 1, VARINT)

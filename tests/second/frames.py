@@ -55,7 +55,7 @@ def judge_numbers(frame):
 
 
 def page_write(ciphertext, size, number, room):
-    """One printed page. Order: 19, more than 96 pages 9, number 8, output 11."""
+    """One printed page: 19 where nothing can be printed so, then 9, 8 and 11."""
     refuse_if(not 1 <= size <= MOST_DATA or not ciphertext, OUT_OF_RANGE)
     total = (len(ciphertext) + size - 1) // size
     refuse_if(total > MOST_PAGES, TOO_LARGE)

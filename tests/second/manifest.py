@@ -37,7 +37,7 @@ def path_allowed(path):
 
 
 def judge_path(path, before):
-    """20 where it is not allowed, or not above the path before it."""
+    """20 for a path that may not be, and for one out of order."""
     refuse_if(not path_allowed(path), BAD_PATH)
     refuse_if(before is not None and not before < path, BAD_PATH)
 
@@ -71,7 +71,7 @@ def manifest_pairs(manifest):
 
 
 def manifest_read(raw):
-    """9 before all else; head A5; sealed and seed are judged at `sealed`."""
+    """Its size first; then each field. Only at `sealed` can seed and sealed disagree."""
     refuse_if(len(raw) > MOST_BYTES, TOO_LARGE)
     items = Items(raw)
     items.byte(0xA5)

@@ -35,7 +35,7 @@ def auth_pairs(auth):
 
 
 def shard_pairs(shard):
-    """`pub`, `sig`, `hash`, `type`, `share`, `length`, `version` and the three numbers."""
+    """The ten fields, in the order of their keys."""
     return [(b"pub", byte_string(shard.pub)), (b"sig", byte_string(shard.sig)),
             (b"hash", byte_string(shard.hash)), (b"type", text(shard.type)),
             (b"share", byte_string(shard.share)), (b"length", integer(shard.length)),
@@ -85,12 +85,12 @@ def auth_signed(auth, room):
 
 
 def padded(length):
-    """The bytes of a share: ceil(length/16) x 16."""
+    """The bytes of a share: whole blocks of 16, the fewest that hold the secret."""
     return (length + 15) // 16 * 16
 
 
 def shard_read(raw):
-    """Head AA; a rule over several items is judged at the last of them."""
+    """A map of ten. What a rule says of two fields is judged once both are read."""
     items = Items(raw)
     items.byte(0xAA)
     items.key(b"pub")

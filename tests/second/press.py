@@ -60,14 +60,14 @@ def form_of(*arguments):
 
 
 def pages_of(ciphertext):
-    """The frames of a document, 480 bytes a page: nothing to print is 19, more than 96 pages 9."""
+    """The frames of a document, 480 bytes a page: 19 for no bytes, 9 for too many."""
     page_write(ciphertext, MOST_DATA, 0, FRAME_ROOM)
     places = range(-(-len(ciphertext) // MOST_DATA))
     return [page_write(ciphertext, MOST_DATA, k, FRAME_ROOM) for k in places]
 
 
 def id_line(ciphertext):
-    """The document id in 16 lower-case hex digits."""
+    """The document's id in hex."""
     return doc_id(ciphertext).hex().encode("ascii")
 
 

@@ -17,16 +17,16 @@ stateOf absent = 0
 stateOf (held d) = 1
 stateOf disputed = 2
 
--- "Bytes 508 to 511 of each block are the CRC of bytes 0 to 507, big-endian"
+-- a block: its 508 bytes, and their checksum behind them, the highest byte first
 unfoldable pub sealed : List ℕ → List ℕ
 sealed body = body ++ bigEndian 4 (crc32 body)
 
--- "`50`, index, state, 00, the head's 8 bytes id, length (two bytes, big-endian), 480 bytes data, zeros"; "unused data is zero",
--- so that zeros stand from the data's end to byte 507
+-- the mark 50 hex, the index, the state, a zero, the id of the document, how long the data are (two bytes, the higher first), the data, and
+-- zeros up to the checksum, whatever of the 480 bytes the data leave
 unfoldable pub pageBody : (id : List ℕ) (i s : ℕ) (d : List ℕ) → List ℕ
 pageBody id i s d = (0x50 ∷ i ∷ s ∷ 0 ∷ []) ++ id ++ bigEndian 2 (length d) ++ d ++ replicate (summedSize - 14 - length d) 0
 
--- "Length and data are zero unless held": the data of a slot that is not held is empty
+-- a slot that is not held has no data: its length is 0, and zeros stand in their place
 unfoldable pub pageBlock : List ℕ → ℕ → Slot → List ℕ
 pageBlock id i p = sealed (pageBody id i (stateOf p) (dataOf p))
 

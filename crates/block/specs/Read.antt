@@ -15,7 +15,7 @@ use Rattle.block.specs.Block.{pageBlock}
 unfoldable pub blockAt : ℕ → List ℕ → List ℕ
 blockAt at c = choose (leb (at + blockSize) (length c)) (take blockSize (drop at c)) []
 
--- "length (two bytes, big-endian)"
+-- how long the data are said to be
 unfoldable pub lengthIn : List ℕ → ℕ
 lengthIn b = getD b 12 0 * 256 + getD b 13 0
 
@@ -26,7 +26,7 @@ slotFor s d = choose (eqb s 0) absent (choose (eqb s 1) (held d) disputed)
 unfoldable pub readSlot : List ℕ → Slot
 readSlot b = slotFor (getD b 2 0) (take (lengthIn b) (take mostData (drop 14 b)))
 
--- "Well formed means exactly this, for every byte": b is the block of what b says
+-- well formed: b is, byte for byte, the block of what b says
 unfoldable pub okPage : List ℕ → ℕ → List ℕ → Bool
 okPage id i b = eqb (length id) idSize && same b (pageBlock id i (readSlot b))
 

@@ -6,7 +6,7 @@ use Prim.Native.Nat.{ℕ, _+_, _-_, _≤_, _<_}
 use native.Mathlib.Omega.{arith}
 use borrow.Author.Tests.{eq-eqb, ne-eqb, le-leb, lt-leb}
 use lib.Dec.{eqb, leb}
-use lib.ListN.{length, take, drop, getD, replicate, length-append, length-replicate, length-take, length-drop, drop-of-length-le, List·getD-eq-default}
+use lib.ListN.{length, take, drop, replicate, length-append, length-replicate, length-take, length-drop, drop-of-length-le, List·getD-eq-default}
 use lib.Seq.{take-all}
 use Rattle.wire.specs.Answer.{numberOf}
 use Rattle.wire.specs.Over.{over}

@@ -1,4 +1,4 @@
--- The bytes of a collection, "97 blocks of 512 bytes": document 01, "The collection".
+-- The bytes of a collection, a head and 96 pages of a block each: document 01, "The collection".
 use Prim.Native.Nat.{ℕ, suc}
 use mathlib.Core.List.{List, [], _∷_, _++_}
 use lib.Dec.{eqb}
@@ -10,7 +10,7 @@ use Rattle.model.specs.Book.{Slot, Book, empty, collecting, disagree, noPages, 
 use Rattle.block.specs.Block.{pageBlock}
 use Rattle.book.specs.Head.{Head, headFor, headBlock}
 
--- "state (0 empty, 1 collecting, 2 totals disagree)"
+-- the number of a state
 unfoldable pub stateNo : Book → ℕ
 stateNo empty = 0
 stateNo (collecting t ss) = 1
@@ -20,7 +20,7 @@ stateNo disagree = 2
 unfoldable pub headOf : List ℕ → Book → Head
 headOf id b = headFor id (stateNo b) (totalOf b)
 
--- "Page block, index 0 to 95 in order": the blocks of slots, from index k on
+-- the blocks of slots, one behind the other, from index k on
 unfoldable pub pages : List ℕ → ℕ → List Slot → List ℕ
 pages id k [] = []
 pages id k (p ∷ ps) = pageBlock id k p ++ pages id (suc k) ps

@@ -5,6 +5,6 @@ use lib.Dec.{eqb}
 use Rattle.model.specs.Book.{Slot}
 use Rattle.block.specs.Block.{stateOf}
 
--- whether a page is in the state of this number. Length 0 is no state: a held page of length 0 is held
+-- whether a page is in the state of this number. Length 0 is no state: a page may be held and have no data
 unfoldable pub inState : ℕ → Slot → Bool
 inState s p = eqb (stateOf p) s

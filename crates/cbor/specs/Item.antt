@@ -1,5 +1,6 @@
 -- What stands at a position of the input: document 01, "CBOR payloads", the paragraph on the first offending item.
--- In an item, in order: first byte 18, end in the head 3, head not shortest 18, number or length 19 (a path's 20), end in the contents 3, contents.
+-- An item is judged from its front: what it is, by its first byte (18); whether its head is there (3) and the shortest (18); its number or length (19, and 20
+-- of a path); whether its contents are there (3); and those.
 use Prim.Native.Nat.{ℕ, _+_, _/_, _%_}
 use mathlib.Core.List.{List}
 use lib.ListN.{length, getD, take, drop}

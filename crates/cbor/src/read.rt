@@ -1,4 +1,4 @@
-// What stands at a position of the input. The first offending item from the left decides: see specs/Item.antt.
+// What stands at a position of the input. Of several faults the one furthest in front is told: see specs/Item.antt.
 ghost use mathlib.Core.Path.{_≡_};
 ghost use Prim.Native.Nat.{_+_, _<_, _≤_};
 ghost use lib.ListN.{length, take, drop};

@@ -14,7 +14,7 @@ use Rattle.block.proofs.Reading.{block-here}
 use Rattle.block.proofs.Round.{slot-page, ok-page}
 use Rattle.book.specs.Head.{headFor, headBlock, withHead, readHead}
 use Rattle.book.specs.Encode.{stateNo, headOf, pages, encode}
-use Rattle.book.specs.Read.{idOf, readPages}
+use Rattle.book.specs.Read.{readPages}
 use Rattle.book.proofs.Heads.{length-headblock}
 use Rattle.book.proofs.Pages.{length-pages, pages-at}
 use Rattle.book.proofs.Changes.{head-anew, page-anew}

@@ -9,7 +9,7 @@ use Rattle.wire.specs.Answer.{done, refusedAt, Got, got, bytesAfter}
 use Rattle.wire.proofs.Cases.{not-done, got-value}
 use Rattle.lend.proofs.Sames.{same-refl}
 use Rattle.model.specs.Book.{Book, empty}
-use Rattle.model.specs.Take.{Page, takePage, joinBook}
+use Rattle.model.specs.Take.{Page, joinBook}
 use Rattle.model.specs.Meaning.{BookIs}
 use Rattle.model.proofs.Sets.{book-iff}
 use Rattle.model.proofs.Valid.{Good, Valid}

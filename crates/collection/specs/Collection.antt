@@ -19,7 +19,7 @@ use Rattle.book.specs.Read.{idOf, bookIn}
 abbrev pub pageOf : List ℕ → F.Frame → Page
 pageOf s f = record { index = f .index; total = f .total; contents = F.dataOf s f }
 
--- "A good page is a frame that the frame reader accepts, of type 44 and with the collection's id": "the frame's own, then 12"
+-- the page of a good frame: what its reader refuses is refused so; 12 where it is no main frame, or its id is another's
 unfoldable pub goodPage : List ℕ → List ℕ → Got Page
 goodPage id s = then (F.frameOf s) (λ (f, next). demand (eqb (f .kind) 0x44 && same id (F.idOf s)) 12 (got (pageOf s f) next))
 

@@ -3,7 +3,6 @@
 mod merge;
 mod take;
 
-ghost use mathlib.Core.Path.{_≡_};
 ghost use Rattle.wire.specs.Answer.{Kept};
 ghost use Rattle.collection.specs.Collection.{opening, offering, joining};
 ghost use Rattle.collection.specs.Answer.{told, toldKind};

@@ -18,7 +18,7 @@ use Rattle.wire.specs.declared.NumberRead.{NumberRead}
 use Rattle.wire.specs.declared.NumberRead.the-variants.{Value}
 use Rattle.varint.proofs.Rounds.{read-stands}
 use Rattle.cover.specs.Cover.{chunkAt}
-use Rattle.cover.specs.Answer.{chunkTold}
+use Rattle.cover.specs.Private.{chunkTold}
 use Rattle.cover.specs.declared.ChunkRead.{ChunkRead}
 use Rattle.cover.specs.declared.ChunkRead.the-variants as K
 

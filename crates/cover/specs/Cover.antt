@@ -1,8 +1,9 @@
 -- The outer layout of an envelope, read and laid out: document 01, "CBOR payloads", the paragraph on the envelope; source document 002, section 2.
 use Prim.Native.Nat.{ℕ, _+_}
-use mathlib.Core.List.{List, [], _∷_, _++_}
+use mathlib.Core.List.{List, _++_}
 use lib.Dec.{leb, eqb}
 use lib.ListN.{length}
+use Rattle.wire.specs.Ascii.{ascii}
 use Rattle.wire.specs.Answer.{then, demand, Got, got}
 use Rattle.wire.specs.declared.Span.{Span}
 use Rattle.varint.specs.Varint.{varint, varintAt}
@@ -15,16 +16,16 @@ pub record Cover : Type 0 where
 
 -- ---- the fields, left to right: each is judged once it is whole
 
--- `41 59`, and the version behind it
+-- in front of every envelope; the version stands behind it
 abbrev pub magic : List ℕ
-magic = 0x41 ∷ 0x59 ∷ []
+magic = ascii "AY"
 
 -- a length and that many bytes
 unfoldable pub chunkAt : List ℕ → ℕ → Got Span
 chunkAt s at =
     then (varintAt s at) (λ (len, next). demand (leb (next + len) (length s)) 3 (got (record { start = next; len = len }) (next + len)))
 
--- the first fault decides: magic, version, manifest length, manifest, payload length, payload, no more
+-- magic and version, the manifest and the payload, each behind its length, and the end: what is wrong first is refused
 unfoldable pub coverAt : List ℕ → Got Cover
 coverAt s =
     then (markOf magic s) (λ (_, a).

@@ -1,2 +1,3 @@
 pub mod Cover
 pub mod Answer
+pub mod Private

@@ -5,7 +5,8 @@ ghost use mathlib.Core.Path.{_≡_};
 ghost use Rattle.wire.specs.Answer.{done, numberOf};
 ghost use Rattle.wire.specs.Writing.{Written};
 ghost use Rattle.cover.specs.Cover.{chunkAt, coverAt, coverOf};
-ghost use Rattle.cover.specs.Answer.{told, chunkTold};
+ghost use Rattle.cover.specs.Answer.{told};
+ghost use Rattle.cover.specs.Private.{chunkTold};
 use wire::NumberRead;
 use wire::Span;
 use wire::StepRead;
@@ -68,7 +69,7 @@ fn chunk(s: &[u8], at: usize) -> ChunkRead
     }
 }
 
-// The two parts of s, all of s. Its fields are read from left to right, and the first fault decides.
+// The two parts of s, all of s. What is wrong first, from the front on, is refused.
 pub fn read(s: &[u8]) -> CoverRead
     ensures { λ r. ⌜ told r ≡ coverAt (now (s .entry)) ⌝ }
 {

@@ -1,5 +1,5 @@
 // The call desk: each line of standard input names a call of a library, and one line of standard output has its answer.
-// CALLS.md is the protocol. The desk has no rule of its own: what it prints is what the library answered.
+// CALLS.md is the protocol. The desk judges nothing: it prints the answers of the libraries.
 //
 // A verb is a row of a table (its name and the form of its arguments) and the arm of that number: in `read` where the call
 // only reads, in `writers` or `listings` where it writes into the room, in `registers` where it is about collections. The

@@ -120,7 +120,7 @@ pub(crate) fn register(word: &[u8]) -> usize {
     }
 }
 
-// `i` and a signed number, or `f` and the 16 digits of a double.
+// An integer behind `i`, or the 16 digits of a double behind `f`.
 pub(crate) fn is_created(word: &[u8]) -> bool {
     if word.len() < 1 {
         return false;

@@ -10,7 +10,7 @@ use borrow.Author.Tests.{le-leb, lt-leb, lt-ltb, le-ltb, ltb-true, eq-eqb, ne-eq
 use mir.Syntax.{w8}
 use mir.Val.{Fits}
 use lib.Dec.{ltb, eqb}
-use lib.ListN.{length, take, drop, getD, set, length-append, length-set}
+use lib.ListN.{length, take, drop, getD, set, length-set}
 use lib.Seq.{take-all, take-suc, length-take-le}
 use Rattle.wire.specs.Answer.{done}
 use Rattle.wire.specs.Every.{every}

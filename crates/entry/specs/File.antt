@@ -14,7 +14,7 @@ use Rattle.entry.specs.declared.Mtime.{Mtime}
 use Rattle.entry.specs.declared.Mtime.the-variants.{Null, Integer}
 use Rattle.entry.specs.declared.File.{File}
 
--- "integers in `created` and `mtime` run from -2^63 to 2^63 - 1": of major type 1 the number n stands for -1 - n
+-- an integer that 64 bits with a sign can hold: of major type 1 the number n stands for -1 - n, so the bound is one for both signs
 unfoldable pub integerAt : List ℕ → ℕ → Got Head
 integerAt s at = then (headAt s at 0) (λ (h, next). demand (ltb (h .number) (2 ^ 63)) 19 (got h next))
 

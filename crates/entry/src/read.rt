@@ -1,4 +1,4 @@
-// What stands at a position of the input. The first offending item from the left decides: see specs/File.antt.
+// What stands at a position of the input. Of several faults the one furthest in front is told: see specs/File.antt.
 ghost use mathlib.Core.Path.{_≡_};
 ghost use Rattle.entry.specs.File.{integerAt, mtimeAt, pathAt, fileAt};
 ghost use Rattle.entry.specs.Answer.{fileTold};

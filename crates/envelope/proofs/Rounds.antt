@@ -14,8 +14,6 @@ use Rattle.cover.proofs.OnlyLayouts.{cover-only}
 use Rattle.manifest.specs.Manifest.{manifestAt}
 use Rattle.manifest.proofs.Rounds.{manifest-small}
 use Rattle.envelope.specs.Envelope.{contents, judged, envelopeAt, verdict}
-use Rattle.envelope.specs.declared.EnvelopeWrote.{EnvelopeWrote}
-use Rattle.envelope.specs.declared.EnvelopeWrote.the-variants as W
 
 -- the two parts that an envelope may have
 abbrev pub Accepted : List ℕ → List ℕ → Type 0

@@ -16,25 +16,25 @@ unfoldable pub total : List File → ℕ
 total [] = 0
 total (f ∷ fs) = f .size + total fs
 
--- "each SHA-256 in turn": of file i and those after it, whose contents stand one after the other in rest
+-- each digest in its turn: of file i and those after it, whose contents stand one after the other in rest
 unfoldable pub digests : (manifest : List ℕ) (files : List File) (i : ℕ) (rest : List ℕ) → Answer Unit
 digests manifest [] i rest = done tt
 digests manifest (f ∷ fs) i rest =
     demandAt (same (sha256 (take (f .size) rest)) (partAt manifest (f .hash))) 21 i
     (digests manifest fs (i + 1) (drop (f .size) rest))
 
--- "21 for the sum", with the file count as its place
+-- the sizes first: the place of a wrong sum is the number of files
 unfoldable pub contents : List ℕ → List File → List ℕ → Answer Unit
 contents manifest files payload = demandAt (eqb (total files) (length payload)) 21 (length files) (digests manifest files 0 payload)
 
--- "manifest size 9, manifest faults", which are the manifest reader's; then its files against the payload
+-- the manifest, as its own reader judges it; then its files against the payload
 unfoldable pub judged : List ℕ → List ℕ → Answer Unit
 judged manifest payload = then (valueOf (manifestAt manifest)) (λ v. contents manifest (v .files) payload)
 
--- "left to right as for frames; then" the two parts
+-- the cover from its front to its end, and then the two parts in it
 unfoldable pub envelopeAt : List ℕ → Answer Cover
 envelopeAt s = then (valueOf (coverAt s)) (λ c. then (judged (partAt s (c .manifest)) (partAt s (c .payload))) (λ _. done c))
 
--- "the writer takes manifest bytes and payload: the same from 9 on"
+-- the writer is given the two parts, and judges them as the reader does
 unfoldable pub verdict : List ℕ → List ℕ → Answer (List ℕ)
 verdict manifest payload = then (judged manifest payload) (λ _. done (coverOf manifest payload))

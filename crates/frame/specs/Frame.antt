@@ -1,9 +1,10 @@
 -- One frame, read: document 01, "Frames" and "House sizes"; source document 002, section 6.
 use Prim.Native.Nat.{ℕ, _+_, _-_}
 use mathlib.Core.Bool.{Bool, true, false}
-use mathlib.Core.List.{List, [], _∷_}
+use mathlib.Core.List.{List}
 use lib.Dec.{ltb, leb, eqb}
 use lib.ListN.{length, take, drop, getD}
+use Rattle.wire.specs.Ascii.{ascii}
 use Rattle.wire.specs.Answer.{choose, refused, then, demand, Got, got}
 use Rattle.wire.specs.Sizes.{mostPages, mostData, idSize}
 use Rattle.wire.specs.Number.{bigEndian}
@@ -30,11 +31,11 @@ dataOf s f = partAt s (f .at)
 
 -- ---- the fields, left to right: each is judged once it is whole
 
--- `41 50`, and version 1 behind it
+-- in front of every frame; the version stands behind it
 abbrev pub magic : List ℕ
-magic = 0x41 ∷ 0x50 ∷ []
+magic = ascii "AP"
 
--- type byte (44 main, 4B key, 41 auth)
+-- the types: main, key and auth
 unfoldable pub known : ℕ → Bool
 known kind = choose (eqb kind 0x44) true (choose (eqb kind 0x4B) true (eqb kind 0x41))
 
@@ -64,7 +65,8 @@ numbersAt s at =
     then (varintAt s a) (λ (total, b).
     then (varintAt s b) (λ (len, c). got (record { index = index; total = total; len = len }) c)))
 
--- after DATA_LEN exactly DATA_LEN + 4 bytes must remain, else 3; then the CRC-32/ISO-HDLC of all before it, big-endian, else 10
+-- the data and four bytes are all that is left of the input, else 3; the four are the checksum of what stands in front of them, the highest
+-- byte first, else 10
 unfoldable pub dataAt : List ℕ → ℕ → ℕ → Got Unit
 dataAt s at len =
     demand (eqb (length s - at) (len + 4)) 3
@@ -73,7 +75,7 @@ dataAt s at len =
 
 -- ---- the frame as a whole
 
--- unless 8 is due: TOTAL is 0, INDEX not below TOTAL, or an A or K frame with TOTAL not 1
+-- a frame is one of its TOTAL, counted from 0, and a key or auth frame is the only one: else 8
 unfoldable pub inPlace : ℕ → ℕ → ℕ → Bool
 inPlace kind index total = choose (eqb total 0) false (choose (leb total index) false (choose (eqb kind 0x44) true (eqb total 1)))
 
@@ -88,7 +90,7 @@ judged kind n at next =
     (demand (inSize (n .total) (n .len)) 9
     (got (record { kind = kind; index = n .index; total = n .total; at = record { start = at; len = n .len } }) next))
 
--- fields are read left to right and the first fault decides; then 10, then 8, then 9
+-- each field in its turn, the checksum last; then what the numbers say
 unfoldable pub frameOf : List ℕ → Got Frame
 frameOf s =
     then (startOf s) (λ (kind, a).

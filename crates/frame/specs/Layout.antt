@@ -8,7 +8,7 @@ use Rattle.mark.specs.Mark.{marked}
 use Rattle.crc.specs.Crc.{crc32}
 use Rattle.frame.specs.Frame.{magic}
 
--- `41 50`, version 1, type byte, 8 bytes id
+-- the magic and the version, the type, the id
 unfoldable pub start : ℕ → List ℕ → List ℕ
 start kind id = marked magic ++ (kind ∷ []) ++ id
 
@@ -20,6 +20,6 @@ numbers index total len = varint index ++ varint total ++ varint len
 unfoldable pub body : (kind : ℕ) (id : List ℕ) (index total : ℕ) (contents : List ℕ) → List ℕ
 body kind id index total contents = start kind id ++ numbers index total (length contents) ++ contents
 
--- CRC-32/ISO-HDLC of all before it, big-endian
+-- all that, and its checksum, the highest byte first
 unfoldable pub layout : (kind : ℕ) (id : List ℕ) (index total : ℕ) (contents : List ℕ) → List ℕ
 layout kind id index total contents = body kind id index total contents ++ bigEndian 4 (crc32 (body kind id index total contents))

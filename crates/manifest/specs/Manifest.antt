@@ -35,11 +35,11 @@ filesAt s zero at prev = got [] at
 filesAt s (suc k) at prev =
     then (fileAt s at prev) (λ (f, p). then (filesAt s k p (partAt s (f .path))) (λ (fs, next). got (f ∷ fs) next))
 
--- "1 to 64 files": every path is above the empty one
+-- at least one file, and no more than the house takes: every path is above the empty one
 unfoldable pub listAt : List ℕ → ℕ → Got (List File)
 listAt s at = then (keyAt s at (ascii "files")) (λ (_, a). then (numberAt s a 4 1 mostFiles 19) (λ (k, p). filesAt s k p []))
 
--- "sealed means seed null; unsealed means 32 bytes"
+-- a sealed manifest gives no seed away, and one that is not sealed gives it
 unfoldable pub agrees : Seed → Bool → Bool
 agrees seed.Null sealed = sealed
 agrees (seed.Bytes span) sealed = not sealed
@@ -79,7 +79,7 @@ endAt s at key =
     then (numberFieldAt s b (ascii "version") 1 1) (λ (_, next).
     demand (eqb next (length s)) 3 (got (record { sealed = sealed; created = created }) next))))
 
--- "a manifest above 16,384 bytes is 9 before all else"; head A5: `seed`, `files`, `sealed`, `created`, `version`
+-- its size is judged first of all (9); then a map of five, its fields in the order of their keys
 unfoldable pub manifestAt : List ℕ → Got Listing
 manifestAt s =
     demand (leb (length s) mostManifest) 9

@@ -57,7 +57,7 @@ unfoldable pub createdOf : Created → List ℕ
 createdOf (created.Integer negative n) = integerOf negative n
 createdOf (created.Double bits) = doubleOf bits
 
--- head A5: `seed`, `files`, `sealed`, `created`, `version`
+-- a map of five, its fields in the order of their keys
 unfoldable pub saidOf : Said → List ℕ
 saidOf v =
     (0xA5 ∷ [])
@@ -94,7 +94,7 @@ createdAllowed (created.Double bits) = finite bits
 unfoldable pub listed : Manifest → Listing
 listed m = record { seed = m .seed; files = take (m .count) (m .files); sealed = m .sealed; created = m .created }
 
--- the values are judged in the order of the keys, then a manifest above 16,384 bytes is 9
+-- the values are judged in the order of the keys, and then the size of the whole (9)
 unfoldable pub manifestVerdict : List ℕ → Manifest → Answer (List ℕ)
 manifestVerdict pool m =
     demand (seedAllowed pool (m .seed)) 19

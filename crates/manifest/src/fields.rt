@@ -1,4 +1,4 @@
-// The fields of a manifest but its files, at a position of the input. The first offending item from the left decides: see
+// The fields of a manifest but its files, at a position of the input. Of several faults the one furthest in front is told: see
 // specs/Manifest.antt.
 ghost use mathlib.Core.Path.{_≡_};
 ghost use Rattle.wire.specs.Answer.{numberOf};

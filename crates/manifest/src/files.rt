@@ -9,7 +9,6 @@ ghost use Rattle.manifest.specs.Private.{filesAnswer};
 use super::FilesRead;
 use super::blank_files;
 use cbor::ARRAY;
-use entry::File;
 use entry::FileRead;
 use entry::write::part;
 use wire::NumberRead;

@@ -1,5 +1,5 @@
 -- What a frame and an envelope begin with, read and laid out: document 01, "Frames" (`41 50`, version 1) and, of the envelope, "CBOR payloads" (`41 59`, version).
--- "Fields are read left to right and the first fault decides: 4, 5 or 7, .. and 3 wherever the input ends inside a field, before that field is judged."
+-- What is wrong first is refused. A field is judged once it is whole: where the input ends in it, that is 3.
 use Prim.Native.Nat.{ℕ}
 use mathlib.Core.List.{List, _++_}
 use lib.Dec.{ltb, eqb}

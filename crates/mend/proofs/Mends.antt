@@ -95,7 +95,7 @@ mended c = bytesAfter c (mending c)
 abbrev pub repair : List ℕ → Answer ℕ
 repair c = answerOf (mending c)
 
--- wrong size or a bad head
+-- where there is no head that can be relied on
 module _ (c : List ℕ) (bad : hasHead c ≡ false) where
   pub unmended : mended c ≡ c
   unfolding mending headIn
@@ -205,7 +205,7 @@ data-kept : (c : List ℕ) → hasHead c ≡ true → (k : ℕ) (d : List ℕ) �
     → (okAt (readHead c) k (pageAt k c) ≡ true) × (readSlot (pageAt k c) ≡ held d)
 data-kept c ok k d h e = mended-held c ok k d h (sym (read-block (mended c) k h) ∙ e)
 
--- For the reader: the mended collection holds no data that had no valid block
+-- For the reader: mending brings in no data: what is held afterwards stood in a good block
 pub nothing-invented : (c : List ℕ) → hasHead c ≡ true → (t : ℕ) (ss : List Slot) → readBook (mended c) ≡ collecting t ss
     → (k : ℕ) (d : List ℕ) → k < 96 → getD ss k absent ≡ held d → (okAt (readHead c) k (pageAt k c) ≡ true) × (readSlot (pageAt k c) ≡ held d)
 unfolding readBook bookFor

@@ -28,7 +28,7 @@ join-disputed absent = refl
 join-disputed (held d) = refl
 join-disputed disputed = refl
 
--- the same data again changes nothing
+-- data that are held already leave the page as it is
 pub join-again : (d e : List ℕ) → d ≡ e → joinSlot (held d) (held e) ≡ held d
 unfolding joinSlot
 join-again d e q = rw (← q, same-refl d)

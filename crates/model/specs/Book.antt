@@ -26,13 +26,13 @@ pub data Book : Type 0 where
 unfoldable pub noPages : List Slot
 noPages = replicate mostPages absent
 
--- "1 to 96 in state 1, else 0"
+-- only a collection that collects has one
 unfoldable pub totalOf : Book → ℕ
 totalOf empty = 0
 totalOf (collecting t ss) = t
 totalOf disagree = 0
 
--- "A page is absent unless the head is in state 1"
+-- only a collection that collects holds any
 unfoldable pub slotsOf : Book → List Slot
 slotsOf empty = noPages
 slotsOf (collecting t ss) = ss

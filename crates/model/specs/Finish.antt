@@ -7,7 +7,7 @@ use lib.ListN.{length, take}
 use Rattle.wire.specs.Answer.{choose, Answer, done, refusedAt, refused}
 use Rattle.model.specs.Book.{Slot, absent, held, disputed, dataOf, Book, empty, collecting, disagree}
 
--- "A held page of length 0 is present": absent is a state, and no length
+-- absent is a state, and no length: a page without data may be held
 unfoldable pub isAbsent : Slot → Bool
 isAbsent absent = true
 isAbsent (held d) = false
@@ -33,7 +33,7 @@ unfoldable pub count : (Slot → Bool) → List Slot → ℕ
 count f [] = 0
 count f (x ∷ xs) = choose (f x) 1 0 + count f xs
 
--- "the data in index order"
+-- the data of all pages, the lowest index first
 unfoldable pub joined : List Slot → List ℕ
 joined [] = []
 joined (x ∷ xs) = dataOf x ++ joined xs
@@ -45,7 +45,7 @@ finishPages ss =
     (choose (ltb (lowest isAbsent ss) (length ss)) (refusedAt 16 (lowest isAbsent ss))
     (done (joined ss)))
 
--- "14, 15, 16 (empty collection: page 0)"
+-- in the empty collection page 0 is the first that is missing
 unfoldable pub finishBook : Book → Answer (List ℕ)
 finishBook empty = refused 16
 finishBook (collecting t ss) = finishPages (take t ss)

@@ -13,7 +13,7 @@ pub record Page : Type 0 where
   pub total : ℕ
   pub contents : List ℕ
 
--- "the same data again changes nothing; other data puts that page in state 2, for good"
+-- two versions of one page: equal ones are held as one, unequal ones make a dispute, and no dispute ends
 unfoldable pub joinSlot : Slot → Slot → Slot
 joinSlot absent y = y
 joinSlot (held d) absent = held d
@@ -21,19 +21,19 @@ joinSlot (held d) (held e) = choose (same d e) (held d) disputed
 joinSlot (held d) disputed = disputed
 joinSlot disputed y = disputed
 
--- "the first fixes the total; another total puts the head in state 2 and makes all pages absent, for good"
+-- an empty collection takes its total from a page; a page with a different one ends all collecting, and no page is kept
 unfoldable pub takePage : Page → Book → Book
 takePage p empty = collecting (p .total) (set noPages (p .index) (held (p .contents)))
 takePage p (collecting t ss) = choose (eqb (p .total) t) (collecting t (set ss (p .index) (joinSlot (getD ss (p .index) absent) (held (p .contents))))) disagree
 takePage p disagree = disagree
 
--- "page for page by the same rules"
+-- two lists of pages, each page as above
 unfoldable pub joinSlots : List Slot → List Slot → List Slot
 joinSlots [] ys = []
 joinSlots (x ∷ xs) [] = x ∷ xs
 joinSlots (x ∷ xs) (y ∷ ys) = joinSlot x y ∷ joinSlots xs ys
 
--- "state 2 on either side, or two totals, gives state 2. An empty one adds nothing"
+-- totals that disagreed in one, or differ between the two, disagree; the empty collection changes nothing
 unfoldable pub joinBook : Book → Book → Book
 joinBook empty b = b
 joinBook (collecting t ss) empty = collecting t ss

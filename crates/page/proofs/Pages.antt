@@ -1,4 +1,4 @@
--- How a document is cut: every page but the last is full, the last has at least one byte, and the pages in order are the
+-- How a document is cut: only the last page may be short, it too has a byte, and the pages in order are the
 -- document. Assumes nothing.
 use Prim.Native.Nat.{ℕ, zero, suc, _+_, _-_, _*_, _/_, _≤_, _<_}
 use mathlib.Core.Path.{_≡_, sym, _∙_}
@@ -32,7 +32,7 @@ module _ (c : List ℕ) (size : ℕ) (z : 0 < size) where
   unfolding pageData
   page-length i = omega (arith, length-take size (drop (i * size) c))
 
-  -- For the reader: every page but the last is full
+  -- For the reader: a page before the last has its whole size
   pub page-full : 0 < length c → (i : ℕ) → i + 1 < pageCount (length c) size → length (pageData c size i) ≡ size
   unfolding pageData
   page-full l i h =
@@ -40,7 +40,7 @@ module _ (c : List ℕ) (size : ℕ) (z : 0 < size) where
       length-take-le size (drop (i * size) c)
       (omega (arith, length-drop (i * size) c, mul-le-mul-right size t, suc-mul i size, count-fewest (length c) size z l))
 
-  -- For the reader: the last holds at least one byte, as every page does
+  -- For the reader: no page is empty, not the last either
   pub page-some : 0 < length c → (i : ℕ) → i < pageCount (length c) size → 0 < length (pageData c size i)
   unfolding pageData
   page-some l i h =

@@ -14,18 +14,18 @@ use Rattle.frame.specs.Layout.{layout}
 unfoldable pub pageCount : ℕ → ℕ → ℕ
 pageCount n size = (n + (size - 1)) / size
 
--- page i: every page but the last is full
+-- page i: as many bytes as a page has, or what is left at the end
 unfoldable pub pageData : List ℕ → ℕ → ℕ → List ℕ
 pageData c size i = take size (drop (i * size) c)
 
 unfoldable pub pageFrame : List ℕ → ℕ → ℕ → List ℕ
 pageFrame c size i = layout 0x44 (documentId c) i (pageCount (length c) size) (pageData c size i)
 
--- a page size of 1 to 480 is given, and a ciphertext that is not empty
+-- there is something to print, and a page holds at least a byte of it and at most what a frame may
 unfoldable pub printable : ℕ → ℕ → Bool
 printable n size = ltb 0 n && (ltb 0 size && leb size mostData)
 
--- how many pages there are: page size or empty ciphertext 19, more than 96 pages 9
+-- how many pages there are: 19 where nothing can be printed so, 9 where they are too many
 unfoldable pub countOf : ℕ → ℕ → Answer ℕ
 countOf n size =
     demand (printable n size) 19
@@ -39,7 +39,7 @@ pub record Printed (c : List ℕ) (size : ℕ) : Type 0 where
   pub most : size ≤ mostData
   pub fits : pageCount (length c) size ≤ mostPages
 
--- then page number not below the total 8
+-- one page of the document, which has to be there: else 8
 unfoldable pub pageVerdict : List ℕ → ℕ → ℕ → Answer (List ℕ)
 pageVerdict c size number =
     then (countOf (length c) size) (λ total.

@@ -53,7 +53,7 @@ impl PageCount {
     }
 }
 
-// Where a page ends that starts at `start`: every page but the last is full.
+// Where a page ends that starts at `start`: only at the end of the document is it shorter than its size.
 fn page_end(start: usize, size: usize, n: usize) -> usize
     requires { ⌜ start ≤ n ⌝ }
     ensures { λ r. ⌜ (start ≤ r) × (r ≤ n) × (r - start ≡ min size (n - start)) ⌝ }

@@ -14,14 +14,14 @@ use Rattle.status.specs.Line.{statusLine}
 
 -- ---- taking up
 
--- "the saved file of 01, joined with what was scanned now": 19 where the first line was no document id, then join's own 13 and 12. The
+-- what was scanned joins what was saved: 19 where the first line was no document id, then join's own 13 and 12. The
 -- phases are those of a session (scan, Session): 1 is collecting
 unfoldable pub resuming : ℕ → List ℕ → List ℕ → Change Unit
 resuming phase c saved = demand (eqb phase 1) 19 (joining c saved)
 
 -- ---- printing
 
--- "`refused` and the number and place", and a line feed
+-- a refusal with its place, on a line
 unfoldable pub refusalLine : ℕ → ℕ → List ℕ
 refusalLine e k = refusedName ++ decimal e ++ ascii " " ++ decimal k ++ lineFeed
 
@@ -29,8 +29,7 @@ refusalLine e k = refusedName ++ decimal e ++ ascii " " ++ decimal k ++ lineFeed
 unfoldable pub ending : List ℕ → Answer (List ℕ)
 ending c = finished c (replicate mostCiphertext 0)
 
--- "where finish succeeds it writes the ciphertext and nothing else, otherwise the status line (or `refused` and the number and place)":
--- what 14, 15 and 16 say is what the status line tells
+-- what finish answers: the ciphertext alone, or a refusal. Of 14, 15 and 16 the status line tells more than their numbers
 abbrev pub shown : List ℕ → Answer (List ℕ) → List ℕ
 shown c (done d) = d
 shown c (refusedAt e k) = choose (leb 14 e && leb e 16) (statusLine c) (refusalLine e k)

@@ -3,7 +3,7 @@ use Prim.Native.Nat.{ℕ, _+_, _*_, _/_, _%_, _^_}
 use lib.Dec.{eqb}
 use Rattle.wire.specs.Answer.{choose, Answer, done, refusedAt}
 
--- bits 0 to 7 the number of 01; bits 8 to 15 a place, or offer's 1, 2 or 3; bits 16 to 63 a count
+-- the lowest byte is 01's number; the one above it a place, or how the page of an offer stands; all above them a count
 abbrev pub packed : ℕ → ℕ → ℕ → ℕ
 packed number place count = number + 256 * place + 2 ^ 16 * count
 

@@ -14,7 +14,6 @@ use Rattle.wire.proofs.Cases.{then-done, done-value, value-passed}
 use Rattle.cover.specs.Cover.{Cover, coverOf}
 use Rattle.envelope.specs.Envelope.{judged, envelopeAt, verdict}
 use Rattle.envelope.specs.Answer.{readTold}
-use Rattle.envelope.specs.declared.EnvelopeWrote.{EnvelopeWrote}
 use Rattle.envelope.specs.declared.EnvelopeWrote.the-variants as W
 use Rattle.envelope.proofs.Rounds.{Accepted, envelope-back, envelope-only}
 use Rattle.manifest.specs.Manifest.{Listing, manifestAt}

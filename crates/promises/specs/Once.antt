@@ -1,4 +1,4 @@
--- "That two answers satisfying it are equal is itself proved": document 01, "How tight the statements are", said once for every public
+-- What it is that a contract leaves one answer (document 01, "How tight the statements are"), said once for every public
 -- function. Of a function the toolchain makes `Kinds.ps` and `Kinds.r`, its parameters and its result, and `Reads.Learnt`, its contract: the
 -- claims of the `ensures` clauses in its source, as a caller has them.
 use Prim.Native.Nat.{ℕ}

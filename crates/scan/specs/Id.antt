@@ -6,6 +6,6 @@ use lib.ListN.{length}
 use Rattle.wire.specs.Answer.{Answer, demand}
 use Rattle.digits.specs.Hex.{hexVerdict}
 
--- "the first line is the document id in 16 lower-case hex digits (else it prints `refused 19`)"
+-- the 8 bytes of a document's id, in hex: anything else on the line is 19
 unfoldable pub idVerdict : List ℕ → Answer (List ℕ)
 idVerdict s = demand (eqb (length s) 16) 19 (hexVerdict s)

@@ -19,8 +19,8 @@ abbrev pub inFront : ℕ → List (List ℕ) → List (List ℕ)
 inFront b [] = (b ∷ []) ∷ []
 inFront b (l ∷ ls) = (b ∷ l) ∷ ls
 
--- the input cut at line feeds. A line feed ends a line and is no part of it. The last line may lack it: no further line stands behind a
--- line feed at the very end, and where there are no bytes there is no line. A carriage return is a byte of its line
+-- the input cut at line feeds. A line feed ends a line and is no part of it. The last line may lack it: behind one that
+-- ends the input no further line stands, and where there are no bytes there is no line. A carriage return belongs to its line
 unfoldable pub lines : List ℕ → List (List ℕ)
 lines [] = []
 lines (b ∷ bs) = choose (eqb b 10) ([] ∷ lines bs) (inFront b (lines bs))

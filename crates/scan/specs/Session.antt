@@ -17,7 +17,7 @@ abbrev pub offered : List ℕ → Answer (List ℕ) → List ℕ
 offered c (done raw) = bytesAfter c (offering c raw)
 offered c (refusedAt e place) = c
 
--- "each further line is one base64 scan. Bad scans, and lines above 1,024 bytes, are passed over"
+-- a scan: a line behind the first. Nothing comes of one that is longer than 1,024 bytes, no base64, or refused
 unfoldable pub scanned : List ℕ → List ℕ → List ℕ
 scanned c line = choose (leb (length line) 1024) (offered c (readText base64 line)) c
 
@@ -69,7 +69,7 @@ fed s (b ∷ bs) = fed (next s b) bs
 unfoldable pub closed : At → At
 closed s = choose (eqb (s .len) 0) s (ended s)
 
--- "It prints one status line": `refused 19` where the first line is no id, or there is none
+-- the line at the end: `refused 19` where the first line is no id, or there is none
 unfoldable pub reported : ℕ → List ℕ → List ℕ
 reported phase c = choose (eqb phase 1) (statusLine c) (refusedLine 19)
 

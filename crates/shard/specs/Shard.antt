@@ -24,11 +24,11 @@ passphrase = ascii "passphrase"
 abbrev pub signingSeed : List ℕ
 signingSeed = ascii "signing-seed"
 
--- "type is `passphrase` or `signing-seed`"
+-- the two kinds of secret that are shared
 unfoldable pub known : List ℕ → Bool
 known kind = same kind passphrase || same kind signingSeed
 
--- "share has ceil(length/16) x 16 bytes"
+-- a share has whole blocks of 16 bytes, the fewest that the secret fills
 unfoldable pub padded : ℕ → ℕ
 padded len = (len + 15) / 16 * 16
 
@@ -52,7 +52,7 @@ contentAt s at =
     demand (eqb (share .len) (padded len)) 19
     (got (record { kind = kind; share = share; length = len }) next))))
 
--- `threshold`, `share_count` and `share_index`, each 1 to 255, the first and last of them at most share_count
+-- `threshold`, `share_count` and `share_index`, each 1 to 255: no more shares are needed than there are, and this is one of them
 unfoldable pub quorumAt : List ℕ → ℕ → Got Quorum
 quorumAt s at =
     then (numberFieldAt s at (ascii "threshold") 1 255) (λ (threshold, a).

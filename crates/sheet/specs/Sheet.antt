@@ -12,15 +12,15 @@ use Rattle.text.specs.Text.{Form, base64, zbase32, textOf}
 use Rattle.document_id.specs.Id.{documentId}
 use Rattle.page.specs.Page.{pageCount, pageFrame, countOf, joined}
 
--- "the first line is the document id in 16 lower-case hex digits"
+-- the line that names the document, as the small program reads it
 unfoldable pub idLine : List ℕ → List ℕ
 idLine c = hexOf (documentId c) ++ lineFeed
 
--- page k through a text form: "Writers insert no spaces"
+-- page k through a text form, on one line without spaces
 unfoldable pub textLine : Form → List ℕ → ℕ → List ℕ
 textLine f c k = textOf f (pageFrame c mostData k) ++ lineFeed
 
--- "each further line is one base64 scan"
+-- a page as the small program reads it
 unfoldable pub scanLine : List ℕ → ℕ → List ℕ
 scanLine c k = textLine base64 c k
 
@@ -31,7 +31,7 @@ pageWord = ascii "page "
 abbrev pub ofWord : List ℕ
 ofWord = ascii " of "
 
--- `page K of N`: "Places count from 0"
+-- `page K of N`: the first page is page 0
 unfoldable pub placeLine : ℕ → ℕ → List ℕ
 placeLine k n = pageWord ++ decimal k ++ ofWord ++ decimal n ++ lineFeed
 
@@ -46,7 +46,7 @@ scanSheet c = idLine c ++ joined (pageCount (length c) mostData) (scanLine c)
 unfoldable pub typedSheet : List ℕ → List ℕ
 typedSheet c = idLine c ++ joined (pageCount (length c) mostData) (typedLines c)
 
--- "Order: page size or empty ciphertext 19, more than 96 pages 9"
+-- a sheet, where its pages can be counted: 19 for no ciphertext, 9 for too much of it
 abbrev pub printed : List ℕ → Answer ℕ → Answer (List ℕ)
 printed sheet counted = then counted (λ _. done sheet)
 
@@ -56,7 +56,7 @@ scanVerdict c = printed (scanSheet c) (countOf (length c) mostData)
 unfoldable pub typedVerdict : List ℕ → Answer (List ℕ)
 typedVerdict c = printed (typedSheet c) (countOf (length c) mostData)
 
--- of one page, "page number not below the total 8"
+-- of one page, which has to be one of the document's: else 8
 unfoldable pub placeVerdict : List ℕ → ℕ → Answer (List ℕ)
 placeVerdict c k =
     then (countOf (length c) mostData) (λ n.

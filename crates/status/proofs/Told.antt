@@ -8,7 +8,7 @@ use lib.Dec.{ltb}
 use lib.ListN.{length, take, length-append}
 use Rattle.wire.specs.Answer.{choose, Answer, done, refusedAt}
 use Rattle.wire.specs.Ascii.{ascii}
-use Rattle.digits.specs.Decimal.{decimal, lineFeed, refusedLine}
+use Rattle.digits.specs.Decimal.{decimal, lineFeed}
 use Rattle.digits.proofs.Decimals.{length-decimal, refused-most}
 use Rattle.model.specs.Book.{Slot, absent, held, Book, empty, collecting, disagree}
 use Rattle.model.specs.Finish.{isAbsent, isHeld, isDisputed, lowest, count}

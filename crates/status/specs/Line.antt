@@ -1,6 +1,5 @@
--- The status line: document 01, "The collection". "Status line, whole, for total 3 with page 1 lacking:
--- `pages 3 held 2 missing 1 disputed 0 first 1`. With none missing, `first -`. State 0 prints `empty`, state 2 `totals disagree`, a refusal
--- `refused` and its number. It ends with a line feed."
+-- The status line: document 01, "The collection". Three pages, of which page 1 is missing, are `pages 3 held 2 missing 1 disputed 0 first 1`;
+-- a dash stands for the page where none is missing. A collection without a total has a word or two in its place.
 use Prim.Native.Nat.{ℕ}
 use mathlib.Core.List.{List, _++_}
 use lib.Dec.{ltb}

@@ -25,7 +25,7 @@ standard64 = ascii "ABCDEFGHIJKLMNOPQRSTUVWXYZabcdefghijklmnopqrstuvwxyz01234567
 unfoldable pub zooko32 : List ℕ
 zooko32 = ascii "ybndrfg8ejkmcpqxot1uwisza345h769"
 
--- no padding, so `=` is a character that is not allowed; no text has 1 character modulo 4
+-- without padding, so `=` is no character of it; no text has 1 character modulo 4
 unfoldable pub base64 : Form
 base64 = record { width = 6; alphabet = standard64; dashes = false; impossible = λ n. eqb (n % 4) 1 }
 
@@ -34,7 +34,7 @@ unfoldable pub zbase32 : Form
 zbase32 =
     record { width = 5; alphabet = zooko32; dashes = true; impossible = λ n. eqb (n % 8) 1 || (eqb (n % 8) 3 || eqb (n % 8) 6) }
 
--- bytes 09 to 0D and 20 hex are skipped, and the dash in z-base-32
+-- what is skipped: the space and the five controls from tab to carriage return, and the dash in z-base-32
 unfoldable pub skipped : Form → ℕ → Bool
 skipped f c = (leb 0x09 c && leb c 0x0D) || (eqb c 0x20 || (f .dashes && eqb c 0x2D))
 

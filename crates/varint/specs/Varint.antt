@@ -5,7 +5,7 @@ use lib.Dec.{ltb, eqb}
 use lib.ListN.{drop}
 use Rattle.wire.specs.Answer.{choose, refused, then, Got, got}
 
--- seven bits a byte, lowest first, the top bit set on all but the last; at most p bytes follow the first
+-- a number in digits of seven bits, the lowest first; the top bit says that another follows. At most p bytes follow the first
 unfoldable pub sevens : ℕ → ℕ → List ℕ
 sevens zero n = n ∷ []
 sevens (suc p) n = choose (ltb n 128) (n ∷ []) ((n % 128 + 128) ∷ sevens p (n / 128))

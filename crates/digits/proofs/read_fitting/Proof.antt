@@ -1,5 +1,4 @@
 -- `digits::read_fitting` meets its contract. The loop's invariant: the bytes of the digits passed stand in front. Assumes nothing.
-use mathlib.Core.Path.{_≡_}
 use Prim.Native.Nat.{_-_, _/_}
 use lib.ListN.{length}
 use borrow.Author.Needs.{needs}

@@ -1,7 +1,5 @@
 -- `page::write_base64` meets its contract. Assumes nothing.
-use native.Mathlib.Omega.{arith}
 use borrow.Author.Needs.{needs}
-use Rattle.text.specs.Text.{base64}
 use Rattle.page.proofs.Typing.{made-fits, typed-done, typed-refused}
 use Rattle.page.proofs.write_base64.Statement.{statement}
 use Rattle.page.proofs.write_base64.Tie as tie
