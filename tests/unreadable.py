@@ -1,4 +1,4 @@
-"""Standard input that cannot be read to its end: nothing may be printed then, and standard error says so."""
+"""Standard input that cannot be read to its end: nothing is printed but an error (R15.8)."""
 
 import os
 import socket
@@ -6,21 +6,22 @@ import subprocess
 
 
 def unreadable(given):
-    """Such inputs: a name, and how subprocess.run is told. Each that gives any bytes gives these and then fails."""
+    """Such inputs: a name, and how subprocess.run is told. The last fails behind `given`."""
     folder = os.open(os.sep, os.O_RDONLY)
     yield "a folder", {"stdin": folder}
     os.close(folder)
     yield "nothing open", {"stdin": subprocess.DEVNULL, "preexec_fn": lambda: os.close(0)}
     near, far = socket.socketpair()
     far.sendall(given)
-    near.send(b"never read")  # a socket that is closed with bytes unread resets the connection, once all that it sent is read
+    # a socket that is closed with bytes unread resets the connection, once all that it sent is read
+    near.send(b"never read")
     far.close()
     yield "a reset connection", {"stdin": near}
     near.close()
 
 
 def fault_of(done):
-    """What is wrong with a run on such an input, or nothing."""
+    """What is wrong with a run on such an input (R15.8), or nothing."""
     if done.stdout:
         return f"printed {done.stdout[:100]!r}"
     if done.returncode != 0 or not done.stderr.startswith(b"standard input: "):

@@ -1,4 +1,4 @@
-"""The runs of `press` and `pantry` that are stored, and runs by chance, each with what the second program says of it."""
+"""Runs of `press` and `pantry`, stored and by chance, with what the second program says of each."""
 
 import functools
 import os
@@ -10,7 +10,8 @@ from second.frames import KEY, MAIN, Frame, frame_write, page_write
 from second.press import MOST, pantry, press
 from second.sums import doc_id
 
-# The kept file's name, and three that no file can have: one in a folder that is not there, a folder, and no name.
+# The kept file's name, and three that no file can have (R15.7): one in a folder that is not there,
+# a folder, and no name.
 KEPT = "kept"
 UNUSABLE = (os.path.join("no-such-folder", KEPT), ".", "")
 
@@ -21,7 +22,7 @@ Outcome = namedtuple("Outcome", "printed after")
 
 @functools.lru_cache(maxsize=64)
 def due(run):
-    """What the second program prints for a run, and the kept file after it (None: there is none)."""
+    """What the second program prints for a run, and the kept file after it (None: no file)."""
     if run.program == "press":
         return Outcome(press(run.given, run.arguments), None)
     usable = not set(run.arguments) & set(UNUSABLE)
@@ -32,7 +33,7 @@ def due(run):
 
 
 def session(ident, scans, last_feed=True):
-    """The input of `pier` and `pantry`."""
+    """The input of `pier` and `pantry` (R15.1)."""
     return b"\n".join([ident.hex().encode("ascii"), *scans]) + b"\n" * last_feed
 
 
@@ -60,13 +61,13 @@ class Document:
         return bytes(scan).replace(b"\r", b"=")
 
     def blurred(self):
-        """A scan with one bit of its frame turned: the check sum finds it."""
+        """A scan with one bit of its frame turned: the checksum finds it (R6.5)."""
         frame = bytearray(base64_read(self.rng.choice(self.scans)))
         frame[self.rng.randrange(len(frame))] ^= 1 << self.rng.randrange(8)
         return base64_write(bytes(frame))
 
     def noise(self):
-        """A line that changes nothing: a bad scan, a page of another document, a frame of another kind, too long a line."""
+        """A line that is passed over (R15.2): a bad scan, no good page, too long a line."""
         kinds = (self.damaged, self.blurred, lambda: b"", lambda: b"QVA", lambda: self.rng.choice(self.scans)[:-1],
                  lambda: self.rng.choice(self.scans) + b" " * 1024,
                  lambda: self.scan(0, self.total, b"stranger", ident=self.rng.randbytes(8)),
@@ -111,7 +112,7 @@ def stored():
 
 
 def stored_press(rng, ship, large):
-    """`press`: each form and each refusal."""
+    """`press`: each form (R15.4) and each refusal (R15.5), pages at the edges of R7.2 and R7.4."""
     for name, length in (("one_byte", 1), ("one_full_page", 480), ("two_pages", 481)):
         yield Run(name, "press", (), rng.randbytes(length))
     yield Run("twelve_pages", "press", (), ship.ciphertext)
@@ -137,7 +138,7 @@ def stored_press(rng, ship, large):
 
 
 def stored_pantry(rng, ship, large):
-    """`pantry` without a file: each answer."""
+    """`pantry` without a file: each answer (R15.6)."""
     def run(name, *given, **more):
         return Run(name, "pantry", (), session(*given, **more))
 
@@ -167,7 +168,7 @@ def stored_pantry(rng, ship, large):
 
 
 def stored_kept(rng, ship):
-    """`pantry` with a kept file: absent, resumed, damaged, another document's, and one that cannot be written."""
+    """`pantry` with a kept file (R15.7): absent, resumed, damaged, another document's, unusable."""
     def run(name, scans, before=None, given=None, file=KEPT):
         return Run(f"kept_{name}", "pantry", (file,), session(ship.id, scans) if given is None else given, before)
 
@@ -210,7 +211,7 @@ def stored_kept(rng, ship):
 
 
 def lengths(rng):
-    """Both ends, then in turn one at the edge of a page and one by chance, each edge once before any comes again."""
+    """Both ends, then in turn one at the edge of a page and one by chance; all edges in a round."""
     yield from (1, MOST, MOST - 1, 2)
     edges = [length for full in range(480, MOST + 1, 480) for length in (full - 1, full, full + 1) if length <= MOST]
     while True:
@@ -221,7 +222,7 @@ def lengths(rng):
 
 
 def chance(rng):
-    """Runs by chance without end: of each document a run of `press`, and then one or several of `pantry`."""
+    """Runs by chance without end: of each document one of `press`, and then some of `pantry`."""
     kinds = (whole, resumed, lacking, whole, quarrel, typing)
     for number, length in enumerate(lengths(rng)):
         document = Document(rng, length)
@@ -229,19 +230,19 @@ def chance(rng):
 
 
 def whole(rng, document):
-    """All pages: the input must come back."""
+    """All pages: the input must come back (R1.6)."""
     yield Run("whole", "pantry", (), session(document.id, document.desk(document.scans), rng.random() < 0.8))
 
 
 def lacking(rng, document):
-    """Some pages left out."""
+    """Some pages left out (R9.10)."""
     out = set(rng.sample(range(document.total), min(document.total, rng.randrange(1, 4))))
     pages = [scan for k, scan in enumerate(document.scans) if k not in out]
     yield Run("lacking", "pantry", (), session(document.id, document.desk(pages)))
 
 
 def resumed(rng, document):
-    """A session in several runs over a kept file."""
+    """A session in several runs over a kept file (R1.5, R15.7)."""
     kept = None
     for number, heap in enumerate(document.parted(rng.randrange(2, 4))):
         run = Run(f"part {number}", "pantry", (KEPT,), session(document.id, document.desk(heap)), kept)
@@ -250,7 +251,7 @@ def resumed(rng, document):
 
 
 def quarrel(rng, document):
-    """Two versions of a page, another total, or both, perhaps over a kept file."""
+    """Two versions of a page, another total, or both (R9.4), which a kept file does not forget."""
     index = rng.randrange(document.total)
     wrong = [document.scan(index, document.total, rng.randbytes(rng.randrange(481)))]
     if rng.random() < 0.4:

@@ -1,8 +1,10 @@
 /*
- * The phone's four functions, called as an app would: a scan that is dropped and resumed, two piers joined, a damaged file, a
- * wrong size, null for an empty slice. Every byte that a call is lent is compared afterwards.
+ * The phone's four functions (R16.1), called as an app would: a scan that is dropped and resumed,
+ * two piers joined, a damaged file, a wrong size, null for an empty slice. Every byte that a call
+ * is lent is compared afterwards (R1.2).
  *
- * The frames and what they come to are made by tests/phone/make, which knows nothing of the library.
+ * The frames and what they come to are made by tests/phone/make, which knows nothing of the
+ * library.
  */
 #include <stdio.h>
 #include <stdlib.h>
@@ -23,7 +25,7 @@ static int failed;
 
 #define FILL 0xA5
 
-/* A buffer with a margin on each side, so that a write outside is seen. */
+/* A buffer with a margin on each side, so that a write outside is seen (R1.1). */
 struct lent {
     uint8_t before[64];
     uint8_t bytes[STILT_COLLECTION_SIZE];
@@ -55,6 +57,7 @@ static void open_ok(struct lent *c)
     EXPECT(margins(c));
 }
 
+/* An offer's 1, 2 or 3 stands where a place would (R16.2). */
 static void offer_page(struct lent *c, int page)
 {
     uint64_t answer = stilt_offer(c->bytes, sizeof c->bytes, PAGES[page].bytes, PAGES[page].len);
@@ -63,7 +66,7 @@ static void offer_page(struct lent *c, int page)
     EXPECT(stilt_count(answer) == 0);
 }
 
-/* A call that is refused changes nothing. */
+/* A call that is refused changes nothing (R1.2). */
 static void refused_offer(struct lent *c, const uint8_t *frame, size_t len, unsigned number)
 {
     struct lent was = *c;
@@ -82,6 +85,7 @@ static void finish_lacks(const struct lent *c, unsigned number, unsigned place)
     EXPECT(memcmp(&was, c, sizeof was) == 0);
 }
 
+/* How many bytes finish wrote stands above number and place (R16.2); none behind them changes. */
 static void finish_whole(const struct lent *c)
 {
     static struct lent out;
@@ -98,7 +102,7 @@ static void finish_whole(const struct lent *c)
     EXPECT(memcmp(&was, c, sizeof was) == 0);
 }
 
-/* The mission's session: the middle pages are missing, the phone is put away with the file saved, and taken up again. */
+/* Some pages are missing, the phone is put away with the file saved, and taken up again (R1.4). */
 static void dropped_and_resumed(void)
 {
     static struct lent c, later;
@@ -120,6 +124,7 @@ static void dropped_and_resumed(void)
     finish_whole(&later);
 }
 
+/* Joined either way the bytes are those of one pier that saw all (R1.5). */
 static void two_piers(void)
 {
     static struct lent odd, even, both;
@@ -139,6 +144,7 @@ static void two_piers(void)
     finish_whole(&both);
 }
 
+/* A dispute and a second total stay, and a join takes them over (R9.4, R9.7). */
 static void disputes(void)
 {
     static struct lent c, other;
@@ -159,6 +165,7 @@ static void disputes(void)
     EXPECT(memcmp(c.bytes, other.bytes, sizeof c.bytes) == 0);
 }
 
+/* Frames that are no good page (R9.3). */
 static void bad_scans(void)
 {
     static struct lent c;
@@ -173,7 +180,7 @@ static void bad_scans(void)
     refused_offer(&c, NULL, 0, STILT_CUT);
 }
 
-/* Every byte of the file counts. */
+/* Every byte of the file counts (R8.7). */
 static void damaged_file(void)
 {
     static struct lent c, other;
@@ -189,6 +196,7 @@ static void damaged_file(void)
     }
 }
 
+/* Lengths that are not right, and no memory at all for a slice of none (R9.1, R9.10). */
 static void wrong_sizes(void)
 {
     static struct lent c, out;

@@ -1,9 +1,9 @@
-"""The second program: document 01 written out once more, in Python.
+"""The second program: docs/RULES.md and docs/DESK.md written out once more, in Python (R18.7).
 
-It shares nothing with the proved libraries but the documents. Each module
-is one subject of 01, and each function names the section that it follows:
+It shares nothing with the proved libraries but the rules. Each module is one
+subject of them, and each function that judges by a rule gives its number:
 
-    answers     the numbers a call may answer
+    answers     the numbers that a call may answer
     cursor      reading fields from left to right
     forms       varints and the two text forms
     sums        CRC-32, SHA-256, BLAKE2b, the document id
@@ -15,7 +15,7 @@ is one subject of 01, and each function names the section that it follows:
     collection  the collection of pages, which is also the saved file
     pier        the small program: scans in, a status line out
     press       the programs of the harbour and the pantry
-    desk        the call desk of CALLS.md: lines in, lines out
+    desk        the call desk: lines in, lines out
 
 The rest is for trying it out: `cases` makes calls, `stored` the run that is
 kept beside the desk, `compare` holds a desk to this program, `selftest`

@@ -1,5 +1,6 @@
-"""The numbers a call may answer (01, "Numbers a call may answer")."""
+"""The numbers that a call may answer: section 2 of docs/RULES.md."""
 
+# What each says is R2.2.
 BAD_CHARACTER = 1
 BAD_LENGTH = 2
 ENDS_OR_LEFT_OVER = 3
@@ -22,11 +23,12 @@ OUT_OF_RANGE = 19
 BAD_PATH = 20
 NOT_THE_FILES = 21
 
+# R2.3
 WITH_PLACE = (PAGE_DISPUTED, MISSING, NOT_THE_FILES)
 
 
 class Refusal(Exception):
-    """A call's answer where it is not 0, with its place for 15, 16 and 21."""
+    """A call's answer where it is not 0 (R2.1), and its place, mostly 0 (R2.3)."""
 
     def __init__(self, number, place=0):
         super().__init__(number, place)
@@ -41,6 +43,6 @@ def refuse_if(fault, number, place=0):
 
 
 def lend(room, output):
-    """Output into a buffer of `room` bytes: 11 where it is too short."""
+    """Output into a buffer of `room` bytes: 11 where it is too short, judged last (R2.4)."""
     refuse_if(len(output) > room, NO_ROOM)
     return output

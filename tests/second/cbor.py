@@ -1,9 +1,6 @@
-"""CBOR items (01, "CBOR payloads"; RFC 8949).
+"""CBOR items: section 10 of docs/RULES.md, over RFC 8949.
 
-An item is judged from its front: what it is, by its first byte (18); whether
-its head is there (3) and the shortest (18); its number or length (19, of a path
-20); whether its contents are there (3); and those (of a key 18, of a type 19,
-of a path 20).
+Each method of `Items` judges an item in the order of R10.3.
 """
 
 from .answers import NOT_CANONICAL, OUT_OF_RANGE, refuse_if
@@ -16,7 +13,7 @@ WIDTHS = {24: 1, 25: 2, 26: 4, 27: 8}
 
 
 def head(major, number):
-    """The shortest head of a kind with its number."""
+    """The shortest head of a kind with its number (R10.1)."""
     if number < 24:
         return bytes([major << 5 | number])
     for info, width in WIDTHS.items():
@@ -44,17 +41,17 @@ class Items(Cursor):
     """Items read one after the other; each method is one item of a payload."""
 
     def byte(self, *allowed):
-        """A first byte out of those named, else 18."""
+        """A first byte out of those named, else 18 (R10.3)."""
         refuse_if(self.peek() not in allowed, NOT_CANONICAL)
         return self.take(1)[0]
 
     def key(self, name):
-        """The named key: its head 18, cut 3, its letters 18."""
+        """The named key: its head, of one byte (R10.6), 18; cut 3; its letters 18 (R10.3)."""
         self.byte(TEXT << 5 | len(name))
         refuse_if(self.take(len(name)) != name, NOT_CANONICAL)
 
     def head(self, *majors):
-        """A head of one of these kinds: its kind and its number."""
+        """A head of one of these kinds: its kind and its number. 18, 3, 18 (R10.3)."""
         first = self.peek()
         major, info = first >> 5, first & 31
         refuse_if(major not in majors or info > 27, NOT_CANONICAL)
@@ -66,14 +63,14 @@ class Items(Cursor):
         return major, number
 
     def integer(self, low, high):
-        """An integer within its range, else 19; both signs are one kind."""
+        """An integer within its range, else 19 (R10.3); both signs are one kind (R10.4)."""
         major, number = self.head(UNSIGNED, NEGATIVE)
         value = number if major == UNSIGNED else -1 - number
         refuse_if(not low <= value <= high, OUT_OF_RANGE)
         return value
 
     def string(self, major, length_allowed, number):
-        """A byte or text string; a length not allowed gives the number."""
+        """A byte or text string; a length not allowed gives the number (R10.3)."""
         _, length = self.head(major)
         refuse_if(not length_allowed(length), number)
         return self.take(length)

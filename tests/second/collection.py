@@ -1,10 +1,10 @@
-"""The collection, which is also the saved file (01, "The collection").
+"""The collection, which is also the saved file: sections 8 and 9 of docs/RULES.md.
 
 A collection is thought of as what was taken into it: the set of totals that
 its pages named, and the set of pages as pairs of index and data. What it
 says of a page follows from membership: no pair with that index, one, or
-several that differ. Offering is adding to the sets, joining is their union;
-order and repeats cannot matter.
+several that differ. Offering is adding to the sets (R1.4), joining is their
+union (R1.5); order and repeats cannot matter.
 
 A saved file keeps less than that: of a disputed page, or of totals
 that disagree, the fact alone. In their place `read` puts two marks that are
@@ -19,10 +19,10 @@ from .frames import MAIN, MOST_DATA, MOST_PAGES, frame_read
 from .sums import crc, doc_id
 
 BLOCK = 512
-SIZE = (1 + MOST_PAGES) * BLOCK
+SIZE = (1 + MOST_PAGES) * BLOCK  # R3.8
 
-EMPTY, COLLECTING, DISAGREE = 0, 1, 2
-ABSENT, HELD, DISPUTED = 0, 1, 2
+EMPTY, COLLECTING, DISAGREE = 0, 1, 2  # R8.3
+ABSENT, HELD, DISPUTED = 0, 1, 2  # R8.4
 
 ONE_MARK, OTHER_MARK = "one", "another"
 
@@ -34,7 +34,7 @@ Head = namedtuple("Head", "state id total")
 
 
 def head_of(collection):
-    """State 0 without a total, 1 with one, 2 with several."""
+    """State 0 without a total, 1 with one, 2 with several (R9.4)."""
     if not collection.totals:
         return Head(EMPTY, collection.id, 0)
     if len(collection.totals) > 1:
@@ -43,7 +43,7 @@ def head_of(collection):
 
 
 def page_of(collection, index):
-    """The state of a page and its data: absent unless the one total covers it."""
+    """The state of a page and its data (R9.4): absent unless the one total covers it (R8.6)."""
     if not has_page(head_of(collection), index):
         return ABSENT, b""
     versions = [data for i, data in collection.pages if i == index]
@@ -53,7 +53,7 @@ def page_of(collection, index):
 
 
 def has_page(head, index):
-    """Whether a page of this index may be other than absent under the head."""
+    """Whether a page of this index may be other than absent under the head (R8.6)."""
     return head.state == COLLECTING and index < head.total
 
 
@@ -67,45 +67,45 @@ def indices_in(collection, state):
 
 
 def sealed(contents):
-    """A block: its 508 bytes, filled up with zeros, and their CRC."""
+    """A block: its 508 bytes, filled up with zeros, and their checksum (R8.2)."""
     filled = contents.ljust(BLOCK - 4, b"\0")
     return filled + crc(filled)
 
 
 def head_block(head):
-    """`49 4D`, version 1, state, id, total, zeros."""
+    """Mark and version, state, id, total (R8.3)."""
     return sealed(b"IM" + bytes([1, head.state]) + head.id + bytes([head.total]))
 
 
 def page_block(ident, index, state, data):
-    """`50`, index, state, 00, id, length, data, zeros."""
+    """Mark, index, state, 00, id, length, data (R8.4)."""
     return sealed(bytes([0x50, index, state, 0]) + ident + len(data).to_bytes(2, "big") + data)
 
 
 def save(collection):
-    """The 97 blocks of a collection."""
+    """The 97 blocks of a collection (R8.1)."""
     pages = (page_block(collection.id, i, *page_of(collection, i)) for i in range(MOST_PAGES))
     return head_block(head_of(collection)) + b"".join(pages)
 
 
-# Reading blocks: every byte is judged, and any fault is 13.
+# Reading blocks: every byte is judged, and any fault is 13 (R8.7).
 
 
 def blocks_of(raw):
-    """The head block and the 96 page blocks; 13 for a wrong size."""
+    """The head block and the 96 page blocks (R8.1); 13 for a wrong size."""
     refuse_if(len(raw) != SIZE, NOT_WELL_FORMED)
     blocks = [raw[at:at + BLOCK] for at in range(0, SIZE, BLOCK)]
     return blocks[0], blocks[1:]
 
 
 def contents_of(block):
-    """Bytes 0 to 507 of a block whose CRC holds."""
+    """Bytes 0 to 507 of a block whose checksum holds (R8.2)."""
     refuse_if(block[508:] != crc(block[:508]), NOT_WELL_FORMED)
     return block[:508]
 
 
 def read_head(block):
-    """The head, well formed."""
+    """The head, well formed (R8.3)."""
     bytes_ = contents_of(block)
     state, ident, total = bytes_[3], bytes_[4:12], bytes_[12]
     refuse_if(bytes_[0:3] != b"IM\x01", NOT_WELL_FORMED)
@@ -117,7 +117,7 @@ def read_head(block):
 
 
 def read_page(head, index, block):
-    """The page's state and data, well formed under the head."""
+    """The page's state and data (R8.4), well formed (R8.5) under the head (R8.6)."""
     bytes_ = contents_of(block)
     state, length, room, rest = bytes_[2], bytes_[12:14], bytes_[14:494], bytes_[494:]
     length = int.from_bytes(length, "big")
@@ -143,7 +143,7 @@ def versions_from(index, state, data):
 
 
 def read(raw):
-    """A well-formed collection, else 13."""
+    """A well-formed collection, else 13 (R8.7)."""
     first, others = blocks_of(raw)
     head = read_head(first)
     pages = set()
@@ -156,14 +156,14 @@ def read(raw):
 
 
 def open_collection(ident, room):
-    """The empty collection: 19 for another id than 8 bytes, 11 for another room."""
+    """The empty collection: 19 for another id than 8 bytes, 11 for another room (R9.1)."""
     refuse_if(len(ident) != 8, OUT_OF_RANGE)
     refuse_if(room != SIZE, NO_ROOM)
     return save(Collection(ident, frozenset(), frozenset()))
 
 
 def offer(raw, raw_frame):
-    """13, the frame's own, 12; then the page is taken. The kind is 1, 2 or 3."""
+    """13, the frame's own, 12 (R9.3); then the good page (R9.2) is taken."""
     collection = read(raw)
     frame = frame_read(raw_frame)
     refuse_if(frame.type != MAIN or frame.id != collection.id, OTHER_DOCUMENT)
@@ -174,26 +174,26 @@ def offer(raw, raw_frame):
 
 
 def kind_of(collection, index):
-    """1 page held, 2 page disputed, 3 totals disagree."""
+    """1 page held, 2 page disputed, 3 totals disagree (R9.5)."""
     if head_of(collection).state == DISAGREE:
         return 3
     return 1 if page_of(collection, index)[0] == HELD else 2
 
 
 def union(one, other):
-    """All totals and all pages of both."""
+    """All totals and all pages of both (R9.4, R9.7)."""
     return Collection(one.id, one.totals | other.totals, one.pages | other.pages)
 
 
 def join(into, other):
-    """The union: each is judged (13), the written one first; then 12 for two documents."""
+    """The union: each is judged (13), the written one first; then 12 for two documents (R9.6)."""
     written, lent = read(into), read(other)
     refuse_if(written.id != lent.id, OTHER_DOCUMENT)
     return save(union(written, lent))
 
 
 def finish(raw, room):
-    """The data of all pages, the lowest index first; its refusals in the order of the code."""
+    """The data of all pages by index, where the set is complete (R9.9, R1.6); refusals as R9.10."""
     collection = read(raw)
     refuse_if(head_of(collection).state == DISAGREE, TOTALS_DISAGREE)
     disputed = indices_in(collection, DISPUTED)
@@ -208,7 +208,7 @@ def finish(raw, room):
 
 
 def mend(raw):
-    """13 where the head cannot be relied on; else each bad page block is made absent."""
+    """13 where the head cannot be relied on; else each bad page block is made absent (R9.11)."""
     first, blocks = blocks_of(raw)
     head = read_head(first)
     bad = [i for i, block in enumerate(blocks) if not well_formed(head, i, block)]
@@ -227,7 +227,7 @@ def well_formed(head, index, block):
 
 
 def status(raw):
-    """The status line, without its line feed."""
+    """The status line (R9.12, R9.13), without its line feed."""
     try:
         collection = read(raw)
     except Refusal as refusal:

@@ -115,7 +115,7 @@ def compare(command, seed, count, verbs, tell=print, keep=None):
 
 
 def compare_blocks(command, blocks, count, verbs, tell=print, keep=None, called=()):
-    """The same for blocks of lines that are given. Of the verbs `called` each answer that 01 knows of must occur, and no other."""
+    """The same for blocks that are given. Each answer of the verbs `called` must occur (GIVES)."""
     comparison = Comparison(command, verbs, tell)
     for number, lines in enumerate(chunks(blocks)):
         comparison.chunk(lines, last_feed=number % 2 == 0)
@@ -133,8 +133,10 @@ def lacking(counts, called):
     """The answers that a verb can give and never gave, and those that it gave and cannot give."""
     for verb in called:
         given = {int(kind) for v, kind in counts if v == verb and kind != "?"}
-        yield from (f"{verb} never answered {number}" for number in GIVES[verb] if number not in given)
-        yield from (f"{verb} answered {number}, which it cannot" for number in sorted(given.difference(GIVES[verb])))
+        for number in sorted({*GIVES[verb]} - given):
+            yield f"{verb} never answered {number}"
+        for number in sorted(given.difference(GIVES[verb])):
+            yield f"{verb} answered {number}, which it cannot"
 
 
 def verdict(comparison, count, tell, keep):

@@ -1,11 +1,11 @@
-"""Fields one after the other, of which the first bad one is refused (01, "Frames")."""
+"""Fields one after the other, of which the first bad one is refused (R6.4, R10.2)."""
 
 from .answers import ENDS_OR_LEFT_OVER, refuse_if
 from .forms import varint_read
 
 
 class Cursor:
-    """A place in the input. Where the input ends in a field, that is 3, whatever the field."""
+    """A place in the input. Where the input ends in a field, that is 3, whichever it is (R6.4)."""
 
     def __init__(self, data):
         self.data = data
@@ -27,11 +27,11 @@ class Cursor:
         return self.data[self.at]
 
     def varint(self):
-        """The next varint: 3 or 7 as the varint reader says."""
+        """The next varint: 3 or 7 as the varint reader says (R6.4)."""
         value, used = varint_read(self.data[self.at:self.at + 10])
         self.at += used
         return value
 
     def end(self):
-        """Nothing may follow: 3 for bytes that are left over."""
+        """Nothing may follow: 3 for bytes that are left over (R10.2)."""
         refuse_if(self.left() != 0, ENDS_OR_LEFT_OVER)

@@ -1,26 +1,7 @@
-"""The call desk (CALLS.md): lines in, lines out.
+"""The call desk, docs/DESK.md: lines in, lines out.
 
-What CALLS.md leaves open is decided here, and nowhere else:
-
-- A line ends at a line feed, which does not count to its 262,144 bytes; the
-  last may lack it. Nothing after the last line feed is not a line. The length
-  is judged before all else, so a longer line that begins with `#` prints `?`.
-- Arguments are parted by exactly one space: two spaces, a trailing space, a
-  leading space, a tab or a carriage return make the form wrong.
-- BYTES is one or more pairs of lower-case hex digits, or `-` for no bytes. An
-  empty argument, an upper-case digit or an odd count is wrong.
-- A number is 1 to 40 decimal digits, leading zeros allowed, with a value of at
-  most 2^64 - 1. A signed number is one `-` or none, and then such a number
-  (`-0` is 0): one outside 01's range is for the library to refuse.
-- ROOM is a number up to 65,536. SEALED is a number, 0 or 1. The N of
-  manifest-write is a number up to 65, and exactly N entries follow it.
-- CREATED is one argument: a signed number behind `i`, or 16 lower-case hex
-  digits behind `f`. SEED and MTIME may be `null`.
-- A register is one of the letters `a` to `d`, and holds no bytes at first.
-  `load` takes at most 65,536 bytes, else the form is wrong.
-- `load` prints `0`, `save` prints `0` and the bytes, `status` only its line.
-- A verb that has not landed is an unknown verb.
-- ` spilled` is never printed: it would be a fault of the library.
+A verb that has not landed is an unknown verb. ` spilled` is never printed here (D1.6, D1.8, D3.8):
+a library that keeps R1.2 gives no cause for it, and a desk that prints it differs from this one.
 """
 
 import re
@@ -30,9 +11,9 @@ from .answers import WITH_PLACE, Refusal, lend
 from .manifest import File, Manifest, manifest_read, manifest_write
 from .verbs import ALL
 
-LONGEST_LINE = 262144
-MOST_ROOM = 65536
-MOST_ENTRIES = 65
+LONGEST_LINE = 262144  # D1.5
+MOST_ROOM = 65536  # D1.6
+MOST_ENTRIES = 65  # D2.10
 
 HEX = re.compile(rb"(?:[0-9a-f]{2})+")
 DIGITS = re.compile(rb"[0-9]{1,40}")
@@ -40,7 +21,7 @@ DOUBLE = re.compile(rb"f[0-9a-f]{16}")
 
 
 class Malformed(Exception):
-    """The line is not of the verb's form: `?`."""
+    """The line is not of the verb's form: `?` (D1.5)."""
 
 
 # Arguments.
@@ -53,7 +34,7 @@ def demand(condition):
 
 
 def as_bytes(argument):
-    """BYTES: lower-case hex, or `-`."""
+    """BYTES: lower-case hex, or `-` (D1.3)."""
     if argument == b"-":
         return b""
     demand(HEX.fullmatch(argument))
@@ -61,42 +42,42 @@ def as_bytes(argument):
 
 
 def as_number(argument, most=2**64 - 1):
-    """A decimal number from 0 to `most`."""
+    """A decimal number from 0 to `most` (D1.4)."""
     demand(DIGITS.fullmatch(argument) and int(argument) <= most)
     return int(argument)
 
 
 def as_signed(argument):
-    """A number that may begin with `-`."""
+    """A number that may begin with `-` (D1.4)."""
     number = as_number(argument.removeprefix(b"-"))
     return -number if argument.startswith(b"-") else number
 
 
 def as_room(argument):
-    """ROOM: the length of the lent output."""
+    """ROOM: the length of the lent output (D1.6)."""
     return as_number(argument, MOST_ROOM)
 
 
 def as_register(argument):
-    """REG: `a`, `b`, `c` or `d`."""
+    """REG: `a`, `b`, `c` or `d` (D3.1)."""
     demand(argument in (b"a", b"b", b"c", b"d"))
     return argument.decode("ascii")
 
 
 def as_contents(argument):
-    """What `load` puts into a register: BYTES, up to 65,536 of them."""
+    """What `load` puts into a register: BYTES, up to 65,536 of them (D3.2)."""
     data = as_bytes(argument)
     demand(len(data) <= MOST_ROOM)
     return data
 
 
 def or_null(form):
-    """An argument that may be `null`."""
+    """An argument that may be `null` (D2.9)."""
     return lambda argument: None if argument == b"null" else form(argument)
 
 
 def as_created(argument):
-    """CREATED: a signed number behind `i`, or a double's 16 digits behind `f`."""
+    """CREATED: a signed number behind `i`, or a double's 16 digits behind `f` (D2.9)."""
     if argument.startswith(b"i"):
         return "i", as_signed(argument[1:])
     demand(DOUBLE.fullmatch(argument))
@@ -107,65 +88,65 @@ def as_created(argument):
 
 
 def shown(value):
-    """A value as it is printed: bytes, nothing, or a number or word."""
+    """A value as it is printed: bytes (D1.3), nothing, or a number or word."""
     if isinstance(value, bytes):
         return value.hex() or "-"
     return "null" if value is None else str(value)
 
 
 def shown_created(created):
-    """CREATED as it is printed."""
+    """CREATED as it is printed (D2.9)."""
     return created[0] + shown(created[1])
 
 
-# Verbs. Each gives the values that are printed after the 0.
+# Verbs. Each gives the values that are printed after the 0 (D1.7).
 
 
 def varint_write(number, room):
-    """varint-write: 11 where it does not fit (01, "Varints and texts")."""
+    """varint-write (D2.1): 11 where it does not fit."""
     return [lend(room, forms.varint_write(number))]
 
 
 def through(function):
-    """A verb that turns bytes or text into the other within ROOM."""
+    """A verb that turns bytes or text into the other within ROOM (D2.2)."""
     return lambda given, room: [lend(room, function(given))]
 
 
 def one(function):
-    """A verb whose answer is one value."""
+    """A verb whose answer is one value (D2.3, D2.5, D2.6, D2.11)."""
     return lambda *arguments: [function(*arguments)]
 
 
 def frame_read(raw):
-    """frame-read: TYPE ID INDEX TOTAL DATA (01, "Frames")."""
+    """frame-read: TYPE ID INDEX TOTAL DATA (D2.4)."""
     frame = frames.frame_read(raw)
     return [bytes([frame.type]), frame.id, frame.index, frame.total, frame.data]
 
 
 def auth_write(pub, sig, digest, room):
-    """auth-write (01, "CBOR payloads")."""
+    """auth-write (D2.7)."""
     return [payloads.auth_write(payloads.Auth(pub, sig, digest), room)]
 
 
 def auth_signed(pub, digest, room):
-    """auth-signed: the values without `sig` (01, "CBOR payloads")."""
+    """auth-signed: the values without `sig` (D2.7)."""
     return [payloads.auth_signed(payloads.Auth(pub, b"", digest), room)]
 
 
 def shard_write(*values_and_room):
-    """shard-write (01, "CBOR payloads")."""
+    """shard-write (D2.8)."""
     *values, room = values_and_room
     return [payloads.shard_write(payloads.Shard(*values), room)]
 
 
 def shard_signed(pub, *values_and_room):
-    """shard-signed: the values without `sig` (01, "CBOR payloads")."""
+    """shard-signed: the values without `sig` (D2.8)."""
     *values, room = values_and_room
     return [payloads.shard_signed(payloads.Shard(pub, b"", *values), room)]
 
 
 def manifest_values(raw):
-    """manifest-read: SEED SEALED CREATED N, and four values for each file."""
+    """manifest-read: SEED SEALED CREATED N, and four values for each file (D2.9)."""
     manifest = manifest_read(raw)
     entries = [value for entry in manifest.files for value in entry]
     return [manifest.seed, int(manifest.sealed), shown_created(manifest.created),
@@ -206,13 +187,13 @@ ENTRY = (BYTES, BYTES, NUMBER, or_null(SIGNED))
 
 
 def parsed(argument_forms, arguments):
-    """Each argument by its form; their count must be right."""
+    """Each argument by its form; their count must be right (D1.5)."""
     demand(len(arguments) == len(argument_forms))
     return [form(argument) for form, argument in zip(argument_forms, arguments)]
 
 
 def manifest_write_parsed(arguments):
-    """SEED SEALED CREATED N (HASH PATH SIZE MTIME)xN ROOM."""
+    """SEED SEALED CREATED N (HASH PATH SIZE MTIME)xN ROOM (D2.10)."""
     demand(len(arguments) >= 5)
     seed = or_null(BYTES)(arguments[0])
     sealed = as_number(arguments[1], 1) == 1
@@ -225,7 +206,7 @@ def manifest_write_parsed(arguments):
 
 
 class Desk:
-    """One run of the desk with the verbs that it knows, and its registers."""
+    """One run of the desk with the verbs that it knows, and its four registers (D3.1)."""
 
     def __init__(self, verbs=ALL):
         self.verbs = frozenset(verbs)
@@ -241,7 +222,7 @@ class Desk:
         }
 
     def answer(self, line):
-        """The printed line for one line without its line feed, or None."""
+        """The printed line for a line without its line feed, or None (D1.2); else `?` (D1.5)."""
         if len(line) > LONGEST_LINE:
             return "?"
         if line == b"" or line.startswith(b"#"):
@@ -254,12 +235,12 @@ class Desk:
             return self.refused(refusal)
 
     def refused(self, refusal):
-        """The number, and the place for 15, 16 and 21."""
+        """The number, and the place for 15, 16 and 21 (D1.7)."""
         with_place = refusal.number in WITH_PLACE
         return f"{refusal.number} {refusal.place}" if with_place else f"{refusal.number}"
 
     def call(self, verb, *arguments):
-        """Make the call that the verb names."""
+        """Make the call that the verb names; one that is done prints 0 first (D1.7)."""
         verb = verb.decode("latin-1")
         demand(verb in self.verbs)
         if verb == "status":
@@ -274,49 +255,49 @@ class Desk:
         return function(*parsed(argument_forms, arguments))
 
     def load(self, register, data):
-        """Puts any bytes into a register; no call is made."""
+        """Puts any bytes into a register; no call is made (D3.2)."""
         self.registers[register] = data
         return []
 
     def save(self, register):
-        """What the register holds."""
+        """What the register holds (D3.2)."""
         return [self.registers[register]]
 
     def open(self, register, ident, room):
-        """A register of that many A5, which it stays where open refuses."""
+        """A register of that many A5, which it stays where open refuses (D3.3)."""
         self.registers[register] = b"\xa5" * room
         self.registers[register] = collection.open_collection(ident, room)
         return []
 
     def offer(self, register, frame):
-        """How the page of a raw frame then stands. A refusal changes nothing."""
+        """How the page of a raw frame then stands (D3.4). A refusal changes nothing."""
         result, kind = collection.offer(self.registers[register], frame)
         self.registers[register] = result
         return [kind]
 
     def join(self, register, other):
-        """The first is written; one register twice is joined with a copy of itself."""
+        """The first is written; one register twice is joined with a copy of itself (D3.5)."""
         self.registers[register] = collection.join(self.registers[register],
                                                    self.registers[other])
         return []
 
     def finish(self, register, room):
-        """The ciphertext of a whole document."""
+        """The ciphertext of a whole document (D3.6)."""
         return [collection.finish(self.registers[register], room)]
 
     def mend(self, register):
-        """How many page blocks became absent."""
+        """How many page blocks became absent (D3.6)."""
         result, count = collection.mend(self.registers[register])
         self.registers[register] = result
         return [count]
 
     def status(self, register):
-        """The status line alone."""
+        """The status line alone (D3.7)."""
         return collection.status(self.registers[register])
 
 
 def lines_of(text):
-    """The lines of an input; the last may lack its line feed."""
+    """The lines of an input; the last may lack its line feed (D1.1)."""
     lines = text.split(b"\n")
     return lines[:-1] if lines[-1] == b"" else lines
 

@@ -1,4 +1,4 @@
-"""Frames and printed pages (01, "Frames"; source 6)."""
+"""Frames and printed pages: sections 6 and 7 of docs/RULES.md."""
 
 from collections import namedtuple
 
@@ -9,15 +9,15 @@ from .forms import varint_write
 from .payloads import auth_read, shard_read
 from .sums import crc, doc_id
 
-MAIN, KEY, AUTH = 0x44, 0x4B, 0x41
-MOST_PAGES = 96
-MOST_DATA = 480
+MAIN, KEY, AUTH = 0x44, 0x4B, 0x41  # R6.2
+MOST_PAGES = 96  # R3.1
+MOST_DATA = 480  # R3.2
 
 Frame = namedtuple("Frame", "type id index total data")
 
 
 def frame_write(frame):
-    """The bytes of a frame, whatever its values: nothing is judged here."""
+    """The bytes of a frame (R6.1), whatever its values: nothing is judged here."""
     numbers = (frame.index, frame.total, len(frame.data))
     head = b"AP" + varint_write(1) + bytes([frame.type]) + frame.id
     body = head + b"".join(map(varint_write, numbers)) + frame.data
@@ -25,7 +25,7 @@ def frame_write(frame):
 
 
 def frame_read(raw):
-    """Fields left to right, then the sum (10), then 8, then 9."""
+    """The fields from the left (R6.4), then the sum, 10 (R6.5), then 8 and 9 (R6.6, R6.7)."""
     cursor = Cursor(raw)
     frame, check = frame_fields(cursor)
     refuse_if(check != crc(raw[:-4]), FRAME_CRC)
@@ -34,7 +34,10 @@ def frame_read(raw):
 
 
 def frame_fields(cursor):
-    """Magic 4, version 7 or 5, type 6, id, three varints 7, and 3 throughout."""
+    """Magic 4, version 7 or 5, type 6, id, three varints 7, and 3 throughout (R6.4).
+
+    What is left must be the data and the checksum, and nothing else (R6.5).
+    """
     refuse_if(cursor.take(2) != b"AP", MAGIC)
     refuse_if(cursor.varint() != 1, VERSION)
     kind = cursor.take(1)[0]
@@ -46,7 +49,7 @@ def frame_fields(cursor):
 
 
 def judge_numbers(frame):
-    """8 for INDEX and TOTAL, then 9 for what is above the house sizes."""
+    """8 for INDEX and TOTAL (R6.6), then 9 for what is above its size (R6.7)."""
     refuse_if(frame.total == 0, INDEX_TOTAL)
     refuse_if(frame.index >= frame.total, INDEX_TOTAL)
     refuse_if(frame.type in (KEY, AUTH) and frame.total != 1, INDEX_TOTAL)
@@ -55,7 +58,7 @@ def judge_numbers(frame):
 
 
 def page_write(ciphertext, size, number, room):
-    """One printed page: 19 where nothing can be printed so, then 9, 8 and 11."""
+    """One printed page (R7.2, R7.3): 19 where none can be printed so, then 9, 8, 11 (R7.4)."""
     refuse_if(not 1 <= size <= MOST_DATA or not ciphertext, OUT_OF_RANGE)
     total = (len(ciphertext) + size - 1) // size
     refuse_if(total > MOST_PAGES, TOO_LARGE)
@@ -65,7 +68,7 @@ def page_write(ciphertext, size, number, room):
 
 
 def single_write(kind, reader, ident, data, room):
-    """A frame 0 of 1: id 19, data 9, the payload reader's refusal, output 11."""
+    """A frame 0 of 1: id 19, data 9, the payload reader's refusal, output 11 (R7.5)."""
     refuse_if(len(ident) != 8, OUT_OF_RANGE)
     refuse_if(len(data) > MOST_DATA, TOO_LARGE)
     reader(data)
@@ -73,10 +76,10 @@ def single_write(kind, reader, ident, data, room):
 
 
 def key_write(ident, data, room):
-    """A key frame; its data is a shard payload."""
+    """A key frame; its data is a shard payload (R7.5)."""
     return single_write(KEY, shard_read, ident, data, room)
 
 
 def auth_frame_write(ident, data, room):
-    """An auth frame; its data is an auth payload."""
+    """An auth frame; its data is an auth payload (R7.5)."""
     return single_write(AUTH, auth_read, ident, data, room)

@@ -1,4 +1,4 @@
-"""Paths, file entries and the manifest (01, "CBOR payloads"; source 3, 4).
+"""Paths, file entries and the manifest: sections 12 and 13 of docs/RULES.md.
 
 A time of creation is ("i", number) or ("f", the eight bytes of a double).
 """
@@ -12,12 +12,12 @@ from .cbor import (ARRAY, DOUBLE, FALSE, NULL, TEXT, TRUE, Items, byte_string, h
                    text)
 from .payloads import encode
 
-MOST_BYTES = 16384
-MOST_FILES = 64
-MOST_PATH = 200
-MOST_SIZE = 2**32 - 1
-LOW, HIGH = -2**63, 2**63 - 1
-NO_NAMES = {b"", b".", b".."}
+MOST_BYTES = 16384  # R3.3
+MOST_FILES = 64  # R3.4
+MOST_PATH = 200  # R3.5
+MOST_SIZE = 2**32 - 1  # R3.6
+LOW, HIGH = -2**63, 2**63 - 1  # R13.6
+NO_NAMES = {b"", b".", b".."}  # R12.2
 
 File = namedtuple("File", "hash path size mtime")
 Manifest = namedtuple("Manifest", "seed files sealed created")
@@ -27,7 +27,7 @@ Manifest = namedtuple("Manifest", "seed files sealed created")
 
 
 def path_allowed(path):
-    """UTF-8 below U+0300 in 1 to 200 bytes, none 00; each part a name (02, Ticket 6)."""
+    """1 to 200 bytes (R3.5) of UTF-8 below U+0300 (R12.1), none 00 (R12.3), in names (R12.2)."""
     try:
         letters = path.decode("utf-8", errors="strict")
     except UnicodeDecodeError:
@@ -37,7 +37,7 @@ def path_allowed(path):
 
 
 def judge_path(path, before):
-    """20 for a path that may not be, and for one out of order."""
+    """20 for a path that may not be (R12.6), and for one out of order (R12.5)."""
     refuse_if(not path_allowed(path), BAD_PATH)
     refuse_if(before is not None and not before < path, BAD_PATH)
 
@@ -46,20 +46,20 @@ def judge_path(path, before):
 
 
 def file_pairs(entry):
-    """`hash`, `path`, `size`, `mtime`."""
+    """Four items (R13.5)."""
     mtime = bytes([NULL]) if entry.mtime is None else integer(entry.mtime)
     return [(b"hash", byte_string(entry.hash)), (b"path", text(entry.path)),
             (b"size", integer(entry.size)), (b"mtime", mtime)]
 
 
 def created_item(created):
-    """An integer, or FB with eight bytes."""
+    """An integer (R13.6), or FB with eight bytes (R10.8)."""
     kind, value = created
     return integer(value) if kind == "i" else bytes([DOUBLE]) + value
 
 
 def manifest_pairs(manifest):
-    """`seed`, `files`, `sealed`, `created`, `version`."""
+    """Five items (R13.1)."""
     seed = bytes([NULL]) if manifest.seed is None else byte_string(manifest.seed)
     entries = b"".join(encode(file_pairs(entry)) for entry in manifest.files)
     return [(b"seed", seed), (b"files", head(ARRAY, len(manifest.files)) + entries),
@@ -71,7 +71,7 @@ def manifest_pairs(manifest):
 
 
 def manifest_read(raw):
-    """Its size first; then each field. Only at `sealed` can seed and sealed disagree."""
+    """Its size first (R13.2), then the items (R13.1); seed and sealed agree at `sealed` (R13.3)."""
     refuse_if(len(raw) > MOST_BYTES, TOO_LARGE)
     items = Items(raw)
     items.byte(0xA5)
@@ -91,7 +91,7 @@ def manifest_read(raw):
 
 
 def seed_read(items):
-    """Null or 32 bytes."""
+    """Null or 32 bytes (R13.3)."""
     if items.peek() == NULL:
         items.take(1)
         return None
@@ -99,7 +99,7 @@ def seed_read(items):
 
 
 def files_read(items):
-    """A list of 1 to 64 entries, paths strictly ascending."""
+    """A list of 1 to 64 entries (R13.4), paths strictly ascending (R12.5)."""
     _, count = items.head(ARRAY)
     refuse_if(not 1 <= count <= MOST_FILES, OUT_OF_RANGE)
     files = []
@@ -110,7 +110,7 @@ def files_read(items):
 
 
 def file_read(items, before):
-    """One entry, head A4; `before` is the path before it."""
+    """One entry (R13.5); the length of a path is judged by its head (R12.6)."""
     items.byte(0xA4)
     items.key(b"hash")
     digest = items.exactly(32)
@@ -124,7 +124,7 @@ def file_read(items, before):
 
 
 def mtime_read(items):
-    """Null, or an integer from -2^63 to 2^63 - 1."""
+    """Null, or an integer in its range (R13.6)."""
     if items.peek() == NULL:
         items.take(1)
         return None
@@ -132,7 +132,7 @@ def mtime_read(items):
 
 
 def created_read(items):
-    """An integer from -2^63 to 2^63 - 1, or FB and a finite double."""
+    """An integer in its range (R13.6), or FB and a finite double (R10.8)."""
     if items.peek() != DOUBLE:
         return "i", items.integer(LOW, HIGH)
     items.take(1)
@@ -142,7 +142,7 @@ def created_read(items):
 
 
 def finite(double):
-    """Whether eight bytes are a finite double."""
+    """Whether eight bytes are a finite double (R10.8)."""
     return math.isfinite(struct.unpack(">d", double)[0])
 
 
@@ -150,7 +150,7 @@ def finite(double):
 
 
 def judge_manifest(manifest):
-    """The values in the map's order."""
+    """The values in the map's order (R10.7)."""
     refuse_if(manifest.seed is not None and len(manifest.seed) != 32, OUT_OF_RANGE)
     refuse_if(not 1 <= len(manifest.files) <= MOST_FILES, OUT_OF_RANGE)
     before = None
@@ -162,7 +162,7 @@ def judge_manifest(manifest):
 
 
 def judge_file(entry, before):
-    """One entry: hash 19, path 20, size 19, mtime 19."""
+    """One entry: hash 19, path 20, size 19, mtime 19 (R13.5)."""
     refuse_if(len(entry.hash) != 32, OUT_OF_RANGE)
     judge_path(entry.path, before)
     refuse_if(not 0 <= entry.size <= MOST_SIZE, OUT_OF_RANGE)
@@ -170,14 +170,14 @@ def judge_file(entry, before):
 
 
 def judge_created(created):
-    """An integer in range or a finite double, else 19."""
+    """An integer in range or a finite double, else 19 (R13.6)."""
     kind, value = created
     refuse_if(kind == "i" and not LOW <= value <= HIGH, OUT_OF_RANGE)
     refuse_if(kind == "f" and not finite(value), OUT_OF_RANGE)
 
 
 def manifest_write(manifest, room):
-    """The values, then 9 above 16,384 bytes, then 11."""
+    """The values, then 9 above 16,384 bytes, then 11 (R10.7). The files are not sorted (R13.4)."""
     judge_manifest(manifest)
     raw = encode(manifest_pairs(manifest))
     refuse_if(len(raw) > MOST_BYTES, TOO_LARGE)

@@ -1,22 +1,22 @@
-"""The small program (01, "What crosses the pier")."""
+"""The small program: section 15 of docs/RULES.md."""
 
 import re
 
 from . import collection, forms
 from .answers import OUT_OF_RANGE, Refusal
 
-LONGEST = 1024
+LONGEST = 1024  # R15.2
 ID = re.compile(rb"[0-9a-f]{16}")
 
 
 def lines_of(given):
-    """The lines of an input; the last may lack its line feed."""
+    """The lines of an input; the last may lack its line feed (R15.3)."""
     lines = given.split(b"\n")
     return lines[:-1] if lines[-1] == b"" else lines
 
 
 def scanned(saved, line):
-    """The collection after one line's scan: a bad scan, or too long a line, is passed over."""
+    """The collection after one line: a bad scan, or too long a line, is passed over (R15.2)."""
     if len(line) > LONGEST:
         return saved
     try:
@@ -26,7 +26,7 @@ def scanned(saved, line):
 
 
 def collected(given):
-    """The collection after an input, or None where the first line is no document id."""
+    """The collection after an input, or None where the first line is no document id (R15.1)."""
     first, *scans = lines_of(given) or [b""]
     if not ID.fullmatch(first):
         return None
@@ -37,7 +37,7 @@ def collected(given):
 
 
 def printed(given):
-    """What the program prints for an input."""
+    """What the program prints for an input (R15.1)."""
     saved = collected(given)
     text = f"refused {OUT_OF_RANGE}" if saved is None else collection.status(saved)
     return text.encode("ascii") + b"\n"

@@ -1,21 +1,21 @@
-"""The two programs at the ends of a crossing: `press` in the harbour and `pantry` on the island (issue 7; 01, "Frames", "The collection").
+"""The programs at the ends of a crossing: section 15 of docs/RULES.md.
 
-`press` prints a ciphertext as `pier` reads it, or as typed text. `pantry` reads what `pier` reads and gives the ciphertext back, or says
-why not; with the name of a file it keeps the collection there between runs.
+`press` prints a document in the harbour, and `pantry` on the island reads it back.
 """
 
 import re
 from itertools import chain
 
 from . import collection
-from .answers import INDEX_TOTAL, MISSING, NO_ROOM, OUT_OF_RANGE, TOTALS_DISAGREE, PAGE_DISPUTED, Refusal, refuse_if
+from .answers import (INDEX_TOTAL, MISSING, NO_ROOM, OUT_OF_RANGE, TOTALS_DISAGREE, PAGE_DISPUTED,
+                      Refusal, refuse_if)
 from .collection import Collection
 from .forms import base64_read, base64_write, zbase32_write
 from .frames import MAIN, MOST_DATA, MOST_PAGES, frame_read, page_write
 from .pier import ID, LONGEST, lines_of
 from .sums import doc_id
 
-MOST = MOST_PAGES * MOST_DATA
+MOST = MOST_PAGES * MOST_DATA  # R3.8
 FRAME_ROOM = 512
 DECIMAL = re.compile(r"[0-9]+")
 
@@ -29,7 +29,7 @@ def ended(lines):
 
 
 def press(ciphertext, arguments=()):
-    """What `press` prints."""
+    """What `press` prints, refusals too (R15.5)."""
     try:
         return ended(sheet(ciphertext, *arguments))
     except Refusal as refusal:
@@ -37,19 +37,20 @@ def press(ciphertext, arguments=()):
 
 
 def sheet(ciphertext, *arguments):
-    """The printed lines: the form that the arguments ask for, or 19 where they ask for none, then 01's own order."""
+    """The printed lines (R15.4): 19 for the arguments (R15.5) before what R7.4 refuses."""
     form, number = form_of(*arguments)
     pages = pages_of(ciphertext)
     if form == "scans":
         return [id_line(ciphertext), *map(base64_write, pages)]
     if number is None:
-        return [id_line(ciphertext), *chain.from_iterable(typed(pages, k) for k in range(len(pages)))]
+        lines = chain.from_iterable(typed(pages, k) for k in range(len(pages)))
+        return [id_line(ciphertext), *lines]
     refuse_if(number >= len(pages), INDEX_TOTAL)
     return typed(pages, number)
 
 
 def form_of(*arguments):
-    """The scans, all pages typed, or one page typed."""
+    """The scans, all pages typed, or one page typed; 19 for other words (R15.5)."""
     if not arguments:
         return "scans", None
     refuse_if(arguments[0] != "typed" or len(arguments) > 2, OUT_OF_RANGE)
@@ -60,7 +61,7 @@ def form_of(*arguments):
 
 
 def pages_of(ciphertext):
-    """The frames of a document, 480 bytes a page: 19 for no bytes, 9 for too many."""
+    """The frames of a document, 480 bytes a page (R15.4): 19 for no bytes, 9 for many (R7.4)."""
     page_write(ciphertext, MOST_DATA, 0, FRAME_ROOM)
     places = range(-(-len(ciphertext) // MOST_DATA))
     return [page_write(ciphertext, MOST_DATA, k, FRAME_ROOM) for k in places]
@@ -72,7 +73,7 @@ def id_line(ciphertext):
 
 
 def typed(pages, number):
-    """A page's place, counted from 0, and its text."""
+    """A page's place, counted from 0, and its text (R15.4)."""
     return [b"page %d of %d" % (number, len(pages)), zbase32_write(pages[number])]
 
 
@@ -82,7 +83,8 @@ def typed(pages, number):
 def pantry(given, names=(), kept=None, usable=True):
     """What `pantry` prints, and what the kept file then holds; None is a file that is not there.
 
-    The names are the arguments, `kept` what the file of that name holds. A file is not usable where the system lets nobody write it.
+    The names are the arguments, `kept` what the file of that name holds. A file is not usable, and
+    11, where the system lets nobody write it; a refusal leaves the file as it was (R15.7).
     """
     try:
         saved = gathered(given, names, kept)
@@ -93,7 +95,10 @@ def pantry(given, names=(), kept=None, usable=True):
 
 
 def gathered(given, names, kept):
-    """The collection after this run: 19 for more than one name or a bad first line, then join's 13 and 12 for what was kept."""
+    """The collection after this run, joined with what was kept (R15.7).
+
+    19 for more than one name or a bad first line (R15.6), then the join's 13 and 12.
+    """
     refuse_if(len(names) > 1, OUT_OF_RANGE)
     first, *scans = lines_of(given) or [b""]
     refuse_if(not ID.fullmatch(first), OUT_OF_RANGE)
@@ -102,13 +107,15 @@ def gathered(given, names, kept):
 
 
 def set_of_pages(ident, scans):
-    """The collection that a SET of good pages is: neither order nor repeats are looked at."""
-    pages = [page for page in map(scanned, scans) if page and page.type == MAIN and page.id == ident]
-    return Collection(ident, frozenset(p.total for p in pages), frozenset((p.index, p.data) for p in pages))
+    """The collection of a SET of good pages (R9.2): no look at order or repeats (R1.4)."""
+    frames = filter(None, map(scanned, scans))
+    pages = [page for page in frames if page.type == MAIN and page.id == ident]
+    totals = frozenset(page.total for page in pages)
+    return Collection(ident, totals, frozenset((page.index, page.data) for page in pages))
 
 
 def scanned(line):
-    """The frame of a scan; None for a bad scan or too long a line, which are passed over."""
+    """The frame of a scan; None for a bad scan or too long a line (R15.2)."""
     if len(line) > LONGEST:
         return None
     try:
@@ -118,7 +125,7 @@ def scanned(line):
 
 
 def shown(saved):
-    """The ciphertext, or the status line where pages lack or quarrel, or the refusal."""
+    """The ciphertext, or the status line where pages lack or quarrel, or the refusal (R15.6)."""
     try:
         return collection.finish(saved, MOST)
     except Refusal as refusal:
@@ -128,5 +135,5 @@ def shown(saved):
 
 
 def refused(refusal):
-    """`refused`, the number and the place."""
+    """`refused`, the number and the place (R15.6)."""
     return ended([b"refused %d %d" % (refusal.number, refusal.place)])

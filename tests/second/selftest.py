@@ -1,4 +1,4 @@
-"""This program held to the standards, to 01's examples, and to itself."""
+"""This program held to the standards, to the examples of the rules, and to itself (R18.7)."""
 
 import base64
 import hashlib
@@ -50,6 +50,7 @@ def says(line, answer, at=None):
 
 @check
 def base64_by_rfc_4648():
+    """R5.2, and R5.7 in the first pair."""
     for data, text in ((b"", b""), (b"f", b"Zg"), (b"fo", b"Zm8"), (b"foo", b"Zm9v"),
                        (b"foob", b"Zm9vYg"), (b"fooba", b"Zm9vYmE"), (b"foobar", b"Zm9vYmFy")):
         same(forms.base64_write(data), text)
@@ -58,6 +59,7 @@ def base64_by_rfc_4648():
 
 @check
 def crc_by_its_check_value_and_bit_by_bit():
+    """R6.3: the published value, and the register moved bit by bit."""
     same(sums.crc(b"123456789").hex(), "cbf43926")
     rng = random.Random(1)
     for length in range(100):
@@ -72,6 +74,7 @@ def crc_by_its_check_value_and_bit_by_bit():
 
 @check
 def digests_by_fips_180_4_and_rfc_7693():
+    """The published vectors, under R7.1 and R14.3."""
     for data, digest in digests.SHA256.items():
         same(sums.sha256(data).hex(), digest)
     for data, digest in digests.BLAKE2B.items():
@@ -93,6 +96,7 @@ def bits_read(text, alphabet, width):
 
 @check
 def texts_by_their_bits():
+    """R5.1 and R5.6, and texts that read back (R1.3)."""
     rng = random.Random(2)
     both = ((forms.base64_read, forms.base64_write, forms.BASE64, 6),
             (forms.zbase32_read, forms.zbase32_write, forms.ZBASE32, 5))
@@ -109,6 +113,7 @@ def texts_by_their_bits():
 
 @check
 def base64_module_is_not_trusted_with_faults():
+    """R5.6 and the padding of R5.2, both of which the module lets pass."""
     base64.b64decode(b"QVB=")  # lenient: leftover bits are not judged there
     same(answer_of(forms.base64_read, b"QVB"), (2, 0))
     same(answer_of(forms.base64_read, b"QVA="), (1, 0))
@@ -116,6 +121,7 @@ def base64_module_is_not_trusted_with_faults():
 
 @check
 def varints_by_definition():
+    """R4.1 and R4.2 of many numbers, with a byte behind each."""
     rng = random.Random(3)
     numbers = [*range(70000), *(rng.getrandbits(rng.randrange(65)) for _ in range(20000)),
                2**64 - 1, 2**63, 2**63 - 1]
@@ -127,17 +133,19 @@ def varints_by_definition():
 
 
 @check
-def varint_readings_one_and_two_of_the_design():
+def what_is_cut_short_and_what_is_too_long():
+    """R4.3, R4.4, and the same of a field that is not there whole (R6.4)."""
     same(answer_of(forms.varint_read, b"\xff" * 10), (7, 0))
     same(answer_of(forms.varint_read, b"\xff" * 9), (3, 0))
     same(answer_of(frames.frame_read, b"\x42"), (3, 0))
 
 
-# 01's examples.
+# The examples of the rules.
 
 
 @check
-def examples_of_01():
+def proved_examples():
+    """P1 to P12 (R17.1), and the lengths of texts (R17.2)."""
     says("varint-write 0 1", "0 00")
     says("varint-write 127 1", "0 7f")
     says("varint-write 128 2", "0 8001")
@@ -154,7 +162,8 @@ def examples_of_01():
 
 
 @check
-def run_examples_of_01():
+def run_examples():
+    """The others of R17.2; 224 and 240 bytes are on each side of R3.7."""
     rng = random.Random(4)
     auth = samples.auth_values(rng)
     same(len(payloads.auth_write(auth, 157)), 157)
@@ -175,6 +184,7 @@ def run_examples_of_01():
 
 @check
 def round_trips_of_payloads():
+    """R1.3: what is written reads back."""
     rng = random.Random(5)
     for _ in range(300):
         auth, shard = samples.auth_values(rng), samples.shard_values(rng)
@@ -186,6 +196,7 @@ def round_trips_of_payloads():
 
 @check
 def round_trips_of_frames_and_envelopes():
+    """R1.3, and the parts of R7.2 under the frames of R7.3."""
     rng = random.Random(6)
     for _ in range(300):
         size, pages = rng.randrange(1, 481), rng.randrange(1, 97)
@@ -202,7 +213,7 @@ def round_trips_of_frames_and_envelopes():
 
 @check
 def what_is_read_is_what_is_written():
-    """Damaged payloads that are still accepted are written back byte for byte."""
+    """Damaged payloads that are still accepted are written back byte for byte (R1.3)."""
     rng = random.Random(7)
     kept = 0
     for _ in range(20000):
@@ -216,7 +227,7 @@ def what_is_read_is_what_is_written():
 
 @check
 def writers_judge_as_readers_do():
-    """The values laid out without judging and read: the same first refusal."""
+    """The values laid out without judging and read: the same first refusal (R10.7)."""
     rng = random.Random(8)
     for _ in range(4000):
         shard = cases.paying.some_other(rng, samples.shard_values(rng))
@@ -230,6 +241,7 @@ def writers_judge_as_readers_do():
 
 @check
 def bounds_of_manifests():
+    """Values on each side of every bound of a manifest, read and written."""
     rng = random.Random(13)
     plain = samples.manifest_values(rng)
     entry = plain.files[0]
@@ -241,26 +253,27 @@ def bounds_of_manifests():
         same(len(numbers), 1)
         return numbers.pop()
 
-    for length, number in ((0, 20), (1, 0), (200, 0), (201, 20)):
+    for length, number in ((0, 20), (1, 0), (200, 0), (201, 20)):  # R3.5
         same(judged(plain._replace(files=(entry._replace(path=b"p" * length),))), number)
-    for path, number in ((b"lists/../../pier", 20), (b"..", 20), (b"a/.", 20), (b"a/", 20), (b"/a", 20),
-                         (b"a//a", 20), (b"a\0", 20), (b"..a", 0), (b"a..", 0), (b"...", 0), (b".a", 0)):
+    for path, number in ((b"lists/../../pier", 20), (b"..", 20), (b"a/.", 20), (b"a/", 20),
+                         (b"/a", 20), (b"a//a", 20), (b"a\0", 20), (b"..a", 0), (b"a..", 0),
+                         (b"...", 0), (b".a", 0)):  # R12.2, R12.3
         same(judged(plain._replace(files=(entry._replace(path=path),))), number)
-    for count, number in ((0, 19), (1, 0), (64, 0), (65, 19)):
+    for count, number in ((0, 19), (1, 0), (64, 0), (65, 19)):  # R3.4
         files = tuple(entry._replace(path=b"%02d" % i) for i in range(count))
         same(judged(plain._replace(files=files)), number)
-    for value, number in ((-2**63 - 1, 19), (-2**63, 0), (2**63 - 1, 0), (2**63, 19)):
+    for value, number in ((-2**63 - 1, 19), (-2**63, 0), (2**63 - 1, 0), (2**63, 19)):  # R13.6
         same(judged(plain._replace(created=("i", value))), number)
         same(judged(plain._replace(files=(entry._replace(mtime=value),))), number)
-    for size, number in ((-1, 19), (0, 0), (2**32 - 1, 0), (2**32, 19)):
+    for size, number in ((-1, 19), (0, 0), (2**32 - 1, 0), (2**32, 19)):  # R3.6
         same(judged(plain._replace(files=(entry._replace(size=size),))), number)
-    for target, number in ((16383, 0), (16384, 0), (16385, 9)):
+    for target, number in ((16383, 0), (16384, 0), (16385, 9)):  # R3.3
         same(judged(plain._replace(files=samples.sized_files(target, plain))), number)
 
 
 @check
 def paths_stay_where_a_system_puts_them():
-    """Of slashes, dots and letters those are allowed that a system's own reading below a folder leaves as they stand."""
+    """R12.4: of slashes, dots and letters those are allowed that a system leaves as they stand."""
     for length in range(9):
         for path in map(bytes, product(b"/.a", repeat=length)):
             below = b"/folder/" + path
@@ -269,6 +282,7 @@ def paths_stay_where_a_system_puts_them():
 
 @check
 def bounds_of_shards():
+    """Values on each side of every bound of a shard (R11.5, R11.6), read and written."""
     rng = random.Random(14)
     plain = samples.shard_values(rng)
 
@@ -292,7 +306,9 @@ def bounds_of_shards():
 
 @check
 def no_shard_overflows():
-    """02, Ticket 11: of all lengths of what is shared, both types and numbers on each side of a longer head, the longest payload has 456 bytes."""
+    """R11.9: of all lengths of what is shared, both types, and numbers on each side of a longer
+    head, the longest payload has 456 bytes.
+    """
     rng = random.Random(15)
     plain = samples.shard_values(rng)
     sizes = set()
@@ -310,7 +326,7 @@ def no_shard_overflows():
 
 
 class StepByStep:
-    """01's sentences about offers taken one by one, as a second opinion."""
+    """R9.4 taken offer by offer, as a second opinion on the sets."""
 
     def __init__(self):
         self.total, self.disagree, self.pages, self.disputed = None, False, {}, set()
@@ -337,6 +353,7 @@ class StepByStep:
 
 @check
 def sets_agree_with_steps():
+    """R9.4, R9.5 and the status line, and then R1.4 and R1.5 of the same pages."""
     rng = random.Random(9)
     for _ in range(120):
         raw, steps = collection.open_collection(collecting.ID, collection.SIZE), StepByStep()
@@ -352,7 +369,7 @@ def sets_agree_with_steps():
 
 
 def any_order(rng, raw, seen):
-    """The same pages in another order, in two collections that are then joined."""
+    """The same pages in another order (R1.4), in two collections that are then joined (R1.5)."""
     parts = [collection.open_collection(collecting.ID, collection.SIZE) for _ in range(2)]
     for page in rng.sample(seen, len(seen)) + seen[:2]:
         which = rng.randrange(2)
@@ -364,6 +381,7 @@ def any_order(rng, raw, seen):
 
 @check
 def well_formed_is_what_save_writes():
+    """R8.7: what is accepted is what is saved, and no changed byte is accepted."""
     rng = random.Random(10)
     accepted = refused = 0
     for raw in collecting.damaged_files(rng):
@@ -380,6 +398,7 @@ def well_formed_is_what_save_writes():
 
 @check
 def files_of_other_sizes_or_heads():
+    """R8.1, and the states and totals of R8.3; mend refuses the same (R9.11)."""
     bare = collecting.bare_file()
     for raw in (b"", bare[:-1], bare + b"\0", bare[:-512], bare + bare[-512:]):
         same(answer_of(collection.read, raw), (13, 0))
@@ -394,6 +413,7 @@ def files_of_other_sizes_or_heads():
 
 @check
 def pages_at_the_total_are_absent():
+    """R8.6, and the first page at the total as mend finds it (R9.11)."""
     held = collection.page_block(collecting.ID, 1, 1, b"")
     for total, number in ((1, 13), (2, 0)):
         head = collection.head_block(collection.Head(1, collecting.ID, total))
@@ -404,7 +424,7 @@ def pages_at_the_total_are_absent():
 
 @check
 def lenient_files_are_told_apart():
-    """A file is well formed exactly where reading it leniently and saving it gives it back."""
+    """R8.7: well formed is exactly what is read leniently and saved as it was."""
     rng = random.Random(11)
     for raw in collecting.damaged_files(rng):
         accepted = answer_of(collection.read, raw)[0] == 0
@@ -428,6 +448,7 @@ def leniently_saved(raw):
 
 @check
 def errors_that_come_easily():
+    """Repeats, strangers and a dispute (R9.3, R9.4, R9.5), and the status line (R9.12)."""
     at = desk.Desk()
     pages = [collecting.page(i, 2, b"").hex() for i in range(2)]
     says(f"open a {collecting.ID.hex()} 49664", "0", at)
@@ -443,8 +464,10 @@ def errors_that_come_easily():
 
 # The generators, the stored run and the comparison.
 
+
 @check
 def generators_reach_every_answer_and_no_other():
+    """R2.2: each verb gives each of its numbers, and no other."""
     reached = defaultdict(set)
     for lines in compare.chunks(cases.stream(12, 0, ALL)):
         for line, answer in compare.expected(lines, ALL):
@@ -474,6 +497,7 @@ def no_line_feed_inside_a_line():
 
 @check
 def stored_run_is_of_modest_size():
+    """The stored run has hundreds of calls, and lines on both sides of the longest (D1.5)."""
     for verbs in (LANDED, ALL):
         given, printed = build(verbs)
         same(desk.answers(given, verbs), printed)
@@ -482,7 +506,8 @@ def stored_run_is_of_modest_size():
 
 
 @check
-def lines_are_parted_as_calls_md_says():
+def lines_are_parted():
+    """D1.1, D1.2."""
     for text, lines in ((b"", []), (b"\n", [b""]), (b"a", [b"a"]), (b"a\n", [b"a"]),
                         (b"a\n\n", [b"a", b""]), (b"a\nb", [b"a", b"b"])):
         same(desk.lines_of(text), lines)
@@ -533,6 +558,7 @@ def fake_desk(folder, name):
 
 @check
 def comparison_can_fail():
+    """A desk that is wrong in one thing is found out, ` spilled` among them (R1.2, D1.6, D3.8)."""
     with tempfile.TemporaryDirectory() as folder:
         for name in FAKES:
             told = []
@@ -543,7 +569,8 @@ def comparison_can_fail():
 @check
 def comparison_needs_every_answer():
     same(sorted(GIVES), sorted(LANDED))
-    same(list(compare.lacking({("varint-write", "0"): 1, ("varint-write", "3"): 1, ("varint-write", "?"): 1}, ["varint-write"])),
+    counts = {("varint-write", kind): 1 for kind in ("0", "3", "?")}
+    same(list(compare.lacking(counts, ["varint-write"])),
          ["varint-write never answered 11", "varint-write answered 3, which it cannot"])
 
 

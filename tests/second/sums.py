@@ -1,11 +1,11 @@
-"""Check sums and digests (01, "Frames", "The collection", "CBOR payloads")."""
+"""Checksums and digests."""
 
 import hashlib
 import zlib
 
 
 def crc(data):
-    """CRC-32/ISO-HDLC as four bytes, big-endian (01, "Frames")."""
+    """CRC-32/ISO-HDLC as four bytes, big-endian (R6.3)."""
     return zlib.crc32(data).to_bytes(4, "big")
 
 
@@ -20,5 +20,5 @@ def blake2b(data):
 
 
 def doc_id(ciphertext):
-    """The document id: the first 8 bytes of BLAKE2b (01, "Frames"; source 7)."""
+    """The document id: the first 8 bytes of BLAKE2b (R7.1)."""
     return blake2b(ciphertext)[:8]

@@ -1,4 +1,4 @@
-"""Which verbs of CALLS.md the desk knows today.
+"""Which verbs of docs/DESK.md the desk knows.
 
 When verbs land, move them from LATER to LANDED, then run
 `tests/second_program make`. A verb that has not landed prints `?`.
@@ -17,8 +17,8 @@ LATER = []
 
 ALL = LANDED + LATER
 
-# The answers that each verb can give, by documents 01 and 02: a comparison must see each of them, and no other. The writers of an auth and of a
-# shard payload have no 9: what they write always fits a page (02, Ticket 11). Key and auth frames have it, for whatever bytes they are given.
+# The answers that each verb can give by the rules: a comparison must see each, and no other.
+# Writers of auth and shard payloads have no 9 (R11.9); key and auth frames do, for any data (R7.5).
 GIVES = {
     "varint-read": (0, 3, 7),
     "varint-write": (0, 11),

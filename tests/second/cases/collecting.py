@@ -1,4 +1,4 @@
-"""Sessions over the registers (01, "The collection").
+"""Sessions over the registers: section 3 of docs/DESK.md, section 9 of docs/RULES.md.
 
 A session keeps a desk of its own, so that a later line can use what a
 register then holds. Most lines are short: a whole collection is spelled out
@@ -75,7 +75,7 @@ def set_up(session, register, name):
 
 
 def join_sessions():
-    """Every condition joined with every other, and with itself."""
+    """Every condition joined with every other (R9.6, R9.7, R9.8), and with itself (D3.5)."""
     names = [*CONDITIONS, *OUT_OF_SHAPE, "other document"]
     for one, two in product(names, repeat=2):
         session = Session()
@@ -93,7 +93,7 @@ def join_sessions():
 
 
 def order_sessions():
-    """The same pages in every order, with repeats: the saved bytes are the same."""
+    """The same pages in every order, with repeats: the saved bytes are the same (R1.4)."""
     sets = [HELD, [HELD[0], page(0, 3, b"ZERO"), HELD[2]], [HELD[0], HELD[1], page(2, 4, b"two")]]
     for pages in sets:
         for order in permutations([*pages, pages[0]]):
@@ -105,7 +105,7 @@ def order_sessions():
 
 
 def open_sessions():
-    """Ids and rooms at and around what is right; a refusal leaves A5."""
+    """Ids and rooms at and around what is right (R9.1); a refusal leaves A5 (R1.2, D3.3)."""
     for ident in (b"", ID[:7], ID, ID + b"\0", bytes(32)):
         for room in (0, 1, 8, 511, 512, SIZE - 1, SIZE, SIZE + 1, MOST_ROOM):
             session = Session()
@@ -118,7 +118,7 @@ def open_sessions():
 
 
 def offer_sessions(rng):
-    """Frames that the reader refuses or takes, each into a fresh collection."""
+    """Frames that are refused (R9.3) or taken (R9.2), each offered to a fresh collection (D3.4)."""
     frames = [*field_frames(), *order_frames(rng), laid_out(ident=STRANGE),
               page(0, 1, auth_payload(rng), kind=AUTH), page(0, 1, shard_payload(rng), kind=KEY),
               page(95, 96, b"x" * 480), page(96, 97, b"x"), page(0, 97, b"x"), b"", b"A"]
@@ -130,7 +130,7 @@ def offer_sessions(rng):
 
 
 def refused_sessions():
-    """13 comes before all else, for registers of every wrong size."""
+    """13 comes before all else, for registers of every wrong size (R8.1, R8.7)."""
     for length in (0, 1, 12, 508, 511, 512, 1024, SIZE - 512, SIZE - 1, SIZE, SIZE + 1, MOST_ROOM,
                    MOST_ROOM + 1):
         session = Session()
@@ -144,7 +144,7 @@ def refused_sessions():
 
 
 def documents(rng):
-    """Ciphertexts with their pages: lengths of pages at every bound."""
+    """Ciphertexts with their pages: lengths at every bound, pages of no bytes too (R9.9)."""
     shapes = [[0], [1], [480], [0, 0], [5, 0, 7], [480] * 3 + [1], [1] * 96, [480] * 96, [0] * 96]
     for shape in shapes:
         parts = [rng.randbytes(length) for length in shape]
@@ -152,7 +152,7 @@ def documents(rng):
 
 
 def finish_sessions(rng):
-    """Whole documents under their id and under another; every room; one page lacking."""
+    """Documents under their id and under another (R1.6); every room; one page lacking (R9.10)."""
     for ciphertext, parts in documents(rng):
         for ident in (doc_id(ciphertext), STRANGE):
             raws = [page(i, len(parts), data, ident) for i, data in enumerate(parts)]
@@ -168,7 +168,7 @@ def finish_sessions(rng):
 
 
 def place_sessions(rng):
-    """15 before 16, and the lowest place of each."""
+    """15 before 16 (R9.10), and the lowest place of each (R2.3)."""
     for disputed, missing in product(((), (0,), (2, 4), (95,)), ((), (0,), (1, 3), (95,))):
         session = Session()
         session.say("open", "a", ID, SIZE)
@@ -204,7 +204,7 @@ def block_of(raw, number):
 
 
 def damage_of(raw, number, offsets):
-    """One byte of a block changed, with and without a right CRC."""
+    """One byte of a block changed, with and without a right checksum (R8.2)."""
     block = block_of(raw, number)
     for at in offsets:
         for flip in (1, 0x80):
@@ -215,7 +215,7 @@ def damage_of(raw, number, offsets):
 
 
 def head_files(raw):
-    """Heads of every state and total, and every region of the head damaged."""
+    """Heads of every state and total, and every region of the head damaged (R8.3)."""
     head = block_of(raw, 0)
     for state, total in product((0, 1, 2, 3, 255), (0, 1, 4, 5, 6, 96, 97, 255)):
         bad = head[:3] + bytes([state]) + head[4:12] + bytes([total]) + head[13:508]
@@ -224,14 +224,14 @@ def head_files(raw):
 
 
 def page_files(raw):
-    """Every region of pages in every condition, below the total and beyond it."""
+    """Every region of pages in every condition (R8.4), below the total and beyond it (R8.6)."""
     for number in (1, 2, 3, 4, 5, 6, 96):
         yield from damage_of(raw, number, (0, 1, 2, 3, 4, 11, 12, 13, 14, 18, 19, 493, 494, 507,
                                            508, 511))
 
 
 def state_files(raw):
-    """Page blocks of every state and length under a right CRC."""
+    """Page blocks of every state and length under a right checksum (R8.4, R8.5)."""
     for number, state in product((3, 6), (0, 1, 2, 3, 255)):
         for length in (0, 1, 479, 480, 481, 65535):
             for data in (bytes(480), b"\x01" + bytes(479), bytes(479) + b"\x01"):
@@ -270,7 +270,7 @@ def damaged_files(rng):
 
 
 def resized_files():
-    """Good blocks, but too few, too many, or cut."""
+    """Good blocks, but too few, too many, or cut (R8.1)."""
     for raw in (sample_file(), bare_file()):
         yield from (raw[:-1], raw + b"\0", raw[:-512], raw + raw[-512:], raw[:512], raw[512:])
 
@@ -289,7 +289,7 @@ def resized_sessions():
 
 
 def file_sessions(rng):
-    """Each file loaded and looked at, offered to, mended, looked at again and saved."""
+    """Each file loaded (D3.2) and looked at, offered to, mended (R9.11), looked at and saved."""
     for raw in damaged_files(rng):
         session = Session()
         session.say("load", "a", raw)
@@ -306,7 +306,7 @@ def file_sessions(rng):
 
 
 def emptied_sessions(rng):
-    """State 1 with no page held, which only mend can leave."""
+    """State 1 with no page held, which only mend can leave (R8.8)."""
     raw = sample_file()
     for number in (1, 2, 4, 5):
         raw = with_byte(raw, 512 * number + 511, raw[512 * number + 511] ^ 1)
@@ -339,7 +339,7 @@ def edges(rng):
 
 
 class Crossing(Session):
-    """Pages of one document scanned at several piers, among much else."""
+    """Pages of one document scanned at several piers, among much else (R1.4, R1.5, R1.6)."""
 
     def __init__(self, rng):
         super().__init__()

@@ -36,7 +36,7 @@ def single(lines):
 
 
 def rooms(exact):
-    """Outputs one byte too short, exact, one more, none at all, and the most."""
+    """Outputs one byte too short, exact, one more, none at all, and the most (R2.4, D1.6)."""
     wanted = (exact - 1, exact, exact + 1, 0, MOST_ROOM)
     return sorted({room for room in wanted if 0 <= room <= MOST_ROOM})
 

@@ -6,7 +6,7 @@ LONGER = [511, 512, 513, 1000, 1023, 1024, 1025, 4095, 4096, 4097, 65535, 65536,
 
 
 def edges_of(verb):
-    """Every length to 300, the longer ones, and plain patterns at block edges."""
+    """Every length to 300, the longer ones, and plain patterns at block edges (D2.3)."""
     def edges(rng):
         for length in [*range(301), *LONGER]:
             yield [line(verb, rng.randbytes(length))]

@@ -1,4 +1,4 @@
-"""Calls of the frame verbs (01, "Frames")."""
+"""Calls of the frame verbs: sections 6 and 7 of docs/RULES.md."""
 
 from ..forms import varint_write
 from ..frames import AUTH, KEY, MAIN, Frame, frame_write
@@ -31,7 +31,7 @@ def laid_out(magic=b"AP", version=b"\x01", kind=b"\x44", ident=ID, index=b"\x00"
 
 
 def field_frames():
-    """One field at a time: every type, magics, versions and varints."""
+    """One field at a time: every type (R6.2), magics, versions and varints (R6.4)."""
     yield from (laid_out(kind=bytes([kind])) for kind in range(256))
     yield from (laid_out(magic=m) for m in (b"AQ", b"BP", b"PA", b"AY", b"\0\0", b"ap"))
     yield from (laid_out(version=varint_write(n)) for n in NUMBERS)
@@ -42,7 +42,7 @@ def field_frames():
 
 
 def number_frames():
-    """INDEX and TOTAL at their bounds, for each type."""
+    """INDEX and TOTAL at their bounds, for each type (R6.6, R3.1)."""
     for index in NUMBERS:
         for total in NUMBERS:
             for kind in (MAIN, KEY, AUTH):
@@ -50,7 +50,7 @@ def number_frames():
 
 
 def length_frames(rng):
-    """Data of each length at a bound, and DATA_LEN that does not fit it."""
+    """Data of each length at a bound (R3.2), and DATA_LEN that does not fit it (R6.5)."""
     for length in (0, 1, 2, 127, 128, 129, 479, 480, 481, 482, 1000, 16383, 16384, 60000):
         data = rng.randbytes(length)
         yield laid_out(data=data)
@@ -62,7 +62,7 @@ def length_frames(rng):
 
 
 def order_frames(rng):
-    """Faults together: 3 before 10, 10 before 8, 8 before 9."""
+    """Faults together: 3 before 10 (R6.5), 10 before 8 (R6.6), 8 before 9 (R6.7)."""
     for index, total in ((0, 1), (1, 1), (0, 0), (0, 97), (96, 97), (97, 97)):
         for length in (0, 480, 481):
             for kind in (MAIN, KEY):
@@ -84,7 +84,7 @@ def sample_frames(rng):
 
 
 def damage_frames(rng):
-    """Every truncation; every byte, with and without a right CRC; bytes behind."""
+    """Every truncation; every byte, with and without a right checksum (R6.3); bytes behind."""
     for raw in sample_frames(rng):
         yield raw
         yield from truncations(raw)
@@ -135,7 +135,7 @@ def page_line(ciphertext, size, number, room):
 
 
 def page_shapes():
-    """Ciphertext lengths against page sizes: full, not full, at and past 96 pages."""
+    """Ciphertext lengths against page sizes (R7.2): full, not full, at and past 96 pages."""
     for size in (1, 2, 3, 127, 128, 479, 480):
         for length in (1, size - 1, size, size + 1, 2 * size, 2 * size + 1, 95 * size + 1,
                        96 * size - 1, 96 * size, 96 * size + 1):
@@ -144,7 +144,7 @@ def page_shapes():
 
 
 def page_edges(rng):
-    """Sizes, numbers and rooms at their bounds, and the order 19, 9, 8, 11."""
+    """Sizes, numbers and rooms at their bounds, and the order 19, 9, 8, 11 (R7.4)."""
     for length, size, total in page_shapes():
         data = rng.randbytes(length)
         for number in sorted({0, 1, max(0, total - 2), total - 1, total, total + 1}):
@@ -171,7 +171,7 @@ def page_chance(rng):
 
 
 def single_lines(verb, good):
-    """Id, size, the reader's refusal, room: each alone and with those behind it."""
+    """Id, size, the reader's refusal, room: each alone and with those behind it (R7.5)."""
     exact = 14 + len(varint_write(len(good))) + len(good) + 4
     yield from ([line(verb, ID, good, room)] for room in rooms(exact))
     bad = [b"", good[:-1], good + b"\0", b"\xa3" + good[1:], b"x" * 480, b"x" * 481,

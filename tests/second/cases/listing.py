@@ -1,4 +1,4 @@
-"""Calls of the manifest and envelope verbs (01, "CBOR payloads")."""
+"""Calls of the manifest and envelope verbs: sections 12, 13 and 14 of docs/RULES.md."""
 
 from itertools import chain, product
 
@@ -43,7 +43,7 @@ def plain(rng):
 
 
 def paths(rng):
-    """Paths on both sides of each rule."""
+    """Paths on both sides of the rules for bytes: UTF-8 and U+0300 (R12.1), 00 (R12.3)."""
     yield from (bytes([byte]) for byte in range(256))
     yield from (b"a" + bytes([byte]) for byte in range(128, 256))
     for lead in range(0xC0, 0xE0):
@@ -53,7 +53,7 @@ def paths(rng):
     yield from (b"\xe0\x80\x80", b"\xed\xa0\x80", b"\xf4\x90\x80\x80", b"\xf8\x88\x80\x80\x80",
                 b"a\xcb", b"\xcb\xbf/", b"/a", b"//", b"a/", b"a//b", b"../a", b".", b"a\0b",
                 b"\xc3\xa9/", b"")
-    for length in (23, 24, 25, 198, 199, 200, 201, 202, 255, 256, 257, 1000):
+    for length in (23, 24, 25, 198, 199, 200, 201, 202, 255, 256, 257, 1000):  # R3.5
         yield b"p" * length
         yield b"p" * (length - 1) + b"\xff"
         yield b"p" * (length - 2) + "\u00e9".encode("utf-8")
@@ -61,21 +61,23 @@ def paths(rng):
 
 
 def parted_paths():
-    """Paths by their parts: a part that is no name in every place, and names that look like one."""
+    """Paths by their parts: one that is no name in every place, and names that look so (R12.2)."""
     yield from (bytes(path) for n in range(7) for path in product(b"/.a", repeat=n))
-    names = [b"a", b"..a", b"a..", b"...", b".a", b"\xc3\xa9", b"\xcb\xbf", b"\xc3\xa9.", b".\xc3\xa9"]
+    names = [b"a", b"..a", b"a..", b"...", b".a", b"\xc3\xa9", b"\xcb\xbf", b"\xc3\xa9.",
+             b".\xc3\xa9"]
     bad = [b"", b".", b"..", b"\0", b"a\0", b"\0a", b"\xc3", b"\xa9", b"\xcc\x80"]
     for part, name in product(bad + names, names):
         for parts in ((part,), (part, name), (name, part, name), (name, part),
                       (name, name, part, part), (part, name, part)):
             yield b"/".join(parts)
+    # a bad part at the end of a path of 200 bytes, the longest that R3.5 allows
     for length, end in product((199, 200, 201), [b"/" + part for part in bad + names] + [b"\0"]):
         yield b"p" * (length - len(end)) + end
         yield end[1:] + b"/" + b"p" * (length - len(end))
 
 
 def path_lines(rng):
-    """Each path alone; pairs and triples in and out of order."""
+    """Each path alone (R12.6); pairs and triples in and out of order (R12.5)."""
     good = plain(rng)
     for path in chain(paths(rng), parted_paths()):
         yield from both(good._replace(files=(File(bytes(32), path, 0, None),)))
@@ -88,7 +90,7 @@ def path_lines(rng):
 
 
 def count_lines(rng):
-    """Lists of 0 to 66 entries, and one name less than counted."""
+    """Lists of 0 to 66 entries (R3.4), of which the desk takes 0 to 65 (D2.10)."""
     good = plain(rng)
     for count in (0, 1, 2, 23, 24, 25, 63, 64, 65, 66, 255, 256):
         files = tuple(File(bytes(32), b"%05d" % i, 0, None) for i in range(count))
@@ -100,7 +102,7 @@ def count_lines(rng):
 
 
 def list_heads(rng):
-    """The head of the list with every number and every width."""
+    """The head of the list with every number and every width (R10.1, R13.4)."""
     items = split(manifest_payload(plain(rng)))
     place = next(i for i, (head, _) in enumerate(items) if head[0] >> 5 == ARRAY)
     for number in [*INTEGERS, 63, 64, 65]:
@@ -110,7 +112,7 @@ def list_heads(rng):
 
 
 def number_lines(rng):
-    """Sizes, times of change and of creation at each bound and one past."""
+    """Sizes (R3.6), times (R13.6) and doubles (R10.8) at each bound and one past."""
     good = plain(rng)
     entry = good.files[0]
     for size in INTEGERS:
@@ -133,7 +135,7 @@ def number_lines(rng):
 
 
 def seal_lines(rng):
-    """Seeds of each length against both seals, with other faults behind them."""
+    """Seeds of each length against both seals (R13.3), with other faults behind them."""
     good = plain(rng)
     faults = (good, good._replace(files=()), good._replace(created=("f", b"\x7f\xf0" + bytes(6))))
     seeds = (None, b"", bytes(31), bytes(32), bytes(33), bytes(64))
@@ -144,7 +146,7 @@ def seal_lines(rng):
 
 
 def order_lines(rng):
-    """Two faults in one list: the first from the left decides."""
+    """Two faults in one list: the first from the left decides (R10.2, R10.7)."""
     good = plain(rng)
     entry = good.files[0]
     faults = (entry, entry._replace(hash=bytes(31)), entry._replace(path=b"/"),
@@ -157,7 +159,7 @@ def order_lines(rng):
 
 
 def size_lines(rng):
-    """Manifests around 16,384 bytes, good and bad, and every room."""
+    """Manifests around 16,384 bytes (R3.3), good and bad (R13.2), and every room."""
     for target in (16382, 16383, 16384, 16385, 16386):
         good = manifest_values(rng)
         good = good._replace(files=sized_files(target, good))
@@ -231,7 +233,7 @@ def some_envelope(rng, most=4):
 
 
 def envelope_fields(rng):
-    """Each field of an envelope at and past its bounds."""
+    """Each field of an envelope at and past its bounds (R14.1)."""
     manifest, payload = some_envelope(rng)
     raw = manifest_payload(manifest)
     sizes = varint_write(len(raw)), varint_write(len(payload))
@@ -248,7 +250,7 @@ def envelope_fields(rng):
 
 
 def envelope_damage(rng):
-    """Every truncation, every byte changed, and bytes behind."""
+    """Every truncation, every byte changed, and bytes behind (R14.2)."""
     manifest, payload = some_envelope(rng, 2)
     raw = envelope_bytes(manifest_payload(manifest), payload)
     yield raw
@@ -258,7 +260,7 @@ def envelope_damage(rng):
 
 
 def mismatches(rng):
-    """Manifest and payload that do not go together: the sum, then each digest."""
+    """Manifest and payload that do not go together: the sum, then each digest (R14.3)."""
     contents = [b"", b"one", b"", b"three", rng.randbytes(129), b""]
     manifest = manifest_values(rng, some_files(rng, contents))
     payload = b"".join(contents)
@@ -277,7 +279,7 @@ def mismatches(rng):
 
 
 def faulty(rng):
-    """Manifests with a fault of their own, with a right payload and with a wrong one."""
+    """Manifests with a fault of their own, with a right payload and with a wrong one (R14.3)."""
     manifest, payload = some_envelope(rng, 1)
     entry = manifest.files[0]
     faults = [manifest._replace(sealed=not manifest.sealed), manifest._replace(files=()),
@@ -303,7 +305,7 @@ def large_envelopes(rng):
 
 
 def envelope_pair_lines(raw, payload):
-    """One manifest with a payload, read and written."""
+    """One manifest with a payload, read and written (R14.4)."""
     whole = envelope_bytes(raw, payload)
     yield line("envelope-read", whole)
     for room in rooms(len(whole)):

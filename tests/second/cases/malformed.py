@@ -1,11 +1,11 @@
-"""Lines that are not of a verb's form, and lines that only look so (CALLS.md, "Lines")."""
+"""Lines that are not of a verb's form, and lines that only look so: section 1 of docs/DESK.md."""
 
 from .common import single
 
 LONGEST = 262144
 
 # What stands in the place of an argument: some of it is good where a number
-# is asked for, some where bytes are, some nowhere.
+# is asked for (D1.4), some where bytes are (D1.3), some nowhere.
 TOKENS = [
     b"", b"-", b"--", b"0", b"1", b"-1", b"-0", b"+1", b"00", b"07", b"1.0", b"1e3", b"0x10",
     b"1_0", b"12a", b"ab", b"aB", b"AB", b"abc", b"a", b"b", b"c", b"d", b"e", b"A", b"aa", b"g0",
@@ -24,11 +24,12 @@ UNKNOWN = [
     b"sha-256 00", b"blake2s 00", b"blake2b-256 00", b"spilled",
 ]
 
+# D1.2
 SILENT = [b"", b"#", b"# ", b"#crc 00", b"##", b"#\xff\0", b"# a comment with spaces  "]
 
 
 def reshaped(good):
-    """A good line with its parts moved, dropped, added or respelled."""
+    """A good line with its parts moved, dropped, added or respelled (D1.5)."""
     parts = good.split(b" ")
     yield from (b" ".join(parts[:count]) for count in range(1, len(parts)))
     yield from (b" ".join(parts[:i] + [b""] + parts[i:]) for i in range(len(parts) + 1))
@@ -50,7 +51,7 @@ def retold(good):
 
 
 def long_lines():
-    """Around the longest line; `crc ` has four bytes, so the digits are even."""
+    """Around the longest line (D1.5); `crc ` has four bytes, so the digits are even."""
     for length in (LONGEST - 2, LONGEST - 1, LONGEST, LONGEST + 1, LONGEST + 2, 2 * LONGEST):
         yield b"crc " + b"5a" * ((length - 4) // 2) + b"5" * (length % 2)
     yield b"x" * LONGEST

@@ -1,4 +1,4 @@
-"""Calls of the auth and shard verbs (01, "CBOR payloads")."""
+"""Calls of the auth and shard verbs: section 11 of docs/RULES.md."""
 
 from itertools import product
 
@@ -17,7 +17,7 @@ KINDS = [b"", b"passphrase", b"signing-seed", b"Passphrase", b"passphrasf", b"si
 
 
 def auth_write_edges(rng):
-    """Each value of a wrong length, and every room."""
+    """Each value of a wrong length (R11.2, R11.8), and every room."""
     good = auth_values(rng)
     for sizes in product((0, 31, 32, 33), (0, 63, 64, 65), (0, 31, 32, 33)):
         yield line("auth-write", *map(rng.randbytes, sizes), 157)
@@ -26,7 +26,7 @@ def auth_write_edges(rng):
 
 
 def auth_signed_edges(rng):
-    """The same without `sig`."""
+    """The same without `sig` (R11.7)."""
     for pub, digest in product((0, 31, 32, 33, 64), repeat=2):
         yield line("auth-signed", rng.randbytes(pub), rng.randbytes(digest), 104)
         yield line("auth-signed", rng.randbytes(pub), rng.randbytes(digest), 0)
@@ -60,7 +60,7 @@ def auth_chance(rng):
 
 
 def shard_lines(shard, extra=True):
-    """One shard's values read, written and signed, with room and without."""
+    """One shard's values read, written and signed (R11.7), with room and without."""
     raw = encode(shard_pairs(shard))
     signed = 18 + len(encode(without_sig(shard_pairs(shard))))
     unsigned = [value for name, value in shard._asdict().items() if name != "sig"]
@@ -72,7 +72,7 @@ def shard_lines(shard, extra=True):
 
 
 def shard_grid(rng):
-    """Values at each bound and one past: share and length, the three numbers, type."""
+    """Values at each bound and one past: share and length (R11.5), numbers (R11.6), type."""
     good = shard_values(rng)
     for share, length in product(SHARES, LENGTHS):
         yield from shard_lines(good._replace(share=rng.randbytes(share), length=length), False)
@@ -88,7 +88,7 @@ def shard_grid(rng):
 
 
 def every_share(rng):
-    """Every length that a share may have, with each neighbour of its padding."""
+    """Every length that a share may have (R3.7), with each neighbour of its padding (R11.5)."""
     good = shard_values(rng)
     for length in range(0, 242):
         for share in sorted({(length + 15) // 16 * 16, length, length // 16 * 16}):
@@ -97,7 +97,7 @@ def every_share(rng):
 
 
 def shard_rooms(rng):
-    """Every room around the exact one, for the shortest and the longest shard."""
+    """Every room around the exact one, for the shortest and the longest shard (R11.9)."""
     good = shard_values(rng)
     short = good._replace(type=TYPES[0], share=bytes(16), length=1, threshold=1, count=1, index=1)
     for shard in (short, longest(good)):

@@ -1,4 +1,4 @@
-"""Calls of the varint and text verbs (01, "Varints and texts")."""
+"""Calls of the varint and text verbs: sections 4 and 5 of docs/RULES.md."""
 
 from collections import namedtuple
 
@@ -16,13 +16,13 @@ def numbers():
 
 
 def longer_forms(form):
-    """Forms of the same number that are not shortest."""
+    """Forms of the same number that are not shortest (R4.2)."""
     open_form = form[:-1] + bytes([form[-1] | 0x80])
     return [open_form + b"\x80" * more + b"\0" for more in range(10 - len(form))]
 
 
 def ten_byte_forms():
-    """Nine bytes that go on and a tenth, at and around what is allowed."""
+    """Nine bytes that go on and a tenth, at and around what is allowed (R4.3)."""
     for start in (b"\x80" * 9, b"\xff" * 9, b"\x80" * 8 + b"\x81"):
         for tenth in (0, 1, 2, 3, 0x7E, 0x7F, 0x80, 0x81, 0xFE, 0xFF):
             yield start + bytes([tenth])
@@ -30,7 +30,7 @@ def ten_byte_forms():
 
 
 def varint_inputs(rng):
-    """What varint-read is given."""
+    """What varint-read is given; cut short it is 3 (R4.4)."""
     yield from (bytes([byte]) for byte in range(256))
     yield from (bytes([byte] * count) for byte in (0x80, 0xFF) for count in range(13))
     yield from ten_byte_forms()
@@ -77,7 +77,7 @@ def some_text(rng, form, count):
 
 
 def bad_character(rng, form):
-    """A byte that the form neither reads nor skips."""
+    """A byte that the form neither reads (R5.2, R5.3) nor skips (R5.4)."""
     return rng.choice([c for c in range(256) if c not in form.alphabet + form.skipped])
 
 
@@ -92,7 +92,7 @@ def spaced(rng, form, text, share=0.3):
 
 
 def text_writes(rng, form):
-    """Every short length, and the lengths at the largest output."""
+    """Every short length, none too (R5.7), written and read back, in rooms around it (R2.4)."""
     for length in range(42):
         for data in (rng.randbytes(length), b"\0" * length, b"\xff" * length):
             text = form.write(data)
@@ -103,7 +103,7 @@ def text_writes(rng, form):
 
 
 def text_characters(rng, form):
-    """Every byte alone, and at each place of one group."""
+    """Every byte alone, and at each place of one group (R5.2, R5.3, R5.4)."""
     good = form.alphabet[:1] * form.group
     for byte in range(256):
         yield line(form.name + "-read", bytes([byte]), 10)
@@ -113,7 +113,7 @@ def text_characters(rng, form):
 
 
 def text_counts(rng, form):
-    """Every count modulo the group, with each last character: leftover bits."""
+    """Every count modulo the group, with each last character: leftover bits (R5.6)."""
     for count in range(3 * form.group):
         zeros = form.alphabet[:1] * count
         yield line(form.name + "-read", zeros, 20)
@@ -124,7 +124,7 @@ def text_counts(rng, form):
 
 
 def text_spaces(rng, form):
-    """Skipped characters: alone, in front, inside, behind; and the near misses."""
+    """Skipped characters: alone, in front, inside, behind; and the near misses (R5.4)."""
     near = bytes([0x00, 0x08, 0x0E, 0x1F, 0x21, 0x2D, 0x3D, 0x5F, 0x7F, 0x80, 0x85, 0xA0])
     for character in form.skipped + near:
         one = bytes([character])
@@ -138,7 +138,7 @@ def text_spaces(rng, form):
 
 
 def text_orders(rng, form):
-    """Faults together, so that the order 1, 2, 11 shows."""
+    """Faults together, so that the order 1, 2, 11 shows (R5.5)."""
     for count in range(2 * form.group + 1):
         for last in (bad_character(rng, form), form.alphabet[0], form.alphabet[-1]):
             text = some_text(rng, form, count) + bytes([last])

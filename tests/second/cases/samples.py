@@ -28,7 +28,8 @@ def shard_values(rng):
 
 def longest(shard):
     """A shard of the same signer with every other value as long as it can be."""
-    return shard._replace(type=TYPES[1], share=bytes(224), length=224, threshold=255, count=255, index=255)
+    return shard._replace(type=TYPES[1], share=bytes(224), length=224, threshold=255, count=255,
+                          index=255)
 
 
 def shard_payload(rng):
@@ -37,7 +38,7 @@ def shard_payload(rng):
 
 
 def longest_payload(rng):
-    """A good shard payload of 456 bytes, the most that one has."""
+    """A good shard payload of 456 bytes, the most that one has (R11.9)."""
     return encode(shard_pairs(longest(shard_values(rng))))
 
 

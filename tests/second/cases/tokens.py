@@ -38,13 +38,13 @@ def wide(major, number, width):
 
 
 def all_heads(major, number):
-    """Every head of this kind that holds the number, shortest or not."""
+    """Every head of this kind that holds the number, shortest or not (R10.1)."""
     return [wide(major, number, width) for width in (0, 1, 2, 4, 8)
             if number < (24 if width == 0 else 1 << 8 * width)]
 
 
 def other_heads(contents):
-    """Heads in the place of one: each width, each kind, and lengths off by some."""
+    """Heads in the place of one: each width, each kind, lengths off by some (R10.3, R10.4)."""
     length = len(contents)
     for major in range(8):
         yield from all_heads(major, length)
@@ -57,7 +57,7 @@ def other_heads(contents):
 
 
 def at_each_item(items):
-    """One item left out, doubled, exchanged with the next, or under another head."""
+    """One item left out, doubled, exchanged with the next, or under another head (R10.1)."""
     for at, (head, contents) in enumerate(items):
         before, after = items[:at], items[at + 1:]
         yield before + after
@@ -79,7 +79,7 @@ def resized(items):
 
 
 def variations(rng, payload):
-    """A good payload made wrong in every one of these ways, and as it is."""
+    """A good payload made wrong in every one of these ways, and as it is (R10.2, R10.3)."""
     yield payload
     yield from truncations(payload)
     yield from (payload + rng.randbytes(more) for more in (1, 2, 9, 100))

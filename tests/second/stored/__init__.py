@@ -1,8 +1,8 @@
 """The stored run of the desk: crates/desk/stdin and crates/desk/stdout.
 
 Its calls are chosen by hand and say in `#` lines what they show. Where an
-answer is published, or stands in 01, it is typed in here beside the call, and
-the run is not made if this program answers otherwise.
+answer is published, or follows from a rule at sight, it is typed in here
+beside the call, and the run is not made if this program answers otherwise.
 """
 
 from ..desk import Desk
@@ -13,7 +13,8 @@ SECTIONS = [section for module in (forms, digests, frames, payloads, sessions, l
 
 OPENING = b"""\
 # The stored run of the call desk. Written by `tests/second_program make`, as is
-# stdout beside it; neither is edited by hand. CALLS.md says what a line means.
+# stdout beside it; neither is edited by hand. docs/DESK.md says what a line means,
+# docs/RULES.md what is answered; R and D with a number are their rules.
 """
 
 

@@ -16,12 +16,12 @@ BLAKE2B = {
 
 
 def counting(length):
-    """Bytes 00, 01, 02 and so on."""
+    """Bytes that count up from 00."""
     return bytes(i % 256 for i in range(length))
 
 
 def crc():
-    yield from title("CRC-32/ISO-HDLC: its check value is that of the digits 1 to 9")
+    yield from title("CRC-32/ISO-HDLC (R6.3): its check value is that of the digits 1 to 9")
     yield call("crc", b"123456789", is_="0 cbf43926")
     yield note("no bytes, and single bytes")
     yield call("crc", b"", is_="0 00000000")
@@ -36,7 +36,7 @@ def crc():
 
 
 def sha256():
-    yield from title("SHA-256: FIPS 180-4, one block, two blocks, and the empty message")
+    yield from title("SHA-256 (D2.3): FIPS 180-4, one block, two blocks, and the empty message")
     yield call("sha256", b"abc", is_=f"0 {SHA256[b'abc']}")
     yield call("sha256", TWO_BLOCKS, is_=f"0 {SHA256[TWO_BLOCKS]}")
     yield call("sha256", b"", is_=f"0 {SHA256[b'']}")
@@ -49,7 +49,7 @@ def sha256():
 
 
 def blake2b():
-    yield from title("BLAKE2b of RFC 7693, unkeyed, 32-byte output: `abc` and the empty message")
+    yield from title("BLAKE2b of RFC 7693, unkeyed, 32-byte output (D2.3): `abc` and no bytes")
     yield call("blake2b", b"abc", is_=f"0 {BLAKE2B[b'abc']}")
     yield call("blake2b", b"", is_=f"0 {BLAKE2B[b'']}")
     yield note("lengths around the block of 128 bytes: no empty block follows a full one")
@@ -61,7 +61,7 @@ def blake2b():
 
 
 def doc_id():
-    yield from title("The document id: the first 8 bytes of that BLAKE2b")
+    yield from title("The document id: the first 8 bytes of that BLAKE2b (R7.1)")
     yield call("doc-id", b"abc", is_=f"0 {BLAKE2B[b'abc'][:16]}")
     yield call("doc-id", b"", is_=f"0 {BLAKE2B[b''][:16]}")
     yield call("doc-id", counting(300))
