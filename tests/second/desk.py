@@ -157,7 +157,7 @@ BYTES, NUMBER, SIGNED, ROOM, REG = as_bytes, as_number, as_signed, as_room, as_r
 SHARD_VALUES = (BYTES, BYTES, NUMBER, NUMBER, NUMBER, NUMBER)
 
 # Verbs that only answer: the forms of their arguments, and the call.
-CALLS = {
+PLAIN = {
     "varint-read": ((BYTES,), forms.varint_read),
     "varint-write": ((NUMBER, ROOM), varint_write),
     "base64-read": ((BYTES, ROOM), through(forms.base64_read)),
@@ -251,7 +251,7 @@ class Desk:
         """What is printed after the 0."""
         if verb == "manifest-write":
             return [manifest_write(*manifest_write_parsed(arguments))]
-        argument_forms, function = CALLS.get(verb) or self.register_calls[verb]
+        argument_forms, function = PLAIN.get(verb) or self.register_calls[verb]
         return function(*parsed(argument_forms, arguments))
 
     def load(self, register, data):

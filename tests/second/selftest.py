@@ -517,7 +517,7 @@ def lines_are_parted():
 @check
 def verbs_that_have_not_landed_are_unknown():
     same(desk.Desk(["crc"]).answer(b"sha256 -"), "?")
-    written = {*desk.CALLS, *desk.Desk().register_calls, "status", "manifest-write"}
+    written = {*desk.PLAIN, *desk.Desk().register_calls, "status", "manifest-write"}
     same(sorted(ALL), sorted(written))
 
 
