@@ -58,7 +58,7 @@ def frame_numbers():
     whole = main(2, 5, b"data")
     yield read(whole[:-1] + bytes([whole[-1] ^ 1]), is_="10")
     yield read(main(97, 97, b"z" * 481)[:-1] + b"?", is_="10")
-    yield note("INDEX 95 of 96 passes, TOTAL 97 is 9 (R3.1), INDEX 1 of 1 is 8 (R17.2)")
+    yield note("page 95 of 96 is read, TOTAL 97 is 9 (R3.1), INDEX 1 of TOTAL 1 is 8 (R17.2)")
     yield read(main(95, 96), is_=f"0 44 {ID.hex()} 95 96 78")
     yield read(main(96, 97), is_="9")
     yield read(main(0, 97), is_="9")

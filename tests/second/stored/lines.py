@@ -59,7 +59,7 @@ def large():
     yield note("a line of exactly 262,144 bytes, and one of 262,145 (D1.5)")
     yield raw(b"crc " + b"5a" * ((LONGEST - 4) // 2))
     yield raw(b"crc " + b"5a" * ((LONGEST - 4) // 2) + b"5", "?")
-    yield note("the desk goes on with the next line (D1.5)")
+    yield note("what follows is answered as ever (D1.5)")
     yield raw(b"crc 313233343536373839", "0 cbf43926")
 
 

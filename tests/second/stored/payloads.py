@@ -96,7 +96,7 @@ def shard_reading():
                     (2, 3, 4), (3, 3, 3), (256, 256, 1), (1, 256, 1), (1, 255, 256)):
         named = dict(zip(("threshold", "count", "index"), numbers))
         yield call("shard-read", shard_of(**named))
-    yield note("threshold above share_count is judged at share_count, before the index (R10.5)")
+    yield note("a threshold above the count is found at the count, before the index (R10.5)")
     cut = shard_of(threshold=4)
     yield call("shard-read", cut[:cut.index(b"kshare_index")], is_="19")
     yield call("shard-read", cut[:cut.index(b"kshare_count")], is_="3")

@@ -45,7 +45,7 @@ def crossing():
     yield call("status", "a", is_="pages 3 held 3 missing 0 disputed 0 first -")
     yield call("finish", "a", len(CIPHERTEXT), is_=f"0 {CIPHERTEXT.hex()}")
     yield call("finish", "a", len(CIPHERTEXT) - 1, is_="11")
-    yield note("the whole saved file: 97 blocks of 512 bytes (R8.1, R8.2, R8.3, R8.4, R8.5)")
+    yield note("all of it as it is saved (R8.1, R8.2, R8.3, R8.4, R8.5)")
     yield call("save", "a")
 
 
