@@ -125,6 +125,8 @@ def stored_press(rng, ship, large):
                         ("plus", "+1"), ("two_places", "1 2")):
         yield Run(f"typed_{name}", "press", ("typed", *words.split()), ship.ciphertext)
     yield Run("typed_empty_place", "press", ("typed", ""), ship.ciphertext)
+    for digits in (4096, 4097):  # R15.5
+        yield Run(f"typed_of_{digits}_digits", "press", ("typed", "7".zfill(digits)), ship.ciphertext)
     yield Run("typed_all_of_ninety_six", "press", ("typed",), large.ciphertext)
     yield Run("typed_nothing", "press", ("typed",), b"")
     yield Run("typed_too_many_bytes", "press", ("typed",), bytes(MOST + 1))

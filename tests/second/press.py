@@ -17,7 +17,7 @@ from .sums import doc_id
 
 MOST = MOST_PAGES * MOST_DATA  # R3.8
 FRAME_ROOM = 512
-DECIMAL = re.compile(r"[0-9]+")
+DECIMAL = re.compile(r"[0-9]{1,4096}")  # R15.5
 
 
 def ended(lines):
