@@ -1,4 +1,5 @@
--- RFC 7693: BLAKE2b with no key (kk = 0) and a digest of 32 bytes (nn = 32), in the order and the words of the RFC. A word has 64 bits.
+-- RFC 7693: BLAKE2b with no key (kk = 0) and a digest of 32 bytes (nn = 32), which R7.1 asks for,
+-- in the order and the words of the RFC. A word has 64 bits.
 use mathlib.Core.Bool.{Bool, true, false}
 use mathlib.Core.List.{List, [], _∷_, _++_, reverse}
 use Prim.Native.Nat.{ℕ, zero, suc, _+_, _-_, _*_, _/_, _%_, _^_}
@@ -86,7 +87,8 @@ unfoldable pub rounds : ℕ → List ℕ → List ℕ → List ℕ
 rounds zero m v = v
 rounds (suc r) m v = round m r (rounds r m v)
 
--- 3.2: the local work vector, from the state h, the offset counter t (low word, high word) and the final block indicator f
+-- 3.2: the local work vector, from the state h, the offset counter t (low word, high word) and the
+-- final block indicator f
 unfoldable pub begin : List ℕ → ℕ → Bool → List ℕ
 begin h t f =
     let v : List ℕ = h ++ iv in
@@ -123,7 +125,8 @@ unfoldable pub blocks : ℕ → List ℕ → List ℕ → List ℕ
 blocks zero d h = h
 blocks (suc i) d h = F (blocks i d h) (words d (i * 128)) ((i + 1) * 128) false
 
--- 3.3: the state after the final block, which has the length of the data for its offset, and the flag
+-- 3.3: the state after the final block, which has the length of the data for its offset, and the
+-- flag
 unfoldable pub final : List ℕ → List ℕ
 final s =
     let d : List ℕ = padded s in

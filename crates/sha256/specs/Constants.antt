@@ -1,4 +1,5 @@
--- FIPS 180-4, sections 4.2.2 and 5.3.3: the constants. Their rule, by roots of primes, is proved in proofs/Roots.antt.
+-- FIPS 180-4, sections 4.2.2 and 5.3.3: the constants. Their rule, by roots of primes, is proved in
+-- proofs/Roots.antt (R18.3).
 use Prim.Native.Nat.{ℕ}
 use mathlib.Core.List.{List, [], _∷_}
 use Rattle.sha256.specs.declared.State.{State}

@@ -87,7 +87,7 @@ fn round(s: State, k: u32, w: u32) -> State
     }
 }
 
-// Section 4.2.2. proofs/Roots.antt has its rule.
+// Section 4.2.2. proofs/Roots.antt has its rule (R18.3).
 const K: [u32; 64] = [
     0x428a2f98,
     0x71374491,
@@ -271,7 +271,7 @@ fn long(x: u32) -> u64
     x as u64
 }
 
-// Byte i of the padded message. The shift drops what the length in bits has above 64 bits.
+// Byte i of the padded message. The shift drops what the length in bits has above 64 bits (R14.5).
 fn pad_byte(s: &[u8], i: usize) -> u8
     requires { ⌜ i < length (M.pad (now s)) ⌝ }
     ensures { λ r. ⌜ r ≡ getD (M.pad (now (s .entry))) i 0 ⌝ }

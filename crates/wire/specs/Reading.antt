@@ -1,4 +1,5 @@
--- What a reader of one thing, or of a number, answers, as document 01's number and value.
+-- What a reader of one thing, or of a number, answers: the cases of its enum as a number and a
+-- value (R18.5).
 use Prim.Native.Nat.{ℕ}
 use Rattle.wire.specs.Answer.{refused, Got, got}
 use Rattle.wire.specs.declared.StepRead.{StepRead}
