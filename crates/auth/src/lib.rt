@@ -15,14 +15,15 @@ use wire::StepRead;
 use wire::Wrote;
 
 pub enum ClaimRead {
-    // Where pub, sig and hash start, which are 32, 64 and 32 bytes, and the position past them.
+    // Where pub, sig and hash start, which are 32, 64 and 32 bytes (R11.2), and the position past
+    // them.
     Value {
         public: usize,
         sig: usize,
         hash: usize,
         next: usize,
     },
-    // 01's number of the refusal.
+    // The number of the refusal (R2.2).
     Refused {
         no: u8,
     },

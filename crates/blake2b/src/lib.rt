@@ -76,7 +76,8 @@ fn g(v: &mut [u64; 16], a: usize, b: usize, c: usize, d: usize, x: u64, y: u64)
     turn(v, b, c, 63);
 }
 
-// The message's word that round r takes at place i. The table is lent, since naming the constant here would copy it.
+// The message's word that round r takes at place i. The table is lent, since naming the constant
+// here would copy it.
 fn word(m: &[u64; 16], sg: &[[u8; 16]; 12], r: usize, i: usize) -> u64
     requires { ⌜ (now sg ≡ B.sigma) × (r < 12) × (i < 16) ⌝ }
     ensures { λ x. ⌜ x ≡ B.word (now (m .entry)) r i ⌝ }

@@ -16,8 +16,8 @@ fn wide(x: u8) -> u64
     x as u64
 }
 
-// b is the last byte of a form, at weight w above the n of the bytes before it; next is the position
-// past it. A form that ends in 00 could be shorter (R4.3).
+// b is the last byte of a form, at weight w above the n of the bytes before it; next is the
+// position past it. A form that ends in 00 could be shorter (R4.3).
 fn read_ending(b: u64, n: u64, w: u64, next: usize) -> NumberRead
     requires { ⌜ n + w * b < 2 ^ 64 ⌝ }
     ensures { λ r. ⌜ numberTold r ≡ onto n w (ending b next) ⌝ }

@@ -32,8 +32,9 @@ pub const BAD_CHECKSUM: u8 = 10;
 
 pub const NO_ROOM: u8 = 11;
 
-// The answer of a call that writes into lent output (R2.4): how many bytes it wrote, or the refusal,
-// which wrote none. Its cases as a number and a value are `told` of specs/Writing.antt (R18.5).
+// The answer of a call that writes into lent output (R2.4): how many bytes it wrote, or the
+// refusal, which wrote none. Its cases as a number and a value are `told` of specs/Writing.antt
+// (R18.5).
 pub enum Wrote {
     Done { len: usize },
     Refused { no: u8 },
@@ -92,8 +93,8 @@ pub const COLLECTION_SIZE: usize = (1 + MOST_PAGES) * BLOCK_SIZE;
 
 pub const MOST_CIPHERTEXT: usize = MOST_PAGES * MOST_DATA;
 
-// The answer of a call that reads one thing, and of one that reads a number: the position past it, or
-// the refusal.
+// The answer of a call that reads one thing, and of one that reads a number: the position past it,
+// or the refusal.
 pub enum StepRead {
     Past { next: usize },
     Refused { no: u8 },
