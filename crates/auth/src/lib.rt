@@ -146,6 +146,7 @@ pub fn write(public: &[u8], sig: &[u8], hash: &[u8], out: &mut [u8]) -> Wrote
     Wrote::Done { len: 157 }
 }
 
+// Where there is room. The domain and the keys are fixed strings (R18.2).
 fn signed_fitting(public: &[u8], hash: &[u8], out: &mut [u8])
     requires { ⌜ length (signedOf (now public) (now hash)) ≤ length (now out) ⌝ }
     ensures { λ _. ⌜ now (out .exit) ≡ over 0 (signedOf (now (public .entry)) (now (hash .entry))) (now (out .entry)) ⌝ }

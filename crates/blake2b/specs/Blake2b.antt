@@ -1,5 +1,5 @@
--- RFC 7693: BLAKE2b with no key (kk = 0) and a digest of 32 bytes (nn = 32), which R7.1 asks for,
--- in the order and the words of the RFC. A word has 64 bits.
+-- RFC 7693: BLAKE2b with no key (kk = 0) and a digest of 32 bytes (nn = 32), as R7.1 asks. The
+-- definitions go by the RFC's sections and use its names. A word has 64 bits.
 use mathlib.Core.Bool.{Bool, true, false}
 use mathlib.Core.List.{List, [], _∷_, _++_, reverse}
 use Prim.Native.Nat.{ℕ, zero, suc, _+_, _-_, _*_, _/_, _%_, _^_}
@@ -24,13 +24,14 @@ unfoldable pub bytes : List ℕ → List ℕ
 bytes [] = []
 bytes (x ∷ xs) = littleEndian 8 x ++ bytes xs
 
--- 2.6: the initialization vector
+-- 2.6: the initialization vector. Its rule is `iv-root` of proofs/Tables.antt (R18.3)
 unfoldable pub iv : List ℕ
 iv =
     0x6a09e667f3bcc908 ∷ 0xbb67ae8584caa73b ∷ 0x3c6ef372fe94f82b ∷ 0xa54ff53a5f1d36f1 ∷
     0x510e527fade682d1 ∷ 0x9b05688c2b3e6c1f ∷ 0x1f83d9abfb41bd6b ∷ 0x5be0cd19137e2179 ∷ []
 
--- 2.7: the message schedule, SIGMA[r][i], a row for each of the twelve rounds
+-- 2.7: the message schedule, SIGMA[r][i], a row for each of the twelve rounds. Its rule is
+-- `sigma-small`, `sigma-has` and `sigma-again` of proofs/Tables.antt (R18.3)
 unfoldable pub sigma : List (List ℕ)
 sigma =
     (0 ∷ 1 ∷ 2 ∷ 3 ∷ 4 ∷ 5 ∷ 6 ∷ 7 ∷ 8 ∷ 9 ∷ 10 ∷ 11 ∷ 12 ∷ 13 ∷ 14 ∷ 15 ∷ []) ∷
@@ -137,6 +138,6 @@ final s =
 unfoldable pub digest : List ℕ → List ℕ
 digest h = take 32 (bytes h)
 
--- 3.3: the hash of a message
+-- 3.3: the hash of a message, of which an id is the front (R7.1)
 unfoldable pub blake2b : List ℕ → List ℕ
 blake2b s = digest (final s)

@@ -101,7 +101,7 @@ unfoldable pub shardOf : (public sig hash kind share : List ℕ) (len : ℕ) (q 
 shardOf public sig hash kind share len q =
     (0xAA ∷ []) ++ (stringFieldOf (ascii "pub") 2 public ++ (stringFieldOf (ascii "sig") 2 sig ++ restOf hash kind share len q))
 
--- ---- what a writer judges: values of any length (R11.8)
+-- ---- what a writer judges
 
 -- 1 to 255 (R11.6)
 unfoldable pub small : ℕ → Bool
@@ -123,8 +123,8 @@ restVerdict hash kind share len q form =
     (demand (leb (q .index) (q .count)) 19
     (done form))))))))))
 
--- there is no 9: the payload of values in their ranges has at most 456 bytes (R11.9): `shard-most`
--- of proofs/Lengths.antt, and Ticket 11
+-- the values may have any length (R11.8). There is no 9: the payload of values in their ranges has
+-- at most 456 bytes (R11.9): `shard-most` of proofs/Lengths.antt, and Ticket 11
 unfoldable pub shardVerdict : (public sig hash kind share : List ℕ) (len : ℕ) (q : Quorum) → Answer (List ℕ)
 shardVerdict public sig hash kind share len q =
     demand (eqb (length public) 32) 19

@@ -94,7 +94,7 @@ pub(super) fn payload(
     rest(out, c, hash, kind, share, len, q);
 }
 
-// The bytes that get signed.
+// The bytes that get signed. The domain and the keys are fixed strings (R18.2).
 pub(super) fn message(
     out: &mut [u8],
     public: &[u8],

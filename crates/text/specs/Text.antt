@@ -81,7 +81,7 @@ characters f n = (8 * n + (f .width - 1)) / f .width
 unfoldable pub filling : Form → ℕ → ℕ
 filling f n = f .width * characters f n - 8 * n
 
--- the character of a value
+-- the character of a value; `value` leads back (R18.3): `inverse` of proofs/Forms.antt
 abbrev pub letter : Form → ℕ → ℕ
 letter f v = getD (f .alphabet) v 0
 

@@ -34,7 +34,8 @@ laterFrom p i [] = refused 3
 laterFrom zero i (b ∷ bs) = tenth b (i + 1)
 laterFrom (suc p) i (b ∷ bs) = choose (ltb b 128) (ending b (i + 1)) (onto (b % 128) 128 (laterFrom p (i + 1) bs))
 
--- the number at the front of a list that starts at position i; without a first byte, 3 (R4.4)
+-- the number at the front of a list that starts at position i (R4.1); where there is no byte, 3
+-- (R4.4)
 unfoldable pub varintFrom : ℕ → List ℕ → Got ℕ
 varintFrom i [] = refused 3
 varintFrom i (b ∷ bs) = choose (ltb b 128) (got b (i + 1)) (onto (b % 128) 128 (laterFrom 8 (i + 1) bs))

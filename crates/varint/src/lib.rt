@@ -99,7 +99,8 @@ pub fn size(n: u64) -> usize
     if n == 0 {
         return 1;
     }
-    // From the leading zeros (R18.1): `size` of proofs/size ties it to the digits of R4.1.
+    // The length follows from the leading zeros (R18.1): `varint-length-from-leading-zeros` of
+    // proofs/Lengths.antt ties it to the digits.
     let highest = 63 - u64::leading_zeros(n);
     (highest / 7 + 1) as usize
 }
