@@ -27,8 +27,8 @@ pageFrame c size i = layout 0x44 (documentId c) i (pageCount (length c) size) (p
 unfoldable pub printable : ℕ → ℕ → Bool
 printable n size = ltb 0 n && (ltb 0 size && leb size mostData)
 
--- how many pages there are: 19 where nothing can be printed so, 9 where they are too many (R7.4,
--- R3.1)
+-- how many pages there are: 19 where nothing can be printed so (R7.4), 9 where they are too many
+-- (R7.4, R3.1)
 unfoldable pub countOf : ℕ → ℕ → Answer ℕ
 countOf n size =
     demand (printable n size) 19

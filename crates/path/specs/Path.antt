@@ -10,11 +10,11 @@ use Rattle.wire.specs.Every.{every, within, without}
 use Rattle.path.specs.Utf8.{codePoints}
 use Rattle.path.specs.Names.{parts, isName}
 
--- so few bytes a path may have (R3.5)
+-- a path has at least so many bytes (R3.5)
 abbrev pub pathLeast : ℕ
 pathLeast = 1
 
--- and so many (R3.5)
+-- and at most so many (R3.5)
 abbrev pub pathMost : ℕ
 pathMost = mostPath
 

@@ -18,10 +18,10 @@ payloadFrame kind id contents read =
     (then read (λ _.
     done (layout kind id 0 1 contents))))
 
--- of a shard payload (R7.5)
+-- the frame of a shard payload (R7.5)
 abbrev pub keyFrame : List ℕ → List ℕ → Answer (List ℕ)
 keyFrame id contents = payloadFrame 0x4B id contents (shardAt contents)
 
--- of an auth payload (R7.5)
+-- the frame of an auth payload (R7.5)
 abbrev pub authFrame : List ℕ → List ℕ → Answer (List ℕ)
 authFrame id contents = payloadFrame 0x41 id contents (authAt contents)
