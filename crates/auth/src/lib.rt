@@ -15,14 +15,15 @@ use wire::StepRead;
 use wire::Wrote;
 
 pub enum ClaimRead {
-    // Where pub, sig and hash start, which are 32, 64 and 32 bytes, and the position past them.
+    // Where pub, sig and hash start, which are 32, 64 and 32 bytes (R11.2), and the position past
+    // them.
     Value {
         public: usize,
         sig: usize,
         hash: usize,
         next: usize,
     },
-    // 01's number of the refusal.
+    // The number of the refusal (R2.2).
     Refused {
         no: u8,
     },
@@ -145,6 +146,7 @@ pub fn write(public: &[u8], sig: &[u8], hash: &[u8], out: &mut [u8]) -> Wrote
     Wrote::Done { len: 157 }
 }
 
+// Where there is room. The domain and the keys are fixed strings (R18.2).
 fn signed_fitting(public: &[u8], hash: &[u8], out: &mut [u8])
     requires { ⌜ length (signedOf (now public) (now hash)) ≤ length (now out) ⌝ }
     ensures { λ _. ⌜ now (out .exit) ≡ over 0 (signedOf (now (public .entry)) (now (hash .entry))) (now (out .entry)) ⌝ }

@@ -7,7 +7,7 @@ ghost use mathlib.Core.Path.{_≡_};
 ghost use Rattle.wire.specs.Answer.{numberOf};
 ghost use Rattle.cbor.specs.Answer.{headTold, stringTold};
 
-// A head's major type and number. Of major type 0 the number is n, of 1 it is -1 - n.
+// A head's major type and number. Of major type 0 the integer is n, of 1 it is -1 - n (R10.4).
 pub enum HeadRead {
     Value { major: u8, n: u64, next: usize },
     Refused { no: u8 },
@@ -48,7 +48,8 @@ impl StringRead {
     }
 }
 
-// The kinds of items. Each is the major type of its heads, but that a negative integer has the major type NEGATIVE.
+// The kinds of items. Each is the major type of its heads, but that a negative integer has the
+// major type NEGATIVE (R10.4).
 pub const INTEGER: u8 = 0;
 
 pub const NEGATIVE: u8 = 1;

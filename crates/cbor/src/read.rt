@@ -1,4 +1,5 @@
-// What stands at a position of the input. Of several faults the one furthest in front is told: see specs/Item.antt.
+// What stands at a position of the input. Of several faults the one furthest in front is told
+// (R10.2): each answer is taken apart with `let .. else`, and a refusal leaves at once (R18.4).
 ghost use mathlib.Core.Path.{_≡_};
 ghost use Prim.Native.Nat.{_+_, _<_, _≤_};
 ghost use lib.ListN.{length, take, drop};
@@ -18,7 +19,7 @@ fn wide(x: u8) -> u64
     x as u64
 }
 
-// Integers of either sign are one kind.
+// Integers of either sign are one kind (R10.4).
 fn kind_of(major: u8) -> u8
     ensures { λ r. ⌜ r ≡ kindOf major ⌝ }
 {
@@ -194,7 +195,7 @@ pub fn string(s: &[u8], at: usize, kind: u8, least: u64, most: u64, fault: u8) -
     contents(s, next, n)
 }
 
-// The contents of a key, whose head stands before position at.
+// The contents of a key, whose head stands before position at: a fixed string, compared (R18.2).
 fn name(s: &[u8], at: usize, wanted: &[u8]) -> StepRead
     ensures { λ r. ⌜ stepTold r ≡ nameAt (now (s .entry)) at (now (wanted .entry)) ⌝ }
 {

@@ -1,5 +1,6 @@
-// Items written at a position of lent output. Each answers the position past the item; where the item does not fit, nothing
-// is written and the position stays. A payload's writer judges first that all of it fits.
+// Items written at a position of lent output. Each answers the position past the item; where the
+// item does not fit, nothing is written and the position stays. A payload's writer judges first
+// that all of it fits (R10.7).
 ghost use mathlib.Core.Path.{_≡_};
 ghost use Prim.Native.Nat.{_+_, _-_, _%_, _≤_};
 ghost use lib.ListN.{length};

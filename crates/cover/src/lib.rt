@@ -15,7 +15,7 @@ use wire::Wrote;
 pub enum CoverRead {
     // Where the manifest and the payload stand in the input.
     Cover { manifest: Span, payload: Span },
-    // 01's number of the refusal.
+    // The number of the refusal (R2.2).
     Refused { no: u8 },
 }
 
@@ -48,7 +48,7 @@ impl ChunkRead {
     }
 }
 
-// A length and that many bytes. A length near 2^64 is compared, and never added to.
+// A length and that many bytes (R14.2). A length near 2^64 is compared, and never added to.
 fn chunk(s: &[u8], at: usize) -> ChunkRead
     ensures { λ r. ⌜ chunkTold r ≡ chunkAt (now (s .entry)) at ⌝ }
 {

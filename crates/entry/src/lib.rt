@@ -10,11 +10,12 @@ use wire::Span;
 
 pub enum Mtime {
     Null,
-    // The number n, or -1 - n where it is negative.
+    // The number n, or -1 - n where it is negative (R13.6).
     Integer { negative: bool, n: u64 },
 }
 
-// Its hash and path stand in a pool of bytes. Of a file that was read the pool is the input.
+// Its hash and path stand in a pool of bytes. Of a file that was read the pool is the input
+// (R13.7).
 pub struct File {
     pub hash: Span,
     pub path: Span,

@@ -1,4 +1,5 @@
-// What stands at a position of the input. Of several faults the one furthest in front is told: see specs/File.antt.
+// What stands at a position of the input. Of several faults the one furthest in front is told
+// (R10.2), and a refusal leaves at once (R18.4).
 ghost use mathlib.Core.Path.{_≡_};
 ghost use Rattle.entry.specs.File.{integerAt, mtimeAt, pathAt, fileAt};
 ghost use Rattle.entry.specs.Answer.{fileTold};
@@ -21,7 +22,7 @@ use wire::OUT_OF_RANGE;
 use wire::Span;
 use wire::StepRead;
 
-// 2^63: an integer is n or -1 - n with n below it.
+// 2^63: an integer is n or -1 - n with n below it (R13.6).
 const END: u64 = 0x8000000000000000;
 
 // An integer of either sign: the major type NEGATIVE tells which.
@@ -62,7 +63,7 @@ fn mtime_field(s: &[u8], at: usize) -> MtimeRead
     }
 }
 
-// A path that is above prev, the path before it.
+// A path that is above prev, the path before it (R12.6).
 fn path_field(s: &[u8], at: usize, prev: &[u8]) -> StringRead
     ensures { λ r. ⌜ stringTold r ≡ pathAt (now (s .entry)) at (now (prev .entry)) ⌝ }
 {

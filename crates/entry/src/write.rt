@@ -1,4 +1,4 @@
-// Whether a file may be written, and its written form. Its places are in a pool of bytes.
+// Whether a file may be written, and its written form. Its places are in a pool of bytes (R13.7).
 ghost use mathlib.Core.Path.{_≡_};
 ghost use Prim.Native.Nat.{_+_, _≤_};
 ghost use lib.ListN.{length};

@@ -14,14 +14,14 @@ use wire::Wrote;
 pub enum EnvelopeRead {
     // Where the manifest and the payload stand in the input.
     Envelope { manifest: Span, payload: Span },
-    // 01's number of the refusal, and the place that it returns.
+    // The number of the refusal (R2.2), and the place that comes with it (R2.3).
     Refused { no: u8, place: usize },
 }
 
 pub enum EnvelopeWrote {
     // How many bytes were written.
     Done { len: usize },
-    // 01's number of the refusal, and the place that it returns.
+    // The number of the refusal (R2.2), and the place that comes with it (R2.3).
     Refused { no: u8, place: usize },
 }
 
@@ -43,7 +43,7 @@ pub fn read(s: &[u8]) -> EnvelopeRead
     EnvelopeRead::Envelope { manifest, payload }
 }
 
-// An answer whose refusal has no place of its own.
+// An answer whose refusal has no place of its own (R2.3).
 fn unplaced(w: Wrote) -> EnvelopeWrote
     ensures { λ r. ⌜ r ≡ wroteAs w ⌝ }
 {

@@ -15,7 +15,7 @@ use wire::Span;
 use wire::StepRead;
 use wire::Wrote;
 
-// The type bytes of source 6.
+// The type bytes (R6.2).
 pub const MAIN: u8 = 0x44;
 
 pub const KEY: u8 = 0x4B;
@@ -23,14 +23,14 @@ pub const KEY: u8 = 0x4B;
 pub const AUTH: u8 = 0x41;
 
 pub enum FrameRead {
-    // Where the data stand in the input; the id always stands at bytes 4 to 11.
+    // Where the data stand in the input; the id always stands at bytes 4 to 11 (R6.1).
     Frame {
         kind: u8,
         index: u64,
         total: u64,
         at: Span,
     },
-    // 01's number of the refusal.
+    // The number of the refusal (R2.2).
     Refused {
         no: u8,
     },
@@ -48,6 +48,7 @@ impl FrameRead {
     }
 }
 
+// Whether the frame is one of its total (R6.6).
 fn in_place(kind: u8, index: u64, total: u64) -> bool
     ensures { λ r. ⌜ r ≡ inPlace kind index total ⌝ }
 {
@@ -63,6 +64,7 @@ fn in_place(kind: u8, index: u64, total: u64) -> bool
     total == 1
 }
 
+// Whether the house takes so many pages, and so much data (R6.7).
 fn in_size(total: u64, len: u64) -> bool
     ensures { λ r. ⌜ r ≡ inSize total len ⌝ }
 {

@@ -21,14 +21,15 @@ use wire::Wrote;
 
 pub enum Seed {
     Null,
-    // A place in the pool of the manifest's bytes: of one that was read the pool is the input.
+    // A place in the pool of the manifest's bytes: of one that was read the pool is the input
+    // (R13.7).
     Bytes { span: Span },
 }
 
 pub enum Created {
-    // The number n, or -1 - n where it is negative.
+    // The number n, or -1 - n where it is negative (R13.6).
     Integer { negative: bool, n: u64 },
-    // A double, by its 64 bits.
+    // A double, by its 64 bits (R10.8).
     Double { bits: u64 },
 }
 
@@ -41,8 +42,8 @@ pub struct Manifest {
     pub created: Created,
 }
 
-// The position past the manifest, which is the input's length, or 01's number of the refusal. The value of a refused manifest,
-// and each file past the count, is blank.
+// The position past the manifest, which is the input's length, or the number of the refusal (R2.2).
+// The value of a refused manifest, and each file past the count, is blank (R13.7).
 pub struct ManifestRead {
     pub answer: StepRead,
     pub value: Manifest,

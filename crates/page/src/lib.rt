@@ -10,7 +10,7 @@ use wire::Wrote;
 
 pub enum PageCount {
     Pages { n: usize },
-    // 01's number of the refusal.
+    // The number of the refusal (R2.2).
     Refused { no: u8 },
 }
 
@@ -53,7 +53,8 @@ impl PageCount {
     }
 }
 
-// Where a page ends that starts at `start`: only at the end of the document is it shorter than its size.
+// Where a page ends that starts at `start`: only at the end of the document is it shorter than its
+// size (R7.2).
 fn page_end(start: usize, size: usize, n: usize) -> usize
     requires { ⌜ start ≤ n ⌝ }
     ensures { λ r. ⌜ (start ≤ r) × (r ≤ n) × (r - start ≡ min size (n - start)) ⌝ }

@@ -9,12 +9,13 @@ ghost use Rattle.path.specs.Names.{parts, isName};
 ghost use Rattle.path.specs.Path.{plainText, pathAllowed};
 ghost use Rattle.path.specs.Private.{Spans};
 
-// How many bytes a path has. A reader judges its length by these before the bytes are there.
+// How many bytes a path has (R3.5). A reader judges its length by these before the bytes are there
+// (R12.6).
 pub const LEAST: u64 = 1;
 
 pub const MOST: u64 = wire::MOST_PATH as u64;
 
-// Only code points below this one are allowed.
+// Only code points below this one are allowed (R12.1).
 const END: u32 = 0x300;
 
 // No code point at all: the last is U+10FFFF.
@@ -76,7 +77,7 @@ fn plain(s: &[u8]) -> bool
     true
 }
 
-// Whether a part names something: it is not empty, not `.` and not `..`.
+// Whether a part names something: it is not empty, not `.` and not `..` (R12.2).
 fn is_name(p: &[u8]) -> bool
     ensures { λ r. ⌜ r ≡ isName (now (p .entry)) ⌝ }
 {

@@ -11,7 +11,7 @@ use auth::ClaimRead;
 use shard::ShardRead;
 use wire::Wrote;
 
-// The number of what is refused whatever the payload says, 0 where that is nothing.
+// The number of what is refused whatever the payload says, 0 where that is nothing (R7.5).
 fn fault(id: &[u8], contents: &[u8]) -> u8
     ensures { λ r. ⌜ r ≡ faultOf (now (id .entry)) (now (contents .entry)) ⌝ }
 {
@@ -24,7 +24,7 @@ fn fault(id: &[u8], contents: &[u8]) -> u8
     wire::DONE
 }
 
-// The frame, once its payload is accepted: such a frame is the first of one.
+// The frame, once its payload is accepted: such a frame is the first of one (R7.5).
 fn lay(kind: u8, id: &[u8], contents: &[u8], out: &mut [u8]) -> Wrote
     requires { ⌜ length (now id) ≡ idSize ⌝ }
     ensures { λ r. ⌜ Written 0 (done (layout kind (now (id .entry)) 0 1 (now (contents .entry)))) (now (out .entry)) (now (out .exit)) r ⌝ }

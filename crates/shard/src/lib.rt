@@ -31,7 +31,8 @@ pub struct Quorum {
 }
 
 pub enum ShardRead {
-    // Where pub, sig and hash start, which are 32, 64 and 32 bytes. The payload ends at next, the length of the input.
+    // Where pub, sig and hash start, which are 32, 64 and 32 bytes (R11.2). The payload ends at
+    // next, the length of the input.
     Value {
         public: usize,
         sig: usize,
@@ -40,7 +41,7 @@ pub enum ShardRead {
         quorum: Quorum,
         next: usize,
     },
-    // 01's number of the refusal.
+    // The number of the refusal (R2.2).
     Refused {
         no: u8,
     },

@@ -16,7 +16,8 @@ fn wide(x: u8) -> u64
     x as u64
 }
 
-// b is the last byte of a form, at weight w above the n of the bytes before it; next is the position past it.
+// b is the last byte of a form, at weight w above the n of the bytes before it; next is the
+// position past it. A form that ends in 00 could be shorter (R4.3).
 fn read_ending(b: u64, n: u64, w: u64, next: usize) -> NumberRead
     requires { ⌜ n + w * b < 2 ^ 64 ⌝ }
     ensures { λ r. ⌜ numberTold r ≡ onto n w (ending b next) ⌝ }
@@ -32,7 +33,7 @@ fn read_ending(b: u64, n: u64, w: u64, next: usize) -> NumberRead
     }
 }
 
-// The same for a tenth byte, the only one that can take a number to 2^64.
+// The same for a tenth byte, the only one that can take a number to 2^64 (R4.3).
 fn read_tenth(b: u64, n: u64, w: u64, next: usize) -> NumberRead
     requires { ⌜ n + w < 2 ^ 64 ⌝ }
     ensures { λ r. ⌜ numberTold r ≡ onto n w (tenth b next) ⌝ }
@@ -98,6 +99,8 @@ pub fn size(n: u64) -> usize
     if n == 0 {
         return 1;
     }
+    // The length follows from the leading zeros (R18.1): `varint-length-from-leading-zeros` of
+    // proofs/Lengths.antt ties it to the digits.
     let highest = 63 - u64::leading_zeros(n);
     (highest / 7 + 1) as usize
 }
