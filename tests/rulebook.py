@@ -12,7 +12,7 @@ SENTENCE = re.compile(r".*?(?:(?<!\.)\.(?= |$)|$)")
 NUMBER = re.compile(r"\b[RD]\d+\.\d+\b")
 # what opens a definition, by the kind of file; its first group is the name
 OPENS = {
-    ".antt": re.compile(r"(?:(?:pub|abbrev|unfoldable|record|data) )*(\S+)(?= :| \(|$)"),
+    ".antt": re.compile(r"(?:(?:pub|abbrev|unfoldable|record|data) )*(\S+)(?= :| \(| \{|$)"),
     ".rt": re.compile(r'\s*(?:pub(?:\(super\))? )?(?:extern "C" )?(?:fn|const|enum|struct) (\w+)'),
     ".py": re.compile(r"\s*(?:def|class) (\w+)"),
 }
