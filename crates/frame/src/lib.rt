@@ -1,4 +1,4 @@
-// One frame, read and laid out.
+// A single frame: how it is read, and how one is laid out.
 //
 // A laid-out frame reads back as its parts (`reads-back`), and a frame that is read is exactly the
 // layout of its parts (`only-layouts`).
@@ -103,7 +103,8 @@ fn judge(kind: u8, index: u64, total: u64, len: u64, at: usize) -> FrameRead
 }
 
 // Of the frame that s is its type, INDEX, TOTAL and where its data stand; or the first fault from
-// left to right, 4, 5 or 7, 6, 7, and 3 where s ends too soon or too late; then 10, 8, 9.
+// left to right, which is 4, then 5 or 7, then 6, then 7, with 3 where s ends too soon or too late;
+// after these 10, 8, 9.
 pub fn read(s: &[u8]) -> FrameRead
     ensures { λ r. ⌜ told r ≡ frameOf (now (s .entry)) ⌝ }
 {
