@@ -76,7 +76,7 @@ fn argument(s: &[u8], at: usize, info: u8) -> NumberRead
     big_endian_at(s, at, short::width(info))
 }
 
-// The byte at position at, whatever it is, and the position past it; or 3.
+// The byte at the position, whatever it is, and the position past it; or 3.
 //
 // The first byte of an item tells which it is, where a field may hold one of several.
 pub fn byte(s: &[u8], at: usize) -> NumberRead
@@ -93,7 +93,7 @@ pub fn byte(s: &[u8], at: usize) -> NumberRead
     }
 }
 
-// The position past the wanted byte, which stands at position at; or 3, then 18.
+// The position past the wanted byte, which stands at the position asked; or 3, then 18.
 //
 // The head of a map, or a simple value, is read so.
 pub fn one_byte(s: &[u8], at: usize, wanted: u8) -> StepRead
@@ -146,8 +146,8 @@ pub fn head(s: &[u8], at: usize, kind: u8) -> HeadRead
     HeadRead::Value { major, n, next }
 }
 
-// The number of a head of this kind, from least to most, and the position past it; or the head's
-// refusal, then fault for any other number, a negative one too.
+// The number of a head of this kind, within the bounds, and the position past it; or the head's
+// refusal, then the fault that the caller names for any other number, a negative one too.
 pub fn number(s: &[u8], at: usize, kind: u8, least: u64, most: u64, fault: u8) -> NumberRead
     ensures { λ r. ⌜ numberTold r ≡ numberAt (now (s .entry)) at kind least most fault ⌝ }
 {
@@ -167,8 +167,8 @@ pub fn number(s: &[u8], at: usize, kind: u8, least: u64, most: u64, fault: u8) -
     NumberRead::Value { n, next }
 }
 
-// Where the len bytes of a string stand whose head ends before position at, and the position past
-// them; or 3.
+// Where the len bytes of a string stand from the position on, behind its head, and the position
+// past them; or 3.
 pub fn contents(s: &[u8], at: usize, len: u64) -> StringRead
     ensures { λ r. ⌜ stringTold r ≡ contentsAt (now (s .entry)) at len ⌝ }
 {
@@ -190,8 +190,9 @@ pub fn contents(s: &[u8], at: usize, len: u64) -> StringRead
     }
 }
 
-// Where the contents of a byte string or a text stand, of a length from least to most, and the
-// position past them; or the head's refusal, then fault for another length, then 3.
+// Where the contents of a byte string or a text stand, of a length within the bounds, and the
+// position past them; or the head's refusal, then the fault that the caller names for another
+// length, then 3.
 pub fn string(s: &[u8], at: usize, kind: u8, least: u64, most: u64, fault: u8) -> StringRead
     ensures { λ r. ⌜ stringTold r ≡ stringAt (now (s .entry)) at kind least most fault ⌝ }
 {
@@ -255,8 +256,9 @@ pub fn double(s: &[u8], at: usize) -> NumberRead
     big_endian_at(s, next, 8)
 }
 
-// A key, and where the contents of the string behind it stand, of a length from least to most; or
-// the refusal of the key, then that of the string, which is fault for another length.
+// A key, and where the contents of the string behind it stand, of a length within the bounds; or
+// the refusal of the key, then that of the string, which is the fault that the caller names for
+// another length.
 pub fn string_field(
     s: &[u8],
     at: usize,
@@ -275,7 +277,7 @@ pub fn string_field(
     string(s, next, kind, least, most, fault)
 }
 
-// A key, and the number behind it, from least to most; or the refusal of the key, then that of the
+// A key, and the number behind it, within the bounds; or the refusal of the key, then that of the
 // number, which is 19 where it is outside.
 pub fn number_field(s: &[u8], at: usize, name: &[u8], least: u64, most: u64) -> NumberRead
     ensures { λ r. ⌜ numberTold r ≡ numberFieldAt (now (s .entry)) at (now (name .entry)) least most ⌝ }

@@ -17,7 +17,7 @@ use wire::Wrote;
 
 // ---- decimal
 
-// The decimal digits of n from index at on; nothing changes where they do not fit. The answer is
+// The decimal digits of n from the index on; nothing changes where they do not fit. The answer is
 // how many they are, in either case.
 pub fn decimal(out: &mut [u8], at: usize, n: u8) -> usize
     ensures { λ r. ⌜ (r ≡ length (decimalOf n)) × (r ≤ 3) × (now (out .exit) ≡ over at (decimalOf n) (now (out .entry))) ⌝ }
@@ -84,7 +84,7 @@ fn hex_fitting(out: &mut [u8], at: usize, src: &[u8])
     }
 }
 
-// Two lower-case hex digits for each byte of src from index at on. Nothing changes where they do
+// Two lower-case hex digits for each byte of src from the index on. Nothing changes where they do
 // not all fit.
 pub fn hex(out: &mut [u8], at: usize, src: &[u8])
     ensures { λ _. ⌜ now (out .exit) ≡ over at (hexOf (now (src .entry))) (now (out .entry)) ⌝ }

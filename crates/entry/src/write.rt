@@ -123,7 +123,7 @@ pub fn judge(pool: &[u8], prev: &[u8], f: File) -> Wrote
     Wrote::Done { len: size(f) }
 }
 
-// The number n, or -1 - n where it is negative, in its one form at position at, and the position
+// The number n, or -1 - n where it is negative, in its one form at the position, and the position
 // past it. Where it does not fit, nothing is written and the position stays.
 pub fn integer(out: &mut [u8], at: usize, negative: bool, n: u64) -> usize
     ensures { λ r. ⌜ Put at (integerOf negative n) (now (out .entry)) (now (out .exit)) r ⌝ }
@@ -159,7 +159,7 @@ fn file_fitting(pool: &[u8], f: File, out: &mut [u8], at: usize) -> usize
     mtime_fitting(mtime, out, d)
 }
 
-// The map of one file at position at, and the position past it. Where the file is refused or does
+// The map of one file at the position, and the position past it. Where the file is refused or does
 // not fit, nothing is written and the position stays.
 //
 // A manifest's writer judges first that all of it may be written and fits.

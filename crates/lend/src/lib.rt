@@ -10,7 +10,7 @@ ghost use Rattle.wire.specs.Writing.{Written};
 ghost use Rattle.lend.specs.Same.{same};
 use wire::Wrote;
 
-// The byte b stands at index at. Nothing changes where that index is outside.
+// The byte b stands at the index. Nothing changes where that index is outside.
 pub fn put(out: &mut [u8], at: usize, b: u8)
     ensures { λ _. ⌜ now (out .exit) ≡ over at (b ∷ []) (now (out .entry)) ⌝ }
 {
@@ -30,7 +30,7 @@ fn copy_fitting(out: &mut [u8], at: usize, src: &[u8])
     }
 }
 
-// All of src stands from index at on. Nothing changes where it does not fit.
+// All of src stands from the index on. Nothing changes where it does not fit.
 pub fn copy(out: &mut [u8], at: usize, src: &[u8])
     ensures { λ _. ⌜ now (out .exit) ≡ over at (now (src .entry)) (now (out .entry)) ⌝ }
 {
@@ -52,7 +52,7 @@ fn fill_fitting(out: &mut [u8], at: usize, n: usize, b: u8)
     }
 }
 
-// The byte b stands n times from index at on. Nothing changes where that does not fit.
+// The byte b stands n times from the index on. Nothing changes where that does not fit.
 pub fn fill(out: &mut [u8], at: usize, n: usize, b: u8)
     ensures { λ _. ⌜ now (out .exit) ≡ over at (replicate n b) (now (out .entry)) ⌝ }
 {
@@ -63,7 +63,7 @@ pub fn fill(out: &mut [u8], at: usize, n: usize, b: u8)
     }
 }
 
-// n zeros stand from index at on. Nothing changes where they do not fit.
+// n zeros stand from the index on. Nothing changes where they do not fit.
 pub fn clear(out: &mut [u8], at: usize, n: usize)
     ensures { λ _. ⌜ now (out .exit) ≡ over at (replicate n 0) (now (out .entry)) ⌝ }
 {
@@ -91,7 +91,7 @@ pub fn equal(a: &[u8], b: &[u8]) -> bool
     alike
 }
 
-// All of text at the front of out, and its length; or 11 and nothing changed.
+// All of a text at the front of out, and its length; or 11 and nothing changed.
 //
 // This is the whole answer of a call that writes what was put together elsewhere.
 pub fn give(text: &[u8], out: &mut [u8]) -> Wrote

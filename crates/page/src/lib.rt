@@ -19,7 +19,7 @@ pub enum PageCount {
     Refused { no: u8 },
 }
 
-// How many pages of size bytes hold a ciphertext of n bytes; or 19, then 9.
+// How many pages of this size hold a ciphertext of n bytes; or 19, then 9.
 pub fn count(n: usize, size: usize) -> PageCount
     ensures { λ r. ⌜ told r ≡ countOf n size ⌝ }
 {

@@ -53,7 +53,7 @@ pub extern "C" fn stilt_offer(c: &mut [u8], frame: &[u8]) -> u64
 }
 
 // What `collection::join` does, for C: its answer as one number, and the bytes that it leaves in
-// into.
+// the first collection.
 #[no_mangle]
 pub extern "C" fn stilt_join(into: &mut [u8], from: &[u8]) -> u64
     ensures { λ r. ⌜ r ≡ packedAnswer (answerOf (joining (now (into .entry)) (now (from .entry)))) ⌝ }

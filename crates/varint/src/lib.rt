@@ -72,7 +72,7 @@ fn read_later(s: &[u8], from: usize, low: u64) -> NumberRead
     }
 }
 
-// The number at position at and the position past it; or 3 or 7. What is written reads back
+// The number at the position, and the position past it; or 3 or 7. What is written reads back
 // whatever follows (`reads-back`); what is read is the written form (`read-stands`). Past the end
 // of s the answer is 3.
 pub fn read(s: &[u8], at: usize) -> NumberRead
@@ -120,7 +120,7 @@ fn write_fitting(n: u64, out: &mut [u8], at: usize)
     out[i] = m as u8;
 }
 
-// The one form of n from index at of out on, and its length; or 11 and nothing changed.
+// The one form of n in out from the index on, and its length; or 11 and nothing changed.
 pub fn write(n: u64, out: &mut [u8], at: usize) -> Wrote
     ensures { λ r. ⌜ Written at (done (varint n)) (now (out .entry)) (now (out .exit)) r ⌝ }
 {
