@@ -2,7 +2,7 @@
 ghost use mathlib.Core.Path.{_≡_};
 ghost use Rattle.document_id.specs.Id.{documentId};
 
-// The id of the document: the front 8 bytes of the BLAKE2b of the whole ciphertext.
+// The id of the document: the first 8 bytes of the BLAKE2b of the whole ciphertext.
 pub fn of(ciphertext: &[u8]) -> [u8; wire::ID_SIZE]
     ensures { λ r. ⌜ r ≡ documentId (now (ciphertext .entry)) ⌝ }
 {

@@ -133,8 +133,8 @@ pub fn close(s: Session, line: &[u8], c: &mut [u8]) -> Session
     end_line(s, line, c)
 }
 
-// The one status line, or `refused 19` where no id was named, at the front of out, and its length;
-// or 11 and nothing changed.
+// The one status line, or `refused 19` where the session does not collect, at the front of out, and
+// its length; or 11 and nothing changed.
 pub fn report(s: Session, c: &[u8], out: &mut [u8]) -> Wrote
     ensures { λ r. ⌜ Written 0 (done (reported (s .phase) (now (c .entry)))) (now (out .entry)) (now (out .exit)) r ⌝ }
 {
