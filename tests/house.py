@@ -1,20 +1,22 @@
-"""What the definitions of all specs cite, and the contracts of all functions: who leads to what."""
+"""The contracts of the functions, and the definitions of specs/: what each cites, and what cites
+each."""
 import os
 import re
+import sys
 
-from definitions import ROOT, files, words
-from sources import ANY, METHODS, PUBLIC, rattle_files
+ROOT = os.path.dirname(os.path.dirname(os.path.realpath(__file__)))
+sys.path.insert(0, os.path.join(ROOT, "tests"))
+from definitions import files, in_order  # noqa: E402
+from sources import ANY, METHODS, PUBLIC, rattle_files  # noqa: E402
 
 CONTRACT = re.compile(r"^\s*(?:requires|ensures) \{(.*)\}$", re.MULTILINE)
 PARAMETER = re.compile(r"(\w+):")
 PROGRAMS = {path for path, program in rattle_files(ROOT) if program}
-with open(os.path.join(ROOT, "docs", "PROMISES.md"), encoding="utf-8") as promises:
-    NAMED = set(re.findall(r"`(\S+?)`", promises.read()))
 
 
 def contracts(path):
-    """Each function of a source: its name, behind that of its type where it is a method, whether it is public, and the words of its contract but for its own
-    parameters."""
+    """Each function of a source: its name, behind that of its type where it is a method, whether it
+    is public, and in their order the words of its contract but for its own parameters."""
     lines, owner = open(path, encoding="utf-8").read().split("\n"), ""
     for number, line in enumerate(lines):
         impl = METHODS.match(line)
@@ -24,33 +26,38 @@ def contracts(path):
             end += 1
         if found:
             head = "\n".join(lines[number:end])
-            yield owner + found[1], bool(PUBLIC.match(line)), words(" ".join(CONTRACT.findall(head))) - set(PARAMETER.findall(head))
+            own = set(PARAMETER.findall(head))
+            said = [word for word in in_order(" ".join(CONTRACT.findall(head))) if word not in own]
+            yield owner + found[1], bool(PUBLIC.match(line)), said
 
 
 class House:
-    """The definitions of all specs, what each cites, and what cites each."""
+    """The definitions of all specs, what each cites, and what cites each. A law whose name is one
+    of those given is one that a reader must understand."""
 
-    def __init__(self):
+    def __init__(self, named=()):
         self.defined, self.types, self.cites, self.by = {}, {}, {}, {}
-        self.public, self.private = set(), set()
-        every = list(files())
-        for file in (file for file in every if file.place[1].startswith("specs.")):
-            self.defined |= {(*file.place, name): (file, definition) for name, definition in file.definitions.items()}
-            self.types |= {(*file.place, name): (*file.place, data) for name, data in file.constructors.items()}
-        for file in every:
+        self.public, self.private, self.named = set(), set(), named
+        self.files = {file.path: file for file in files()}
+        for file in self.files.values():
+            if file.place[1].startswith("specs."):
+                self.defined |= {(*file.place, name): (file, d) for name, d in file.definitions.items()}
+                self.types |= {(*file.place, name): (*file.place, d) for name, d in file.constructors.items()}
+        for file in self.files.values():
             self.take_in(file)
         for here, there in self.cites.items():
             for name in there:
                 self.by.setdefault(name, []).append(here)
 
     def take_in(self, file):
-        """Notes what the definitions and the contracts of a file cite, and from which of them all begins."""
+        """Notes what the definitions and the contracts of a file cite, and from which of them all
+        begins."""
         for name, definition in file.definitions.items():
             here = (*file.place, name)
             self.cites[here] = self.meant(file, definition.words) - {here}
             if here in self.defined:
                 self.public |= {here} if here[0] == "promises" or definition.marked else set()
-            elif definition.marked or name in NAMED:
+            elif definition.marked or name in self.named:
                 self.cites[(*here, "stated")] = self.meant(file, definition.stated)
                 self.public.add((*here, "stated"))
         for name, public, said in contracts(file.path) if file.path.endswith(".rt") else ():

@@ -9,7 +9,7 @@ copied() {
 }
 
 # attempt FOLDER CRATE EDIT..: tries these edit files of a crate in the copy. It fails where one is
-# not refused, or not for what its row in docs/PROMISES.md says
+# not refused, or not for what its first lines say
 attempt() {
     local folder=$1 crate=$2
     shift 2

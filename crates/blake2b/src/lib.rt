@@ -263,7 +263,9 @@ fn last_block(n: usize) -> usize
     (n - 1) / 128
 }
 
-// 3.3: the hash of a message of any length.
+// The BLAKE2b of s, of any length: no key, a digest of 32 bytes.
+//
+// Section 3.3.
 pub fn blake2b(s: &[u8]) -> [u8; 32]
     ensures { λ r. ⌜ r ≡ B.blake2b (now (s .entry)) ⌝ }
 {

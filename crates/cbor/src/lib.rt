@@ -1,4 +1,7 @@
-// CBOR items (RFC 8949), read at a position of the input and written at a position of lent output: document 01, "CBOR payloads".
+// CBOR items (RFC 8949), read at a position of the input and written at a position of lent output.
+//
+// What is written reads back whatever follows it, and what is read is exactly the written form of
+// its value: for each item in proofs/Written.antt and proofs/Only.antt.
 pub mod read;
 mod short;
 pub mod write;
@@ -14,7 +17,9 @@ pub enum HeadRead {
 }
 
 impl HeadRead {
-    // The number of a refusal, for a caller's `else`.
+    // The number of the refusal to read a head; 0 where one was read.
+    //
+    // For a caller's `else`.
     pub fn no(self) -> u8
         ensures { λ n. ⌜ n ≡ numberOf (headTold self) ⌝ }
     {
@@ -38,6 +43,7 @@ pub enum StringRead {
 }
 
 impl StringRead {
+    // The number of the refusal to read a string; 0 where one was read.
     pub fn no(self) -> u8
         ensures { λ n. ⌜ n ≡ numberOf (stringTold self) ⌝ }
     {

@@ -1,4 +1,4 @@
-// One file of a manifest, read at a position of the input and written at a position of lent output: document 01, "CBOR payloads".
+// One file of a manifest, read at a position of the input and written at a position of lent output.
 pub mod read;
 pub mod write;
 
@@ -46,6 +46,7 @@ pub enum FileRead {
 }
 
 impl FileRead {
+    // The number of the refusal to read a file; 0 where one was read.
     pub fn no(self) -> u8
         ensures { λ n. ⌜ n ≡ numberOf (fileTold self) ⌝ }
     {

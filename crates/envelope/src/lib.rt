@@ -1,4 +1,7 @@
-// The envelope, read and written: document 01, "CBOR payloads". Its outer layout is the crate cover's.
+// The envelope, read and written. Its outer layout is the crate cover's.
+//
+// What is written reads back, and what is read is exactly the written form of its manifest and its
+// payload, which the writer accepts (`envelope-back`, `envelope-only`).
 mod judge;
 
 ghost use mathlib.Core.Path.{_≡_};
@@ -25,7 +28,8 @@ pub enum EnvelopeWrote {
     Refused { no: u8, place: usize },
 }
 
-// The envelope that s is, all of s.
+// Where the manifest and the payload stand in the envelope that s is, once both agree; or the
+// refusal and its place.
 pub fn read(s: &[u8]) -> EnvelopeRead
     ensures { λ r. ⌜ readTold r ≡ envelopeAt (now (s .entry)) ⌝ }
 {
@@ -53,7 +57,8 @@ fn unplaced(w: Wrote) -> EnvelopeWrote
     }
 }
 
-// The envelope of a manifest's bytes and a payload, at the front of out.
+// The envelope of a manifest's bytes and its payload at the front of out; or 9, the manifest's
+// refusal, 21 and its place, 11, and nothing changed.
 pub fn write(manifest: &[u8], payload: &[u8], out: &mut [u8]) -> EnvelopeWrote
     ensures { λ r. ⌜ EnvelopeWritten (verdict (now (manifest .entry)) (now (payload .entry))) (now (out .entry)) (now (out .exit)) r ⌝ }
 {

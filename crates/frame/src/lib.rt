@@ -1,4 +1,7 @@
-// One frame, read and laid out: document 01, "Frames".
+// A single frame: how it is read, and how one is laid out.
+//
+// A laid-out frame reads back as its parts (`reads-back`), and a frame that is read is exactly the
+// layout of its parts (`only-layouts`).
 mod fields;
 mod form;
 
@@ -37,7 +40,9 @@ pub enum FrameRead {
 }
 
 impl FrameRead {
-    // The number of a refusal, for a caller's `else`.
+    // The number of the refusal to read a frame; 0 where one was read.
+    //
+    // For a caller's `else`.
     pub fn no(self) -> u8
         ensures { λ n. ⌜ n ≡ numberOf (told self) ⌝ }
     {
@@ -99,7 +104,9 @@ fn judge(kind: u8, index: u64, total: u64, len: u64, at: usize) -> FrameRead
     }
 }
 
-// The frame that s is, all of s.
+// Of the frame that s is its type, INDEX, TOTAL and where its data stand; or the first fault from
+// left to right, which is 4, then 5 or 7, then 6, then 7, with 3 where s ends too soon or too late;
+// after these 10, 8, 9.
 pub fn read(s: &[u8]) -> FrameRead
     ensures { λ r. ⌜ told r ≡ frameOf (now (s .entry)) ⌝ }
 {
@@ -124,7 +131,8 @@ pub fn read(s: &[u8]) -> FrameRead
     judge(kind, index, total, len, b)
 }
 
-// The frame of these parts, whatever they are, at the front of out.
+// The frame of these parts, whatever they are, at the front of out, and its length; or 11 and
+// nothing changed.
 pub fn lay(
     kind: u8,
     id: &[u8; wire::ID_SIZE],

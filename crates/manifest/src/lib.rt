@@ -1,4 +1,8 @@
-// The manifest, read and written: document 01, "CBOR payloads".
+// The manifest, read and written.
+//
+// What is written reads back, and what is read is exactly the written form of its value, which the
+// writer accepts (`manifest-back`, `manifest-only`, `manifest-once`: manifest, Rounds). A manifest
+// that its writer accepts has at most 16,384 bytes.
 mod fields;
 mod files;
 mod form;
@@ -138,7 +142,8 @@ fn refusal(no: u8) -> ManifestRead
     }
 }
 
-// The whole payload.
+// The whole value of the manifest that s is, every field of it; or the refusal of the first
+// offending item, 9 before all else.
 pub fn read(s: &[u8]) -> ManifestRead
     ensures { λ r. ⌜ r ≡ answerFor (manifestAt (now (s .entry))) ⌝ }
 {
@@ -177,8 +182,11 @@ pub fn read(s: &[u8]) -> ManifestRead
     }
 }
 
-// Writes the first `count` files of m with the rest of it. Its places are in the pool, so what `read` answered is written by
-// the same bytes with the input as the pool.
+// The manifest of m, with the first `count` of its files, at the front of out; or 19, 20, then 9,
+// then 11, and nothing changed.
+//
+// Its places are in the pool, so what `read` answered is written by the same bytes with the input
+// as the pool.
 pub fn write(pool: &[u8], m: Manifest, out: &mut [u8]) -> Wrote
     ensures { λ r. ⌜ Written 0 (manifestVerdict (now (pool .entry)) m) (now (out .entry)) (now (out .exit)) r ⌝ }
 {

@@ -317,6 +317,8 @@ fn digest(s: State) -> [u8; 32]
     d
 }
 
+// The SHA-256 of s, of any length.
+//
 // The whole blocks of s are hashed where they stand, and only the rest is padded in a buffer.
 pub fn sha256(s: &[u8]) -> [u8; 32]
     ensures { λ r. ⌜ r ≡ S.sha256 (now (s .entry)) ⌝ }

@@ -1,4 +1,4 @@
-// Unsigned varints: document 01, "Varints and texts". Only the shortest form of a number is read or written.
+// Unsigned varints, seven bits a byte. Only the shortest form of a number is read or written.
 use wire::NumberRead;
 use wire::Wrote;
 ghost use mathlib.Core.Path.{_≡_};
@@ -73,7 +73,9 @@ fn read_later(s: &[u8], from: usize, low: u64) -> NumberRead
     }
 }
 
-// The number at position at. Past the end of s the input ends inside it.
+// The number at the position, and the position past it; or 3 or 7. What is written reads back
+// whatever follows (`reads-back`); what is read is the written form (`read-stands`). Past the end
+// of s the answer is 3.
 pub fn read(s: &[u8], at: usize) -> NumberRead
     ensures { λ r. ⌜ numberTold r ≡ varintAt (now (s .entry)) at ⌝ }
 {
@@ -92,7 +94,8 @@ pub fn read(s: &[u8], at: usize) -> NumberRead
     read_later(s, at + 1, first % 128)
 }
 
-// How many bytes a number takes: one for each seven bits up to its highest set bit. 0 has no set bit, and takes one.
+// How many bytes n takes: one for each seven bits up to its highest set bit
+// (`varint-length-from-leading-zeros`). 0 has no set bit, and takes one.
 pub fn size(n: u64) -> usize
     ensures { λ r. ⌜ r ≡ length (varint n) ⌝ }
 {
@@ -120,7 +123,7 @@ fn write_fitting(n: u64, out: &mut [u8], at: usize)
     out[i] = m as u8;
 }
 
-// The form of n, from index at of out on.
+// The one form of n in out from the index on, and its length; or 11 and nothing changed.
 pub fn write(n: u64, out: &mut [u8], at: usize) -> Wrote
     ensures { λ r. ⌜ Written at (done (varint n)) (now (out .entry)) (now (out .exit)) r ⌝ }
 {

@@ -1,6 +1,6 @@
-// What every crate of Stiltbasket shares: the numbers that a call may answer, the house sizes, the answers of calls that read and write,
-// and where bytes stand.
-// The definitions that contracts cite are in specs/, their laws in proofs/.
+// What every crate of Stiltbasket shares: the numbers that a call may answer, the house sizes, the
+// answers of calls that read and write, and where bytes stand. The definitions that contracts cite
+// are in specs/, their laws in proofs/.
 ghost use mathlib.Core.Path.{_≡_};
 ghost use Rattle.wire.specs.Answer.{numberOf};
 ghost use Rattle.wire.specs.Reading.{stepTold, numberTold};
@@ -101,7 +101,9 @@ pub enum StepRead {
 }
 
 impl StepRead {
-    // The number of a refusal, for a caller's `else`.
+    // The number of the refusal to read one thing; 0 where it was read.
+    //
+    // For a caller's `else`.
     pub fn no(self) -> u8
         ensures { λ n. ⌜ n ≡ numberOf (stepTold self) ⌝ }
     {
@@ -118,6 +120,7 @@ pub enum NumberRead {
 }
 
 impl NumberRead {
+    // The number of the refusal to read a number; 0 where one was read.
     pub fn no(self) -> u8
         ensures { λ n. ⌜ n ≡ numberOf (numberTold self) ⌝ }
     {
