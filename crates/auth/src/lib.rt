@@ -1,4 +1,4 @@
-// The auth payload, read and written, and the bytes that get signed.
+// The auth payload, read and written, and the bytes that get signed: section 11 of docs/RULES.md.
 //
 // What is written reads back, and what is read is exactly the written form of its value
 // (`auth-back`, `auth-only`, `auth-once`: auth, Rounds). The payload has 157 bytes (`auth-length`:

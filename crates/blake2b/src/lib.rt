@@ -1,4 +1,4 @@
-// BLAKE2b with no key and a digest of 32 bytes: RFC 7693, whose sections the comments name.
+// BLAKE2b with no key and a digest of 32 bytes (R7.1): RFC 7693, whose sections the comments name.
 ghost use mathlib.Core.Path.{_≡_};
 ghost use mathlib.Core.List.{_++_};
 ghost use Prim.Native.Nat.{_+_, _-_, _*_, _<_, _≤_};

@@ -1,4 +1,4 @@
-// The blocks of a collection. Each function takes any arguments.
+// The blocks of a collection: R8.2, R8.4 and R8.5. Each function takes any arguments.
 ghost use mathlib.Core.Path.{_≡_};
 ghost use mathlib.Core.Bool.{_&&_};
 ghost use mathlib.Core.List.{[], _∷_};

@@ -1,6 +1,6 @@
-// A collection as a whole: its head block, and 96 page blocks behind it. Each public function takes
-// any arguments. Nobody else knows where in the head its parts stand, or decides that a collection
-// is refused.
+// A collection as a whole: its head block, and 96 page blocks behind it (section 8 of
+// docs/RULES.md). Each public function takes any arguments. Nobody else knows where in the head its
+// parts stand, or decides that a collection is refused.
 //
 // Well formed is exactly what the rules say, both ways (`encode-ok`, `decoded`: book, Round and
 // Decode).

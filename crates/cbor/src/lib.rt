@@ -1,4 +1,5 @@
-// CBOR items (RFC 8949), read at a position of the input and written at a position of lent output.
+// CBOR items (RFC 8949; section 10 of docs/RULES.md), read at a position of the input and written
+// at a position of lent output.
 //
 // What is written reads back whatever follows it, and what is read is exactly the written form of
 // its value: for each item in proofs/Written.antt and proofs/Only.antt.

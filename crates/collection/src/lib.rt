@@ -1,6 +1,6 @@
-// Open, offer and join over the bytes of a collection, which are also the saved file. Each public
-// function takes any arguments. Nothing is written before every check has passed, and then only the
-// blocks that change.
+// Open, offer and join over the bytes of a collection, which are also the saved file: R9.1 to R9.8.
+// Each public function takes any arguments. Nothing is written before every check has passed, and
+// then only the blocks that change.
 //
 // Whatever is offered and joined, in any order and grouping, with repeats, bad scans and strangers'
 // pages, the saved bytes are those of the set (`saved`, `saved-set`, `list-saved`, `list-joined`:

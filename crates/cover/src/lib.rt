@@ -1,5 +1,5 @@
-// The outer layout of an envelope, read and laid out. What its two parts hold is judged by the
-// crate envelope.
+// The outer layout of an envelope, read and laid out: R14.1 and R14.2. What its two parts hold is
+// judged by the crate envelope.
 //
 // What is laid out reads back, and what is read is exactly the layout of its parts (`cover-back`,
 // `cover-only`).

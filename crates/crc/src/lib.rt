@@ -1,5 +1,5 @@
-// CRC-32/ISO-HDLC: the checksum of a frame and of a block of the collection. The definition takes
-// one bit at a time; here eight leave the register at once, by a table.
+// CRC-32/ISO-HDLC: the checksum of a frame (R6.3) and of a block of the collection (R8.2). The
+// definition takes one bit at a time; here eight leave the register at once, by a table.
 mod table;
 
 ghost use mathlib.Core.Path.{_≡_};

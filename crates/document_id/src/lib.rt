@@ -1,4 +1,4 @@
-// The id of a document. Printing and finishing both compute it.
+// The id of a document (R7.1). Printing and finishing both compute it.
 ghost use mathlib.Core.Path.{_≡_};
 ghost use Rattle.document_id.specs.Id.{documentId};
 

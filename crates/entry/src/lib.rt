@@ -1,4 +1,5 @@
-// One file of a manifest, read at a position of the input and written at a position of lent output.
+// One file of a manifest (R13.5), read at a position of the input and written at a position of lent
+// output.
 pub mod read;
 pub mod write;
 

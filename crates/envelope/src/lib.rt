@@ -1,4 +1,5 @@
-// The envelope, read and written. Its outer layout is the crate cover's.
+// The envelope, read and written: section 14 of docs/RULES.md. Its outer layout is the crate
+// cover's.
 //
 // What is written reads back, and what is read is exactly the written form of its manifest and its
 // payload, which the writer accepts (`envelope-back`, `envelope-only`).

@@ -1,5 +1,5 @@
-// Finish: the ciphertext of a complete collection. When a set of pages gives it is said in the
-// crate model.
+// Finish: the ciphertext of a complete collection (R9.10). When a set of pages gives it is said in
+// the crate model.
 ghost use mathlib.Core.Path.{_≡_};
 ghost use Prim.Native.Nat.{_≤_};
 ghost use lib.ListN.{length};

@@ -1,4 +1,4 @@
-// A single frame: how it is read, and how one is laid out.
+// A single frame, how it is read and how one is laid out: section 6 of docs/RULES.md.
 //
 // A laid-out frame reads back as its parts (`reads-back`), and a frame that is read is exactly the
 // layout of its parts (`only-layouts`).

@@ -1,4 +1,4 @@
-// The manifest, read and written.
+// The manifest, read and written: section 13 of docs/RULES.md.
 //
 // What is written reads back, and what is read is exactly the written form of its value, which the
 // writer accepts (`manifest-back`, `manifest-only`, `manifest-once`: manifest, Rounds). A manifest

@@ -1,4 +1,5 @@
-// What a frame and an envelope begin with: magic, which the caller gives, and version 1.
+// What a frame and an envelope begin with: magic, which the caller gives, and version 1 (R6.1,
+// R14.1).
 //
 // What is laid out is read (`mark-reads`), and what is read is exactly that (`mark-was`).
 ghost use mathlib.Core.Path.{_≡_};

@@ -1,5 +1,5 @@
-// Mend, for a damaged file. What it leaves is well formed, what was well formed is untouched, and
-// nothing is invented (mend, Mends).
+// Mend, for a damaged file (R9.11). What it leaves is well formed, what was well formed is
+// untouched, and nothing is invented (mend, Mends).
 ghost use mathlib.Core.Path.{_≡_};
 ghost use mathlib.Core.Bool.{true};
 ghost use mathlib.Core.List.{_++_};

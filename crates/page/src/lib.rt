@@ -1,4 +1,4 @@
-// The pages of a document, each as a frame or as one of its two texts.
+// The pages of a document, each as a frame or as one of its two texts: section 7 of docs/RULES.md.
 //
 // The data of the pages in index order are the ciphertext (`pages-join`), a page before the last
 // has its whole size (`page-full`), each has at least one byte (`page-some`), and each reads back

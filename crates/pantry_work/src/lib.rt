@@ -1,5 +1,6 @@
 // What the pantry does between reading and printing: a saved collection is taken up again, and the
-// ciphertext, or why there is none yet, is laid out. Each public function takes any arguments.
+// ciphertext, or why there is none yet, is laid out: R15.6 and R15.7. Each public function takes
+// any arguments.
 //
 // The ciphertext is answered exactly when the set of pages is complete and its id is the document's
 // (`ending-data`, `prints-data`: pantry_work, Demand); a complete set of another id prints

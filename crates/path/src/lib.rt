@@ -1,4 +1,5 @@
-// Which paths a manifest may name, and their order. Ticket 6 made the rule narrower.
+// Which paths a manifest may name, and their order: section 12 of docs/RULES.md. Ticket 6 made the
+// rule narrower.
 //
 // A text is its parts joined by slashes, and parts without a slash, so joined, are the parts of the
 // text (`joined-parts`, `parts-joined`). Taken below any folder, an allowed path stays below it: no

@@ -1,4 +1,4 @@
-// Key and auth frames. Each carries one payload that its reader accepts.
+// Key and auth frames (R7.5). Each carries one payload that its reader accepts.
 //
 // Such a frame reads back as its type, id and payload, the first of one, and carries only what the
 // payload's reader accepts (`payload-frame-reads`, `payload-frame-carried`: payload_frame, Round).

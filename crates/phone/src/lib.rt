@@ -1,5 +1,6 @@
-// The four functions that the phone app, written in C, calls. include/stiltbasket.h declares them
-// and takes their one number apart. A slice passes as a pointer and a length.
+// The four functions that the phone app, written in C, calls: section 16 of docs/RULES.md.
+// include/stiltbasket.h declares them and takes their one number apart. A slice passes as a pointer
+// and a length.
 ghost use mathlib.Core.Path.{_≡_};
 ghost use Prim.Native.Nat.{_≤_};
 ghost use Rattle.wire.specs.Answer.{bytesAfter, answerOf};

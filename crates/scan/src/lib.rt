@@ -1,4 +1,4 @@
-// What the small program does with the lines that it reads.
+// What the small program does with the lines that it reads: R15.1 to R15.3.
 //
 // It is a session, byte by byte, so that where its input is cut into parts cannot matter
 // (`fed-append`: scan, Inputs). Of a whole input it is said what the rules say (scan, Input): cut

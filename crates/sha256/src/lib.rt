@@ -1,4 +1,4 @@
-// SHA-256, FIPS 180-4, of any slice of bytes.
+// SHA-256, FIPS 180-4, of any slice of bytes (R14.5).
 ghost use mathlib.Core.Path.{_≡_};
 ghost use Prim.Native.Nat.{_+_, _-_, _*_, _/_, _%_, _^_, _<_, _≤_};
 ghost use lib.ListN.{length, take, drop, getD};

@@ -1,4 +1,4 @@
-// The shard payload, read and written, and the bytes that get signed.
+// The shard payload, read and written, and the bytes that get signed: section 11 of docs/RULES.md.
 //
 // What is written reads back, and what is read is exactly the written form of its value, which the
 // writer accepts (`shard-back`, `shard-only`, `shard-once`: shard, Rounds).

@@ -1,5 +1,5 @@
-// A document as it is printed. One form is what the small program reads back, the other the text
-// that is typed where no square can be read.
+// A document as it is printed (R15.4). One form is what the small program reads back, the other the
+// text that is typed where no square can be read.
 //
 // A page's text reads back as its frame (`scan-reads`, `typed-reads`: sheet, OneLine), no line has
 // a line feed inside, and with `sheet::ROOM` bytes lent 11 is never the answer (`scan-room`,

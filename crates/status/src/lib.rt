@@ -1,4 +1,4 @@
-// The status line of a collection.
+// The status line of a collection: R9.12 and R9.13.
 ghost use mathlib.Core.Path.{_≡_};
 ghost use Prim.Native.Nat.{_+_, _≤_};
 ghost use lib.ListN.{length};

@@ -1,5 +1,5 @@
-// Base64 and z-base-32, read and written. One code serves both forms: a form is the number of bits
-// of a character, w, and its two tables.
+// Base64 and z-base-32, read and written: section 5 of docs/RULES.md. One code serves both forms: a
+// form is the number of bits of a character, w, and its two tables.
 //
 // Both round trips are in proofs/Round.antt, once for every form: `read-written` (reading what was
 // written gives the bytes) and `written-read` (a text that is read is, with the skipped characters

@@ -1,4 +1,5 @@
-// Unsigned varints, seven bits a byte. Only the shortest form of a number is read or written.
+// Unsigned varints, seven bits a byte: section 4 of docs/RULES.md. Only the shortest form of a
+// number is read or written.
 use wire::NumberRead;
 use wire::Wrote;
 ghost use mathlib.Core.Path.{_≡_};

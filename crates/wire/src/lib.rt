@@ -1,6 +1,6 @@
-// What every crate of Stiltbasket shares: the numbers that a call may answer, the house sizes, the
-// answers of calls that read and write, and where bytes stand. The definitions that contracts cite
-// are in specs/, their laws in proofs/.
+// What every crate of Stiltbasket shares: the numbers that a call may answer (R2.2), the house
+// sizes (section 3 of docs/RULES.md), the answers of calls that read and write, and where bytes
+// stand. The definitions that contracts cite are in specs/, their laws in proofs/.
 ghost use mathlib.Core.Path.{_≡_};
 ghost use Rattle.wire.specs.Answer.{numberOf};
 ghost use Rattle.wire.specs.Reading.{stepTold, numberTold};
