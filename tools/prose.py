@@ -1,4 +1,4 @@
-"""Where prose stands in a file: the whole of a page of Markdown, and the comments of a source.
+"""Prose as lines, and where it stands in a file: all of a page of Markdown, the comments of a source.
 
 A Block is a run of lines that is wrapped by itself. Its first line begins with `first`, and each
 other one with `lead`: what stands behind that is its text. A `box` is a C comment of one line.
@@ -14,11 +14,40 @@ WIDTH = 100
 Block = namedtuple("Block", "begin end first lead kind")
 COMMENT, PAGE, BOX = "comment", "page", "box"
 
+# Never broken: a span of code, the target of a link, and words that are looked for.
+ATOM = re.compile(r"(?:(`+)(?:(?!\1).)+?\1(?!`)|\]\([^)]*\)|For the reader|Assumes nothing|\S)+")
+# What may not begin a line, since it would make it an item, a heading, a quote, a row or a rule.
+LEADS = re.compile(r"(?:-+|=+|[*+]|\d+[.)]|[#>|].*|`{3,}.*|~{3,}.*)$")
 MARKS = {".rt": "//", ".c": "//", ".h": "//", ".antt": "--", ".py": "#", ".sh": "#", ".txt": "#"}
 OPENS = re.compile(r'[A-Za-z]*("""|\'\'\'|"|\')')
 IN_C = re.compile(r"""/\*.*?\*/|//[^\n]*|"(?:\\.|[^"\\\n])*"|'(?:\\.|[^'\\\n])*'""", re.DOTALL)
 IN_EDIT = re.compile(r"(?:wrong|says|falls):")
 HERE = re.compile(r"<<-?\s*(['\"]?)(\w+)\1")
+
+
+def atoms(text):
+    """What stays whole when a text is broken into lines."""
+    found = []
+    for atom in (match[0] for match in ATOM.finditer(text)):
+        if found and LEADS.match(atom):
+            found[-1] += f" {atom}"
+        else:
+            found.append(atom)
+    return found
+
+
+def filled(text, first, rest):
+    """A text as lines that are not too long where that can be."""
+    lines, line = [], None
+    for atom in atoms(text):
+        if line is None:
+            line = first + atom
+        elif len(line) + 1 + len(atom) <= WIDTH:
+            line += f" {atom}"
+        else:
+            lines.append(line)
+            line = rest + atom
+    return [*lines, line]
 
 
 def ending(path):
