@@ -1,16 +1,19 @@
 /*
  * Stiltbasket for the phone: collecting the scanned pages of one document.
  *
- * A collection is 49,664 bytes that you lend. They are also the saved file: write them out as they are to save, read them back
- * to go on. Nothing else is kept anywhere, so the four functions may be called from any thread, each on its own bytes.
+ * A collection is 49,664 bytes that you lend. They are also the saved file: write them out as they
+ * are to save, read them back to go on. Nothing else is kept anywhere, so the four functions may be
+ * called from any thread, each on its own bytes.
  *
- * Every function takes any bytes at all. A call that is refused changes no byte that it was lent; one that is done changes only what its
- * comment names. What you must see to is that each slice is memory of yours of at least that length, and that the slices of one
- * call do not overlap. A slice of length 0 may be null.
+ * Every function takes any bytes at all. A call that is refused changes no byte that it was lent;
+ * one that is done changes only what its comment names. What you must see to is that each slice is
+ * memory of yours of at least that length, and that the slices of one call do not overlap. A slice
+ * of length 0 may be null.
  *
  * Each function answers one number, read by the three functions at the end of this file:
  *     stilt_number   0 where the call is done, else why it was refused (the numbers are below)
- *     stilt_place    the index of a page, counted from 0, with 15 and 16; what became of the page, with 0 from stilt_offer
+ *     stilt_place    the index of a page, counted from 0, with 15 and 16; what became of the
+ *                    page, with 0 from stilt_offer
  *     stilt_count    how many bytes were written, with 0 from stilt_finish; else 0
  *
  * Link with target/staticlib/libphone.a, which `rt staticlib phone` writes. It holds x86-64 code.
@@ -45,13 +48,13 @@ extern "C" {
 #define STILT_INDEX 8            /* a frame's index or total cannot be */
 #define STILT_SIZE 9             /* a frame of more than 96 pages or 480 bytes */
 #define STILT_CHECKSUM 10        /* a frame was misread */
-#define STILT_NO_ROOM 11         /* the output is too short; for stilt_open: not exactly 49,664 bytes */
+#define STILT_NO_ROOM 11         /* the output is too short; for stilt_open: not 49,664 bytes */
 #define STILT_OTHER_DOCUMENT 12  /* not a page of this document; for stilt_join: two documents */
 #define STILT_BAD_COLLECTION 13  /* not a collection: another size, or a byte of it is damaged */
 #define STILT_TOTALS_DISAGREE 14 /* two scans named two totals */
-#define STILT_PAGE_DISPUTED 15   /* two scans of a page differ: stilt_place is the lowest such page */
+#define STILT_PAGE_DISPUTED 15   /* two scans of a page differ: stilt_place is the lowest */
 #define STILT_PAGE_MISSING 16    /* a page is missing: stilt_place is the lowest */
-#define STILT_OTHER_CIPHERTEXT 17 /* all pages are there, but they are not the document of this id */
+#define STILT_OTHER_CIPHERTEXT 17 /* all pages are there, but are not the document of this id */
 #define STILT_BAD_ID 19          /* the id is not 8 bytes */
 
 /*
@@ -61,23 +64,26 @@ extern "C" {
 uint64_t stilt_open(const uint8_t *id, size_t id_len, uint8_t *collection, size_t len);
 
 /*
- * Takes one scanned frame, as its raw bytes (the base64 of the code square, decoded), into the collection.
- * Offer every scan: one that was seen before changes nothing, and one that is refused changes nothing.
- * Refused with 13 where `collection` is none, then with 3 to 10 for the frame's own faults, then with 12 where it is no main frame
- * of this document. Done: stilt_place is STILT_HELD, STILT_DISPUTED or STILT_DISAGREE. Only blocks that change are written.
+ * Takes one scanned frame, as its raw bytes (the base64 of the code square, decoded), into the
+ * collection. Offer every scan: one that was seen before changes nothing, and one that is refused
+ * changes nothing. Refused with 13 where `collection` is none, then with 3 to 10 for the frame's
+ * own faults, then with 12 where it is no main frame of this document. Done: stilt_place is
+ * STILT_HELD, STILT_DISPUTED or STILT_DISAGREE. Only blocks that change are written.
  */
 uint64_t stilt_offer(uint8_t *collection, size_t len, const uint8_t *frame, size_t frame_len);
 
 /*
- * Joins the pages of `from` into `into`: what two piers scanned of one document. `from` is only read.
- * Refused with 13 where either is no collection, then with 12 where they are of two documents.
+ * Joins the pages of `from` into `into`: what two piers scanned of one document. `from` is only
+ * read. Refused with 13 where either is no collection, then with 12 where they are of two
+ * documents.
  */
 uint64_t stilt_join(uint8_t *into, size_t into_len, const uint8_t *from, size_t from_len);
 
 /*
- * Writes the whole ciphertext to the front of `out`, where every page is there and it is the document of this id.
- * 46,080 bytes of `out` are always enough. Done: stilt_count is how many were written. Refused, in this order, with 13, 14, 15 and 16
- * (with the page in stilt_place; an empty collection lacks page 0), 11, 17.
+ * Writes the whole ciphertext to the front of `out`, where every page is there and it is the
+ * document of this id. 46,080 bytes of `out` are always enough. Done: stilt_count is how many were
+ * written. Refused, in this order, with 13, 14, 15 and 16 (with the page in stilt_place; an empty
+ * collection lacks page 0), 11, 17.
  */
 uint64_t stilt_finish(const uint8_t *collection, size_t len, uint8_t *out, size_t out_len);
 
