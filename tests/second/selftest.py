@@ -255,9 +255,10 @@ def bounds_of_manifests():
 
     for length, number in ((0, 20), (1, 0), (200, 0), (201, 20)):  # R3.5
         same(judged(plain._replace(files=(entry._replace(path=b"p" * length),))), number)
+    # names and what is none (R12.2), and byte 00 (R12.3)
     for path, number in ((b"lists/../../pier", 20), (b"..", 20), (b"a/.", 20), (b"a/", 20),
                          (b"/a", 20), (b"a//a", 20), (b"a\0", 20), (b"..a", 0), (b"a..", 0),
-                         (b"...", 0), (b".a", 0)):  # R12.2, R12.3
+                         (b"...", 0), (b".a", 0)):
         same(judged(plain._replace(files=(entry._replace(path=path),))), number)
     for count, number in ((0, 19), (1, 0), (64, 0), (65, 19)):  # R3.4
         files = tuple(entry._replace(path=b"%02d" % i) for i in range(count))
