@@ -1,9 +1,10 @@
-// The file in which the pantry keeps a collection between runs. A function that answers a u8 answers 0 or the number of a refusal: `pantry_work`'s
-// own, or 11 for a file that the system does not let us read or write.
+// The file in which the pantry keeps a collection between runs (R15.7). A function that answers a
+// u8 answers 0 or the number of a refusal: `pantry_work`'s own, or 11 for a file that the system
+// does not let us read or write.
 use collection::Answered;
 use scan::session::Session;
 
-// One byte more than a collection has, so that a longer file shows.
+// One byte more than a collection has, so that a longer file shows and is 13 (R15.7).
 const ENOUGH: usize = wire::COLLECTION_SIZE + 1;
 
 // What a new file's name has behind that of the file: the system puts letters for the X, so that no other file has the name.
@@ -49,7 +50,8 @@ fn fill(fd: i32, c: &[u8]) -> bool {
     closed == 0
 }
 
-// A new file is written beside the old one and put in its place once it is whole, so that a crash leaves the one or the other.
+// A new file is written beside the old one and put in its place once it is whole, so that a crash
+// leaves the one or the other, and a refusal the old one (R15.7).
 fn replace(beside: &mut [u8], name: &[u8], c: &[u8]) -> u8 {
     let fd = os::create_temp(beside);
     if fd < 0 {
