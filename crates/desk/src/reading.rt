@@ -3,6 +3,7 @@ ghost use Prim.Native.Nat.{_+_, _≤_};
 ghost use lib.ListN.{length};
 use libc::STDIN_FILENO;
 
+// A longer line is not understood (D1.5).
 pub(crate) const LINE_MOST: usize = 262_144;
 
 // How much one read asks for.
@@ -34,8 +35,8 @@ fn shift(input: &mut [u8], at: usize, n: usize)
     }
 }
 
-// Moves the unfinished line, from index at to end, to the front, and answers how many bytes are held of it. Of a line that
-// is too long one byte too many is held, whatever comes.
+// Moves the unfinished line, from index at to end, to the front, and answers how many bytes are
+// held of it. Of a line that is too long one byte too many is held, whatever comes (D1.5).
 pub(crate) fn keep(input: &mut [u8], at: usize, end: usize) -> usize {
     if end > input.len() {
         return 0;
