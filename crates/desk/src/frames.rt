@@ -36,7 +36,7 @@ pub(crate) fn frame_read(s: &[u8], out: &mut Reply) -> usize {
     }
 }
 
-// The raw frame of one page, behind its CIPHERTEXT the SIZE and the NUMBER (D2.5).
+// The raw frame of one page, which the second and the third argument choose (D2.5).
 pub(crate) fn page_write(line: &[u8], starts: &[usize], c: &[u8], room: &mut [u8]) -> Wrote {
     let size = words::number(line, starts, 2);
     let number = words::number(line, starts, 3);
