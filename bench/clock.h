@@ -16,7 +16,10 @@ static inline uint64_t nanoseconds(void)
     return (uint64_t)now.tv_sec * 1000000000 + (uint64_t)now.tv_nsec;
 }
 
-/* Said only where it is asked for: to print a number costs instructions by its digits, and the others are counted. */
+/*
+ * Said only where it is asked for: to print a number costs instructions by its digits, and the
+ * others are counted.
+ */
 static inline void say_time_since(uint64_t began)
 {
     uint64_t took = nanoseconds() - began;

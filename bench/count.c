@@ -1,9 +1,11 @@
 /*
- * A plugin for qemu-user that counts the instructions of the emulated program and prints `instructions N` to standard error at
- * its end. Debian's qemu-user takes plugins and does not ship their header, so the few functions used are declared here; they are the
- * same in every version of the interface, of which bench/counting.py tries one after the other (API).
+ * A plugin for qemu-user that counts the instructions of the emulated program and prints
+ * `instructions N` to standard error at its end. Debian's qemu-user takes plugins and does not ship
+ * their header, so the few functions used are declared here; they are the same in every version of
+ * the interface, of which bench/counting.py tries one after the other (API).
  *
- * A string instruction with a repeat prefix is translated as a block that jumps to itself; it counts once, as perf counts it.
+ * A string instruction with a repeat prefix is translated as a block that jumps to itself; it
+ * counts once, as perf counts it.
  */
 #include <inttypes.h>
 #include <stddef.h>

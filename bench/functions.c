@@ -1,9 +1,10 @@
 /*
  * functions NAME repeat FILE TIMES   runs one function over the file's bytes, so often
- * functions NAME list FILE           prints its answer for each input in the file, in hex, a line each
+ * functions NAME list FILE           prints its answer for each input in the file, a line of hex
  *
- * In a list each input stands behind its length, four bytes, lowest first. The program is linked with one list of subjects: the plain
- * ones, ours, or those of one library. With BENCH_TIME in its environment it says on standard error how long the runs took.
+ * In a list each input stands behind its length, four bytes, lowest first. The program is linked
+ * with one list of subjects: the plain ones, ours, or those of one library. With BENCH_TIME in its
+ * environment it says on standard error how long the runs took.
  */
 #include <stdio.h>
 #include <stdlib.h>

@@ -1,14 +1,16 @@
 /*
- * jobs NAME PART FILE TIMES MOST   makes MOST collections ready, runs one job on the first TIMES of them, and writes what the last
- *                                  run left to standard output, and to standard error of how many bytes it made checksums
+ * jobs NAME PART FILE TIMES MOST   makes MOST collections ready, runs one job on the first TIMES of
+ *                                  them, and writes what the last run left to standard output, and
+ *                                  to standard error of how many bytes it made checksums
  *
  * The file is what `pier` reads: the document's id in hex, and then one base64 scan to a line
  * (R15.1). All that comes before and after the runs is the same for every TIMES, so the counts of
  * two TIMES differ by the runs alone. With BENCH_TIME in its environment it says on standard error
  * how long the runs took.
  *
- * PART is `all`, or one of the parts that a job cannot do without: `crc32` computes exactly the checksums that the job computes,
- * `blake2b` its digest, `base64` reads its texts, each with nothing around it.
+ * PART is `all`, or one of the parts that a job cannot do without: `crc32` computes exactly the
+ * checksums that the job computes, `blake2b` its digest, `base64` reads its texts, each with
+ * nothing around it.
  */
 #include <inttypes.h>
 #include <stdio.h>
@@ -208,7 +210,10 @@ static void finish_sums(struct work *w)
     sum_blocks(w->into);
 }
 
-/* Open; the head, which the first page seals anew; every scan, of which repeats seal nothing; finish. */
+/*
+ * Open; the head, which the first page seals anew; every scan, of which repeats seal nothing;
+ * finish.
+ */
 static void collect_sums(struct work *w)
 {
     uint8_t seen[PAGES] = {0};

@@ -13,7 +13,8 @@
  *
  * Each function answers one number (R16.2), read by the three functions at the end of this file:
  *     stilt_number   0 where the call is done, else why it was refused (the numbers are below)
- *     stilt_place    the index of a page, counted from 0, with 15 and 16; what became of the page, with 0 from stilt_offer
+ *     stilt_place    the index of a page, counted from 0, with 15 and 16; what became of the
+ *                    page, with 0 from stilt_offer
  *     stilt_count    how many bytes were written, with 0 from stilt_finish; else 0
  *
  * Link with target/staticlib/libphone.a, which `rt staticlib phone` writes. It holds x86-64 code.
@@ -48,13 +49,13 @@ extern "C" {
 #define STILT_INDEX 8            /* a frame's index or total cannot be */
 #define STILT_SIZE 9             /* a frame of more than 96 pages or 480 bytes */
 #define STILT_CHECKSUM 10        /* a frame was misread */
-#define STILT_NO_ROOM 11         /* the output is too short; for stilt_open: not exactly 49,664 bytes */
+#define STILT_NO_ROOM 11         /* the output is too short; for stilt_open: not 49,664 bytes */
 #define STILT_OTHER_DOCUMENT 12  /* not a page of this document; for stilt_join: two documents */
 #define STILT_BAD_COLLECTION 13  /* not a collection: another size, or a byte of it is damaged */
 #define STILT_TOTALS_DISAGREE 14 /* two scans named two totals */
-#define STILT_PAGE_DISPUTED 15   /* two scans of a page differ: stilt_place is the lowest such page */
+#define STILT_PAGE_DISPUTED 15   /* two scans of a page differ: stilt_place is the lowest */
 #define STILT_PAGE_MISSING 16    /* a page is missing: stilt_place is the lowest */
-#define STILT_OTHER_CIPHERTEXT 17 /* all pages are there, but they are not the document of this id */
+#define STILT_OTHER_CIPHERTEXT 17 /* all pages are there, but are not the document of this id */
 #define STILT_BAD_ID 19          /* the id is not 8 bytes */
 
 /*

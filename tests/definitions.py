@@ -14,20 +14,28 @@ CONSTRUCTOR = re.compile(r"(\S+) :(?: |$)")
 WORD = re.compile(r"[^\s(){},;]+")
 
 
+def in_order(text):
+    """The words of a text that can cite, each once: not a field with its dot before it, and without
+    the dot that ends what λ binds."""
+    return list(dict.fromkeys(word.rstrip(".") for word in WORD.findall(text) if not word.startswith(".")))
+
+
 def words(text):
-    """The words of a text that can cite: not a field with its dot before it, and without the dot that ends what λ binds."""
-    return {word.rstrip(".") for word in WORD.findall(text) if not word.startswith(".")}
+    """The same as a set."""
+    return set(in_order(text))
 
 
 class Definition:
-    """A name, its line, whether it is marked, the words of its type, and those of its type and clauses."""
+    """A name, its line, whether it is marked, the words of its type, and those of its type and
+    clauses."""
 
     def __init__(self, name, line, marked):
         self.name, self.line, self.marked, self.stated, self.words = name, line, marked, set(), set()
 
 
 class File:
-    """What a file imports and defines, the data type of each constructor, and the words outside of its definitions."""
+    """What a file imports and defines, the data type of each constructor, and the words outside of
+    its definitions."""
 
     def __init__(self, path, text):
         self.path = path
@@ -51,7 +59,8 @@ class File:
             self.aliases[alias] = place
 
     def read(self, lines, raw):
-        """Parts the lines into definitions. One stands as far in as the first of its module, and what stands further in belongs to it."""
+        """Parts the lines into definitions. One stands as far in as the first of its module, and
+        what stands further in belongs to it."""
         depths, current, data, stating, head = [0], None, None, False, ""
         for number, line in enumerate(lines, 1):
             start = line.lstrip()

@@ -1,4 +1,5 @@
-"""The listed crates and what each cites, the functions in their sources and which of them each calls, and the rows of docs/PROMISES.md."""
+"""The listed crates and what each cites, the functions in their sources and which of them each
+calls, comments, and the names that docs/PROMISES.md and docs/DEMANDS.md name."""
 import os
 import re
 
@@ -11,14 +12,12 @@ PUBLIC = re.compile(r'^\s*pub (?:extern "C" )?fn (\w+)')
 METHODS = re.compile(r"^impl (\w+) \{")
 ANY = re.compile(r'^\s*(?:pub(?:\(super\))? )?(?:extern "C" )?fn (\w+)')
 CALL = re.compile(r"((?:\w+::)*\w+)\(")
-ROW = re.compile(r"^\| `(\w+(?:::\w+)+)` \|(.*)\|$")
-LAW_ROW = re.compile(r"^\| .* \| `(\w+/\w+)` \|(.*)\|$")
-EDIT = re.compile(r"`(\w+/\w+)`")
-LAW = re.compile(r"`([a-z][\w-]*)`")
+NAMED = re.compile(r"`(\S+?)`")
 
 
 def lines_of_crates(root):
-    """Each crate of crates.txt, in its order: its layer, which is the heading above it, its name, and what the line says it stands on."""
+    """Each crate of crates.txt, in its order: its layer, which is the heading above it, its name,
+    and what the line says it stands on."""
     layer = None
     for line in open(os.path.join(root, "crates.txt"), encoding="utf-8"):
         heading = LAYER.match(line)
@@ -34,7 +33,8 @@ def listed(root):
 
 
 def texts(root, crate):
-    """The Rattle and antt files of a crate, each with its text without comments. Must-fail edits are none of them."""
+    """The Rattle and antt files of a crate, each with its text without comments. Must-fail edits
+    are none of them."""
     for part in ("src", "specs", "proofs"):
         for folder, _, files in sorted(os.walk(os.path.join(root, "crates", crate, part))):
             for file in sorted(files):
@@ -76,7 +76,8 @@ def owned(lines):
 
 
 def functions(path):
-    """Each public function of a file: its line, its name, before which a method has its type's, and its text up to its body."""
+    """Each public function of a file: its line, its name, before which a method has its type's, and
+    its text up to its body."""
     lines = open(path, encoding="utf-8").read().split("\n")
     for number, (owner, text) in enumerate(owned(lines)):
         found = PUBLIC.match(text)
@@ -88,7 +89,8 @@ def functions(path):
 
 
 def module(root, path):
-    """The names that lead to a file's functions: its crate, and its module where it is not the crate's root."""
+    """The names that lead to a file's functions: its crate, and its module where it is not the
+    crate's root."""
     crate, _, *rest = os.path.relpath(path, os.path.join(root, "crates")).removesuffix(".rt").split(os.sep)
     return [crate, *(name for name in rest if name != "lib")]
 
@@ -100,7 +102,8 @@ def public(root):
 
 
 def bodies(root, crate):
-    """Each function of a crate, also the private ones, by its whole name, with its text up to the next one."""
+    """Each function of a crate, also the private ones, by its whole name, with its text up to the
+    next one."""
     found = {}
     for path, _ in rattle_files(root):
         place, name = module(root, path), None
@@ -113,10 +116,11 @@ def bodies(root, crate):
 
 
 def reached(root, crate):
-    """For each function of a crate the functions of the crate that it calls, and those that they call, and so on.
+    """For each function of a crate the functions of the crate that it calls, and those that they
+    call, and so on.
 
-    A call is told by its name alone: a path must be the end of the function's whole name, and a bare name one in the same
-    file or, where there is none, one that is imported there.
+    A call is told by its name alone: a path must be the end of the function's whole name, and a
+    bare name one in the same file or, where there is none, one that is imported there.
     """
     texts = bodies(root, crate)
 
@@ -134,22 +138,32 @@ def reached(root, crate):
     return calls
 
 
-def table(root):
-    """The rows of docs/PROMISES.md: of each function its cells, and of each edit that attacks a law the laws that it names."""
-    rows, laws = {}, {}
-    for line in open(os.path.join(root, "docs", "PROMISES.md"), encoding="utf-8"):
-        function, law = ROW.match(line.strip()), LAW_ROW.match(line.strip())
-        if function:
-            rows[function[1]] = function[2].split(" | ")
-        elif law:
-            laws[law[1]] = LAW.findall(law[2])
-    return rows, laws
+def comment_above(lines, number, mark):
+    """The comment that ends above the line of that index, a text for each of its paragraphs."""
+    first = number
+    while first > 0 and lines[first - 1].lstrip().startswith(mark):
+        first -= 1
+    said = [line.lstrip().removeprefix(mark).strip() for line in lines[first:number]]
+    return [text.replace("\n", " ") for text in "\n".join(said).split("\n\n") if text]
 
 
-def naming(rows):
-    """For each edit the functions whose rows name it."""
-    named = {}
-    for function, cells in rows.items():
-        for edit in EDIT.findall(" | ".join(cells)):
-            named.setdefault(edit, set()).add(function)
-    return named
+def named(root):
+    """All that stands in back-quotes in the documents that say what is promised."""
+    names = set()
+    for file in ("PROMISES.md", "DEMANDS.md"):
+        with open(os.path.join(root, "docs", file), encoding="utf-8") as text:
+            names |= set(NAMED.findall(text.read()))
+    return names
+
+
+def documented(root):
+    """Each public function of a library, in the order of crates.txt: its whole name, its file, its
+    text up to its body, and its promise, which is the first paragraph of the comment above it."""
+    for path, program in rattle_files(root):
+        lines = open(path, encoding="utf-8").read().split("\n")
+        for number, name, head in () if program else functions(path):
+            first = number - 1
+            while lines[first - 1].lstrip().startswith("#["):
+                first -= 1
+            comment = comment_above(lines, first, "//")
+            yield "::".join([*module(root, path), name]), path, head, comment[0] if comment else ""

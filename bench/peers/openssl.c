@@ -1,6 +1,7 @@
 /*
- * OpenSSL's SHA-256 and base64. SHA256_Init and its like leave out the search for a provider that SHA256 begins with. OpenSSL
- * pads a text with `=`, and reads only texts of whole groups of four: the measured length is a multiple of three bytes.
+ * OpenSSL's SHA-256 and base64. SHA256_Init and its like leave out the search for a provider that
+ * SHA256 begins with. OpenSSL pads a text with `=`, and reads only texts of whole groups of four:
+ * the measured length is a multiple of three bytes.
  */
 #define OPENSSL_SUPPRESS_DEPRECATED
 #include <openssl/evp.h>

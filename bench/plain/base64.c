@@ -1,4 +1,7 @@
-/* Base64 without padding: three bytes at a time are written, and a text is gone through once to judge it and once to read it. */
+/*
+ * Base64 without padding: three bytes at a time are written, and a text is gone through once to
+ * judge it and once to read it.
+ */
 #include "plain.h"
 
 static const char LETTERS[] = "ABCDEFGHIJKLMNOPQRSTUVWXYZabcdefghijklmnopqrstuvwxyz0123456789+/";

@@ -16,8 +16,9 @@ void plain_sha256(const uint8_t *data, size_t length, uint8_t out[32]);
 void plain_blake2b(const uint8_t *data, size_t length, uint8_t out[32]);
 
 /*
- * Base64 of RFC 4648 without padding. Each answers how many bytes it wrote: none where there is no room, or where a text
- * has a character that is neither of the alphabet nor a space, an impossible length, or leftover bits that are not zero.
+ * Base64 of RFC 4648 without padding. Each answers how many bytes it wrote: none where there is no
+ * room, or where a text has a character that is neither of the alphabet nor a space, an impossible
+ * length, or leftover bits that are not zero.
  */
 size_t plain_base64_write(const uint8_t *data, size_t length, uint8_t *out, size_t room);
 size_t plain_base64_read(const uint8_t *text, size_t length, uint8_t *out, size_t room);

@@ -1,4 +1,5 @@
--- What `claim` and `read` answer is fixed by their contracts, and how a chain of items goes on from a claim. Assumes nothing.
+-- What `claim` and `read` answer is fixed by their contracts, and how a chain of items goes on from
+-- a claim. Assumes nothing.
 use Prim.Native.Nat.{ℕ}
 use mathlib.Core.Path.{_≡_, refl, ap}
 use Rattle.wire.specs.Answer.{refused, numberOf, then, Got, Answer}
@@ -10,7 +11,7 @@ use Rattle.auth.specs.Answer.{claimTold}
 use Rattle.auth.specs.declared.ClaimRead.{ClaimRead}
 use Rattle.auth.specs.declared.ClaimRead.the-variants.{Value, Refused}
 
--- the enum says no more than 01's answer does
+-- the enum says no more than its number and values do
 pub claim-injective : (r q : ClaimRead) → claimTold r ≡ claimTold q → r ≡ q
 claim-injective (Value a b c i) (Value x y z j) e =
     let v : _≡_ {A = Claim} (record { public = a; sig = b; hash = c }) (record { public = x; sig = y; hash = z }) = got-value e in

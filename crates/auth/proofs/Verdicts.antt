@@ -1,4 +1,4 @@
--- The values that the writers accept are those that document 01 allows. Assumes nothing.
+-- The values that the writers accept are those that R11.2 allows. Assumes nothing.
 use Prim.Native.Nat.{ℕ}
 use mathlib.Core.Path.{_≡_}
 use mathlib.Core.List.{List}

@@ -1,4 +1,8 @@
-// The auth payload, read and written, and the bytes that get signed: document 01, "CBOR payloads".
+// The auth payload, read and written, and the bytes that get signed: section 11 of docs/RULES.md.
+//
+// What is written reads back, and what is read is exactly the written form of its value
+// (`auth-back`, `auth-only`, `auth-once`: auth, Rounds). The payload has 157 bytes (`auth-length`:
+// auth, Lengths), so the writer does not look whether it fits a page.
 ghost use mathlib.Core.Path.{_≡_};
 ghost use Prim.Native.Nat.{_≤_};
 ghost use lib.ListN.{length};
@@ -15,21 +19,24 @@ use wire::StepRead;
 use wire::Wrote;
 
 pub enum ClaimRead {
-    // Where pub, sig and hash start, which are 32, 64 and 32 bytes, and the position past them.
+    // Where pub, sig and hash start, which are 32, 64 and 32 bytes (R11.2), and the position past
+    // them.
     Value {
         public: usize,
         sig: usize,
         hash: usize,
         next: usize,
     },
-    // 01's number of the refusal.
+    // The number of the refusal (R2.2).
     Refused {
         no: u8,
     },
 }
 
 impl ClaimRead {
-    // The number of a refusal, for a caller's `else`.
+    // The number of the refusal to read a claim; 0 where one was read.
+    //
+    // For a caller's `else`.
     pub fn no(self) -> u8
         ensures { λ n. ⌜ n ≡ numberOf (claimTold self) ⌝ }
     {
@@ -40,7 +47,8 @@ impl ClaimRead {
     }
 }
 
-// What s begins with: a map's head, which the caller gives, and the fields pub, sig and hash.
+// What s begins with, the map's head that the caller gives and the fields pub, sig and hash, and
+// the position past them; or the refusal of the first offending item.
 pub fn claim(s: &[u8], map: u8) -> ClaimRead
     ensures { λ r. ⌜ claimTold r ≡ claimAt (now (s .entry)) map ⌝ }
 {
@@ -83,7 +91,8 @@ pub fn claim(s: &[u8], map: u8) -> ClaimRead
     }
 }
 
-// The whole payload: its claim, and the length of s as the position past it.
+// The claim of the auth payload that s is, and the length of s as the position past it; or the
+// refusal of the first offending item.
 pub fn read(s: &[u8]) -> ClaimRead
     ensures { λ r. ⌜ claimTold r ≡ authAt (now (s .entry)) ⌝ }
 {
@@ -125,7 +134,8 @@ fn write_fitting(public: &[u8], sig: &[u8], hash: &[u8], out: &mut [u8])
     cbor::write::number_field(out, d, b"version", 1);
 }
 
-// The payload, of 157 bytes, at the front of out; or 19, then 11. It always fits a page, so there is no 9.
+// The auth payload, of 157 bytes, at the front of out; or 19, then 11, and nothing changed. No
+// other number is answered: the payload always fits a page, so there is no 9.
 pub fn write(public: &[u8], sig: &[u8], hash: &[u8], out: &mut [u8]) -> Wrote
     ensures { λ r. ⌜ Written 0 (authVerdict (now (public .entry)) (now (sig .entry)) (now (hash .entry))) (now (out .entry)) (now (out .exit)) r ⌝ }
 {
@@ -145,6 +155,7 @@ pub fn write(public: &[u8], sig: &[u8], hash: &[u8], out: &mut [u8]) -> Wrote
     Wrote::Done { len: 157 }
 }
 
+// Where there is room. The domain and the keys are fixed strings (R18.2).
 fn signed_fitting(public: &[u8], hash: &[u8], out: &mut [u8])
     requires { ⌜ length (signedOf (now public) (now hash)) ≤ length (now out) ⌝ }
     ensures { λ _. ⌜ now (out .exit) ≡ over 0 (signedOf (now (public .entry)) (now (hash .entry))) (now (out .entry)) ⌝ }
@@ -156,7 +167,7 @@ fn signed_fitting(public: &[u8], hash: &[u8], out: &mut [u8])
     cbor::write::number_field(out, d, b"version", 1);
 }
 
-// The bytes that get signed are 104.
+// The 104 bytes that get signed at the front of out; or 19, then 11, and nothing changed.
 pub fn signed(public: &[u8], hash: &[u8], out: &mut [u8]) -> Wrote
     ensures { λ r. ⌜ Written 0 (signedVerdict (now (public .entry)) (now (hash .entry))) (now (out .entry)) (now (out .exit)) r ⌝ }
 {

@@ -1,4 +1,5 @@
--- RFC 7693: BLAKE2b with no key (kk = 0) and a digest of 32 bytes (nn = 32), in the order and the words of the RFC. A word has 64 bits.
+-- RFC 7693: BLAKE2b with no key (kk = 0) and a digest of 32 bytes (nn = 32), as R7.1 asks. The
+-- definitions go by the RFC's sections and use its names. A word has 64 bits.
 use mathlib.Core.Bool.{Bool, true, false}
 use mathlib.Core.List.{List, [], _∷_, _++_, reverse}
 use Prim.Native.Nat.{ℕ, zero, suc, _+_, _-_, _*_, _/_, _%_, _^_}
@@ -23,13 +24,14 @@ unfoldable pub bytes : List ℕ → List ℕ
 bytes [] = []
 bytes (x ∷ xs) = littleEndian 8 x ++ bytes xs
 
--- 2.6: the initialization vector
+-- 2.6: the initialization vector. Its rule is `iv-root` of proofs/Tables.antt (R18.3)
 unfoldable pub iv : List ℕ
 iv =
     0x6a09e667f3bcc908 ∷ 0xbb67ae8584caa73b ∷ 0x3c6ef372fe94f82b ∷ 0xa54ff53a5f1d36f1 ∷
     0x510e527fade682d1 ∷ 0x9b05688c2b3e6c1f ∷ 0x1f83d9abfb41bd6b ∷ 0x5be0cd19137e2179 ∷ []
 
--- 2.7: the message schedule, SIGMA[r][i], a row for each of the twelve rounds
+-- 2.7: the message schedule, SIGMA[r][i], a row for each of the twelve rounds. Its rule is
+-- `sigma-small`, `sigma-has` and `sigma-again` of proofs/Tables.antt (R18.3)
 unfoldable pub sigma : List (List ℕ)
 sigma =
     (0 ∷ 1 ∷ 2 ∷ 3 ∷ 4 ∷ 5 ∷ 6 ∷ 7 ∷ 8 ∷ 9 ∷ 10 ∷ 11 ∷ 12 ∷ 13 ∷ 14 ∷ 15 ∷ []) ∷
@@ -86,7 +88,8 @@ unfoldable pub rounds : ℕ → List ℕ → List ℕ → List ℕ
 rounds zero m v = v
 rounds (suc r) m v = round m r (rounds r m v)
 
--- 3.2: the local work vector, from the state h, the offset counter t (low word, high word) and the final block indicator f
+-- 3.2: the local work vector, from the state h, the offset counter t (low word, high word) and the
+-- final block indicator f
 unfoldable pub begin : List ℕ → ℕ → Bool → List ℕ
 begin h t f =
     let v : List ℕ = h ++ iv in
@@ -123,7 +126,8 @@ unfoldable pub blocks : ℕ → List ℕ → List ℕ → List ℕ
 blocks zero d h = h
 blocks (suc i) d h = F (blocks i d h) (words d (i * 128)) ((i + 1) * 128) false
 
--- 3.3: the state after the final block, which has the length of the data for its offset, and the flag
+-- 3.3: the state after the final block, which has the length of the data for its offset, and the
+-- flag
 unfoldable pub final : List ℕ → List ℕ
 final s =
     let d : List ℕ = padded s in
@@ -134,6 +138,6 @@ final s =
 unfoldable pub digest : List ℕ → List ℕ
 digest h = take 32 (bytes h)
 
--- 3.3: the hash of a message
+-- 3.3: the hash of a message, of which an id is the front (R7.1)
 unfoldable pub blake2b : List ℕ → List ℕ
 blake2b s = digest (final s)

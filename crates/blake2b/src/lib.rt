@@ -1,4 +1,4 @@
-// BLAKE2b with no key and a digest of 32 bytes: RFC 7693, whose sections the comments name.
+// BLAKE2b with no key and a digest of 32 bytes (R7.1): RFC 7693, whose sections the comments name.
 ghost use mathlib.Core.Path.{_≡_};
 ghost use mathlib.Core.List.{_++_};
 ghost use Prim.Native.Nat.{_+_, _-_, _*_, _<_, _≤_};
@@ -6,7 +6,7 @@ ghost use lib.ListN.{length, drop, replicate};
 ghost use Rattle.bits.specs.Word as W;
 ghost use Rattle.blake2b.specs.Blake2b as B;
 
-// 2.6: the initialization vector.
+// 2.6: the initialization vector. proofs/Tables.antt has its rule (R18.3).
 const IV: [u64; 8] = [
     0x6a09e667f3bcc908,
     0xbb67ae8584caa73b,
@@ -18,7 +18,7 @@ const IV: [u64; 8] = [
     0x5be0cd19137e2179,
 ];
 
-// 2.7: the message schedule, a row for each round.
+// 2.7: the message schedule, a row for each round. Its rule is there too (R18.3).
 const SIGMA: [[u8; 16]; 12] = [
     [0, 1, 2, 3, 4, 5, 6, 7, 8, 9, 10, 11, 12, 13, 14, 15],
     [14, 10, 4, 8, 9, 15, 13, 6, 1, 12, 0, 2, 11, 7, 5, 3],
@@ -76,7 +76,8 @@ fn g(v: &mut [u64; 16], a: usize, b: usize, c: usize, d: usize, x: u64, y: u64)
     turn(v, b, c, 63);
 }
 
-// The message's word that round r takes at place i. The table is lent, since naming the constant here would copy it.
+// The message's word that round r takes at place i. The table is lent, since naming the constant
+// here would copy it.
 fn word(m: &[u64; 16], sg: &[[u8; 16]; 12], r: usize, i: usize) -> u64
     requires { ⌜ (now sg ≡ B.sigma) × (r < 12) × (i < 16) ⌝ }
     ensures { λ x. ⌜ x ≡ B.word (now (m .entry)) r i ⌝ }
@@ -262,7 +263,9 @@ fn last_block(n: usize) -> usize
     (n - 1) / 128
 }
 
-// 3.3: the hash of a message of any length.
+// The BLAKE2b of s, of any length: no key, a digest of 32 bytes.
+//
+// Section 3.3.
 pub fn blake2b(s: &[u8]) -> [u8; 32]
     ensures { λ r. ⌜ r ≡ B.blake2b (now (s .entry)) ⌝ }
 {

@@ -1,4 +1,4 @@
-// The blocks of a collection: document 01, "The collection". Each function takes any arguments.
+// The blocks of a collection: R8.2, R8.4 and R8.5. Each function takes any arguments.
 ghost use mathlib.Core.Path.{_≡_};
 ghost use mathlib.Core.Bool.{_&&_};
 ghost use mathlib.Core.List.{[], _∷_};
@@ -28,7 +28,8 @@ const DATA_ROOM: usize = wire::SUMMED_SIZE - DATA_AT;
 
 const DATA_END: usize = DATA_AT + wire::MOST_DATA;
 
-// The checksum of a block from index at on, behind its other bytes.
+// The checksum of the 508 bytes from the position on, behind them. Nothing changes where there is
+// no room.
 pub fn seal(out: &mut [u8], at: usize)
     ensures { λ _. ⌜ now (out .exit) ≡ withSum at (now (out .entry)) ⌝ }
 {
@@ -96,21 +97,24 @@ fn write(out: &mut [u8], at: usize, id: &[u8], index: u8, state: u8, bytes: &[u8
     seal(out, at);
 }
 
-// The block of a page that is held.
+// The block of a page that is held with these bytes, from the position on. Nothing changes where
+// there is no such block or no room.
 pub fn hold(out: &mut [u8], at: usize, id: &[u8], index: u8, bytes: &[u8])
     ensures { λ _. ⌜ now (out .exit) ≡ withPage at (now (id .entry)) index (held (now (bytes .entry))) (now (out .entry)) ⌝ }
 {
     write(out, at, id, index, HELD, bytes);
 }
 
-// The block of a disputed page.
+// The block of a disputed page, from the position on. Nothing changes where there is no such block
+// or no room.
 pub fn dispute(out: &mut [u8], at: usize, id: &[u8], index: u8)
     ensures { λ _. ⌜ now (out .exit) ≡ withPage at (now (id .entry)) index disputed (now (out .entry)) ⌝ }
 {
     write(out, at, id, index, DISPUTED, &id[0..0]);
 }
 
-// The block of an absent page.
+// The block of an absent page, from the position on. Nothing changes where there is no such block
+// or no room.
 pub fn vacate(out: &mut [u8], at: usize, id: &[u8], index: u8)
     ensures { λ _. ⌜ now (out .exit) ≡ withPage at (now (id .entry)) index absent (now (out .entry)) ⌝ }
 {
@@ -131,7 +135,7 @@ fn block(c: &[u8], at: usize) -> &[u8]
     &c[at..end]
 }
 
-// The state that the block says: any number above 1 counts as 2.
+// The state that the block at the position says: any number above 1 counts as 2.
 pub fn state(c: &[u8], at: usize) -> u8
     ensures { λ r. ⌜ r ≡ stateOf (readSlot (blockAt at (now (c .entry)))) ⌝ }
 {
@@ -152,7 +156,7 @@ fn wide(b: u8) -> usize
     b as usize
 }
 
-// The data that the block says: none unless it is held.
+// The data that the block at the position says: none unless it is held.
 pub fn contents(c: &[u8], at: usize) -> &[u8]
     ensures { λ r. ⌜ now r ≡ dataOf (readSlot (blockAt at (now (c .entry)))) ⌝ }
 {
@@ -171,7 +175,7 @@ pub fn contents(c: &[u8], at: usize) -> &[u8]
     &b[DATA_AT..end]
 }
 
-// Whether the block is held, with these bytes as its data.
+// True exactly where the block at the position is held, with these bytes as its data.
 pub fn holds(c: &[u8], at: usize, bytes: &[u8]) -> bool
     ensures { λ r. ⌜ r ≡ holding (readSlot (blockAt at (now (c .entry)))) (now (bytes .entry)) ⌝ }
 {
@@ -181,7 +185,8 @@ pub fn holds(c: &[u8], at: usize, bytes: &[u8]) -> bool
     lend::equal(contents(c, at), bytes)
 }
 
-// Whether the block is well formed, as the one of this index in a collection of this id: it is the block of what it says.
+// True exactly where the block at the position is the block of what it says, for this id and this
+// index.
 pub fn well_formed(c: &[u8], at: usize, id: &[u8], index: u8) -> bool
     ensures { λ r. ⌜ r ≡ okPage (now (id .entry)) index (blockAt at (now (c .entry))) ⌝ }
 {

@@ -1,5 +1,9 @@
-// A collection as a whole: its head block, and 96 page blocks behind it. Each public function takes any arguments. Nobody else knows where
-// in the head its parts stand, or decides that a collection is refused.
+// A collection as a whole: its head block, and 96 page blocks behind it (section 8 of
+// docs/RULES.md). Each public function takes any arguments. Nobody else knows where in the head its
+// parts stand, or decides that a collection is refused.
+//
+// Well formed is exactly what the rules say, both ways (`encode-ok`, `decoded`: book, Round and
+// Decode).
 pub mod tally;
 
 ghost use mathlib.Core.Path.{_≡_};
@@ -33,7 +37,7 @@ const ZEROS_AT: usize = 13;
 
 const ZEROS: usize = wire::SUMMED_SIZE - ZEROS_AT;
 
-// Where the page block of index k begins.
+// Where the page block of index k begins: at 512 + 512 k.
 pub fn place(k: u8) -> usize
     ensures { λ r. ⌜ r ≡ blockSize + blockSize * k ⌝ }
 {
@@ -52,7 +56,7 @@ fn head_body(c: &mut [u8], id: &[u8], state: u8, total: u8)
     lend::clear(c, ZEROS_AT, ZEROS);
 }
 
-// The head block in front of c.
+// The head block in front of c. Nothing changes where the id has not 8 bytes or there is no room.
 pub fn write_head(c: &mut [u8], id: &[u8], state: u8, total: u8)
     ensures { λ _. ⌜ now (c .exit) ≡ withHead (headFor (now (id .entry)) state total) (now (c .entry)) ⌝ }
 {
@@ -84,6 +88,7 @@ fn total_ok(state: u8, total: u8) -> bool
 
 // ---- what the head says, of any bytes
 
+// The state that the head says; 0 where c ends before it.
 pub fn state(c: &[u8]) -> u8
     ensures { λ r. ⌜ r ≡ readHead (now (c .entry)) .state ⌝ }
 {
@@ -93,6 +98,7 @@ pub fn state(c: &[u8]) -> u8
     c[STATE_AT]
 }
 
+// The total that the head says; 0 where c ends before it.
 pub fn total(c: &[u8]) -> u8
     ensures { λ r. ⌜ r ≡ readHead (now (c .entry)) .total ⌝ }
 {
@@ -102,7 +108,7 @@ pub fn total(c: &[u8]) -> u8
     c[TOTAL_AT]
 }
 
-// The document's id: fewer than 8 bytes where c ends before.
+// The document's id as the head says it: fewer than 8 bytes where c ends before.
 pub fn id(c: &[u8]) -> &[u8]
     ensures { λ r. ⌜ now r ≡ readHead (now (c .entry)) .id ⌝ }
 {
@@ -116,7 +122,9 @@ pub fn id(c: &[u8]) -> &[u8]
     &c[ID_AT..TOTAL_AT]
 }
 
-// The same as a copy, for a caller that is about to write c: zeros stand where c ends before.
+// The document's id as the head says it, as 8 bytes of its own: zeros stand where c ends before.
+//
+// A caller that is about to write c needs this copy.
 pub fn id_copy(c: &[u8]) -> [u8; 8]
     ensures { λ r. ⌜ r ≡ over 0 (readHead (now (c .entry)) .id) (replicate idSize 0) ⌝ }
 {
@@ -145,7 +153,8 @@ fn head_ok(c: &[u8]) -> bool
     lend::equal(&c[0..wire::BLOCK_SIZE], &again)
 }
 
-// Why c is refused for its head, the number; 0 where it is not.
+// Why c is refused for its head, the number: 13 where its size is not right or the head is not the
+// head block of what it says; else 0.
 pub fn judge_head(c: &[u8]) -> u8
     ensures { λ r. ⌜ r ≡ numberOf (headIn (now (c .entry))) ⌝ }
 {
@@ -155,7 +164,7 @@ pub fn judge_head(c: &[u8]) -> u8
     wire::BAD_COLLECTION
 }
 
-// Whether the page block of index k is well formed under the head of c.
+// True exactly where the page block of index k is well formed under the head of c.
 pub fn page_ok(c: &[u8], k: u8) -> bool
     ensures { λ r. ⌜ r ≡ okAt (readHead (now (c .entry))) k (pageAt k (now (c .entry))) ⌝ }
 {
@@ -168,7 +177,8 @@ pub fn page_ok(c: &[u8], k: u8) -> bool
     block::well_formed(c, at, id(c), k)
 }
 
-// Why c is refused as a whole, the number; 0 where every byte is well formed.
+// Why c is refused as a whole, the number: 13 for its head, then 13 where a page block is not well
+// formed; else 0.
 pub fn judge(c: &[u8]) -> u8
     ensures { λ r. ⌜ r ≡ numberOf (bookIn (now (c .entry))) ⌝ }
 {
@@ -186,7 +196,8 @@ pub fn judge(c: &[u8]) -> u8
     wire::DONE
 }
 
-// Every page absent.
+// Every page absent behind the head. Nothing changes where the id has not 8 bytes or there is no
+// room.
 pub fn blank(c: &mut [u8], id: &[u8])
     ensures { λ _. ⌜ now (c .exit) ≡ withBlank (now (id .entry)) (now (c .entry)) ⌝ }
 {

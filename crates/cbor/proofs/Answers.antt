@@ -1,4 +1,5 @@
--- What a reader answers is fixed by its contract, and how a chain of items goes on from it. Assumes nothing.
+-- What a reader answers is fixed by its contract, and how a chain of items goes on from it.
+-- Assumes nothing.
 use Prim.Native.Nat.{ℕ}
 use mathlib.Core.Path.{_≡_, refl, sym, ap, _∙_}
 use mathlib.Core.Bool.{true, false}
@@ -16,7 +17,7 @@ use Rattle.cbor.specs.declared.HeadRead.the-variants as head
 use Rattle.cbor.specs.declared.StringRead.{StringRead}
 use Rattle.cbor.specs.declared.StringRead.the-variants as string
 
--- ---- an enum says no more than 01's answer does
+-- ---- an enum says no more than its number and values do
 
 pub head-injective : (r q : HeadRead) → headTold r ≡ headTold q → r ≡ q
 head-injective (head.Value a m i) (head.Value b n j) e =
@@ -32,7 +33,8 @@ string-injective (string.Value a m i) (string.Refused n) e = cc
 string-injective (string.Refused m) (string.Value b n j) e = cc
 string-injective (string.Refused m) (string.Refused n) e = cc
 
--- ---- for `search`: one item of a chain. g is what a reader's contract says, r what it answered, n the number that the code took from r
+-- ---- for `search`: one item of a chain. g is what a reader's contract says, r what it answered, n
+-- the number that the code took from r
 
 module _ {B : Type 0} (g : Got Head) (f : Head × ℕ → Answer B) where
   pub go-head : (r : HeadRead) (m v next : ℕ) (y : Answer B) → headTold r ≡ g → r ≡ head.Value m v next → y ≡ f ((record { major = m; number = v }), next) → y ≡ then g f

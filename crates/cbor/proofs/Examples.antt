@@ -1,4 +1,5 @@
--- Worked examples: RFC 8949, appendix A, and the order of refusals of document 01, "CBOR payloads". Each is computed. Assumes nothing.
+-- Worked examples: RFC 8949, appendix A, and the order of refusals (R10.3). Each is computed.
+-- Assumes nothing.
 use mathlib.Core.Path.{_≡_, refl}
 use mathlib.Core.List.{[], _∷_}
 use Rattle.wire.specs.Answer.{refused, got}
@@ -31,7 +32,8 @@ others = (refl, refl, refl, refl, refl)
 
 -- ---- the order of refusals
 
--- For the reader: a wrong kind, a reserved and an indefinite head are 18, also where the input ends after the first byte; then a cut head is 3, and one that is not shortest 18
+-- For the reader: a wrong kind, a reserved and an indefinite head are 18, also where the input ends
+-- after the first byte; then a cut head is 3, and one that is not shortest 18
 heads : (headAt (0x59 ∷ []) 0 0 ≡ refused 18)
     × (headAt (0x1C ∷ []) 0 0 ≡ refused 18)
     × (headAt (0x5F ∷ []) 0 2 ≡ refused 18)
@@ -42,7 +44,8 @@ heads : (headAt (0x59 ∷ []) 0 0 ≡ refused 18)
 unfolding headAt infoOf widthOf kindOf argumentAt bigEndianAt numberFrom
 heads = (refl, refl, refl, refl, refl, refl, refl)
 
--- For the reader: a negative number is of the right kind and out of range; a length is judged before the contents are there
+-- For the reader: a negative number is of the right kind and out of range; a length is judged
+-- before the contents are there
 numbers-read : (numberAt (0x01 ∷ []) 0 0 1 1 19 ≡ got 1 1)
     × (numberAt (0x20 ∷ []) 0 0 1 1 19 ≡ refused 19)
     × (numberAt (0x02 ∷ []) 0 0 1 1 19 ≡ refused 19)
@@ -52,7 +55,8 @@ numbers-read : (numberAt (0x01 ∷ []) 0 0 1 1 19 ≡ got 1 1)
 unfolding numberAt headAt infoOf widthOf kindOf argumentAt bigEndianAt numberFrom stringAt contentsAt
 numbers-read = (refl, refl, refl, refl, refl, refl)
 
--- For the reader: `pub` as a key: another length of text is 18 at once, a cut name 3, another name 18
+-- For the reader: `pub` as a key: another length of text is 18 at once, a cut name 3, another name
+-- 18
 keys : (keyAt (0x63 ∷ 0x70 ∷ 0x75 ∷ 0x62 ∷ []) 0 (ascii "pub") ≡ got tt 4)
     × (keyAt (0x64 ∷ []) 0 (ascii "pub") ≡ refused 18)
     × (keyAt (0x63 ∷ 0x78 ∷ []) 0 (ascii "pub") ≡ refused 3)

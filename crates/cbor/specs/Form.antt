@@ -1,4 +1,4 @@
--- The one written form of each item: RFC 8949, section 3; document 01, "CBOR payloads": definite lengths, shortest heads.
+-- The one written form of each item: section 10 of docs/RULES.md, and RFC 8949, section 3.
 use Prim.Native.Nat.{ℕ, _+_, _*_, _^_}
 use mathlib.Core.List.{List, _∷_, _++_}
 use lib.ListN.{length}
@@ -6,7 +6,8 @@ use lib.Dec.{ltb, eqb}
 use Rattle.wire.specs.Answer.{choose}
 use Rattle.wire.specs.Number.{bigEndian}
 
--- the five low bits of a head's first byte: a number below 24 itself, and else 24 to 27, the fewest bytes that hold it
+-- the five low bits of a head's first byte: a number below 24 itself, and else 24 to 27, for the
+-- fewest bytes that hold it (R10.1)
 unfoldable pub infoOf : ℕ → ℕ
 infoOf n =
     choose (ltb n 24) n
@@ -22,7 +23,8 @@ widthOf info =
     (choose (eqb info 25) 2
     (choose (eqb info 26) 4 8)))
 
--- the head of an item: three bits of major type, the five bits, the bytes of the number
+-- the head of an item, the shortest (R10.1): three bits of major type, the five bits, the bytes of
+-- the number
 unfoldable pub headOf : ℕ → ℕ → List ℕ
 headOf major n = (major * 32 + infoOf n) ∷ bigEndian (widthOf (infoOf n)) n
 
@@ -30,11 +32,11 @@ headOf major n = (major * 32 + infoOf n) ∷ bigEndian (widthOf (infoOf n)) n
 unfoldable pub headSize : ℕ → ℕ
 headSize n = 1 + widthOf (infoOf n)
 
--- a byte string, major type 2, or a text, 3; a key is a text
+-- a byte string, major type 2, or a text, 3, behind its length (R10.1); a key is a text (R10.6)
 unfoldable pub stringOf : ℕ → List ℕ → List ℕ
 stringOf major bs = headOf major (length bs) ++ bs
 
--- a double, by its 64 bits
+-- a double: FB and its 64 bits (R10.8)
 unfoldable pub doubleOf : ℕ → List ℕ
 doubleOf bits = 0xFB ∷ bigEndian 8 bits
 

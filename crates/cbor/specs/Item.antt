@@ -1,6 +1,6 @@
--- What stands at a position of the input: document 01, "CBOR payloads", the paragraph on the first offending item.
--- An item is judged from its front: what it is, by its first byte (18); whether its head is there (3) and the shortest (18); its number or length (19, and 20
--- of a path); whether its contents are there (3); and those.
+-- What stands at a position of the input: section 10 of docs/RULES.md. An item is judged from its
+-- front, in the order of R10.3: what it is, by its first byte; whether its head is there, and the
+-- shortest; its number or length; whether its contents are there; and those.
 use Prim.Native.Nat.{ℕ, _+_, _/_, _%_}
 use mathlib.Core.List.{List}
 use lib.ListN.{length, getD, take, drop}
@@ -11,15 +11,15 @@ use Rattle.wire.specs.declared.Span.{Span}
 use Rattle.lend.specs.Same.{same}
 use Rattle.cbor.specs.Form.{infoOf, widthOf}
 
--- one byte of any value
+-- one byte of any value; 3 where none is left (R10.3)
 abbrev pub byteAt : List ℕ → ℕ → Got ℕ
 byteAt s at = demand (ltb at (length s)) 3 (got (getD s at 0) (at + 1))
 
--- one byte, which has to be the wanted one: the head of a map, or a simple value
+-- one byte, which has to be the wanted one: the head of a map, or a simple value; else 18 (R10.3)
 unfoldable pub oneAt : List ℕ → ℕ → ℕ → Got Unit
 oneAt s at wanted = then (byteAt s at) (λ (x, next). demand (eqb x wanted) 18 (got tt next))
 
--- the number in the next k bytes, the highest first
+-- the number in the next k bytes, the highest first; 3 where they are not all there (R10.3)
 unfoldable pub bigEndianAt : List ℕ → ℕ → ℕ → Got ℕ
 bigEndianAt s at k = demand (leb (at + k) (length s)) 3 (got (number 256 (take k (drop at s))) (at + k))
 
@@ -27,7 +27,7 @@ bigEndianAt s at k = demand (leb (at + k) (length s)) 3 (got (number 256 (take k
 unfoldable pub argumentAt : List ℕ → ℕ → ℕ → Got ℕ
 argumentAt s at info = choose (ltb info 24) (got info at) (bigEndianAt s at (widthOf info))
 
--- the kind of a major type: integers of either sign are one
+-- the kind of a major type: integers of either sign are one (R10.4)
 unfoldable pub kindOf : ℕ → ℕ
 kindOf major = choose (eqb major 1) 0 major
 
@@ -36,7 +36,7 @@ pub record Head : Type 0 where
   pub major : ℕ
   pub number : ℕ
 
--- the head of an item of a kind: not reserved, not indefinite, and shortest
+-- the head of an item of a kind: not reserved, not indefinite, and shortest; else 18 (R10.1, R10.3)
 unfoldable pub headAt : List ℕ → ℕ → ℕ → Got Head
 headAt s at kind =
     then (byteAt s at) (λ (x, p).
@@ -45,7 +45,8 @@ headAt s at kind =
     (then (argumentAt s p (x % 32)) (λ (n, next).
     demand (eqb (infoOf n) (x % 32)) 18 (got (record { major = x / 32; number = n }) next)))))
 
--- a number, an array's count or a string's length, from least to most; a negative number is none
+-- a number, an array's count or a string's length, from least to most (R10.3); a negative number is
+-- out of every such range (R10.4)
 unfoldable pub numberAt : (s : List ℕ) (at kind least most fault : ℕ) → Got ℕ
 numberAt s at kind least most fault =
     then (headAt s at kind) (λ (h, next).
@@ -53,7 +54,7 @@ numberAt s at kind least most fault =
     (demand (leb least (h .number)) fault
     (demand (leb (h .number) most) fault (got (h .number) next))))
 
--- where the contents of a string are
+-- where the contents of a string are; 3 where the input ends in them (R10.3)
 unfoldable pub contentsAt : List ℕ → ℕ → ℕ → Got Span
 contentsAt s at len = demand (leb (at + len) (length s)) 3 (got (record { start = at; len = len }) (at + len))
 
@@ -61,17 +62,17 @@ contentsAt s at len = demand (leb (at + len) (length s)) 3 (got (record { start 
 unfoldable pub stringAt : (s : List ℕ) (at kind least most fault : ℕ) → Got Span
 stringAt s at kind least most fault = then (numberAt s at kind least most fault) (λ (len, next). contentsAt s next len)
 
--- the contents of a key
+-- the contents of a key, which are compared with the name (R18.2): 3, then 18 (R10.3)
 unfoldable pub nameAt : List ℕ → ℕ → List ℕ → Got Unit
 nameAt s at name =
     demand (leb (at + length name) (length s)) 3
     (demand (same name (take (length name) (drop at s))) 18 (got tt (at + length name)))
 
--- a named key: a text of at most 23 bytes, whose head is one byte
+-- a named key: a text of at most 23 bytes, whose head is one byte (R10.6)
 unfoldable pub keyAt : List ℕ → ℕ → List ℕ → Got Unit
 keyAt s at name = demand (ltb (length name) 24) 18 (then (oneAt s at (96 + length name)) (λ (_, p). nameAt s p name))
 
--- a double, by its 64 bits
+-- a double, by its 64 bits (R10.8)
 unfoldable pub doubleAt : List ℕ → ℕ → Got ℕ
 doubleAt s at = then (oneAt s at 0xFB) (λ (_, p). bigEndianAt s p 8)
 

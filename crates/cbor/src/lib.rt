@@ -1,4 +1,8 @@
-// CBOR items (RFC 8949), read at a position of the input and written at a position of lent output: document 01, "CBOR payloads".
+// CBOR items (RFC 8949; section 10 of docs/RULES.md), read at a position of the input and written
+// at a position of lent output.
+//
+// What is written reads back whatever follows it, and what is read is exactly the written form of
+// its value: for each item in proofs/Written.antt and proofs/Only.antt.
 pub mod read;
 mod short;
 pub mod write;
@@ -7,14 +11,16 @@ ghost use mathlib.Core.Path.{_≡_};
 ghost use Rattle.wire.specs.Answer.{numberOf};
 ghost use Rattle.cbor.specs.Answer.{headTold, stringTold};
 
-// A head's major type and number. Of major type 0 the number is n, of 1 it is -1 - n.
+// A head's major type and number. Of major type 0 the integer is n, of 1 it is -1 - n (R10.4).
 pub enum HeadRead {
     Value { major: u8, n: u64, next: usize },
     Refused { no: u8 },
 }
 
 impl HeadRead {
-    // The number of a refusal, for a caller's `else`.
+    // The number of the refusal to read a head; 0 where one was read.
+    //
+    // For a caller's `else`.
     pub fn no(self) -> u8
         ensures { λ n. ⌜ n ≡ numberOf (headTold self) ⌝ }
     {
@@ -38,6 +44,7 @@ pub enum StringRead {
 }
 
 impl StringRead {
+    // The number of the refusal to read a string; 0 where one was read.
     pub fn no(self) -> u8
         ensures { λ n. ⌜ n ≡ numberOf (stringTold self) ⌝ }
     {
@@ -48,7 +55,8 @@ impl StringRead {
     }
 }
 
-// The kinds of items. Each is the major type of its heads, but that a negative integer has the major type NEGATIVE.
+// The kinds of items. Each is the major type of its heads, but that a negative integer has the
+// major type NEGATIVE (R10.4).
 pub const INTEGER: u8 = 0;
 
 pub const NEGATIVE: u8 = 1;

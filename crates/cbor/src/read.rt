@@ -1,4 +1,5 @@
-// What stands at a position of the input. Of several faults the one furthest in front is told: see specs/Item.antt.
+// What stands at a position of the input. Of several faults the one furthest in front is told
+// (R10.2): each answer is taken apart with `let .. else`, and a refusal leaves at once (R18.4).
 ghost use mathlib.Core.Path.{_≡_};
 ghost use Prim.Native.Nat.{_+_, _<_, _≤_};
 ghost use lib.ListN.{length, take, drop};
@@ -18,7 +19,7 @@ fn wide(x: u8) -> u64
     x as u64
 }
 
-// Integers of either sign are one kind.
+// Integers of either sign are one kind (R10.4).
 fn kind_of(major: u8) -> u8
     ensures { λ r. ⌜ r ≡ kindOf major ⌝ }
 {
@@ -76,7 +77,9 @@ fn argument(s: &[u8], at: usize, info: u8) -> NumberRead
     big_endian_at(s, at, short::width(info))
 }
 
-// Any one byte. The first byte of an item tells which it is, where a field may hold one of several.
+// The byte at the position, whatever it is, and the position past it; or 3.
+//
+// The first byte of an item tells which it is, where a field may hold one of several.
 pub fn byte(s: &[u8], at: usize) -> NumberRead
     ensures { λ r. ⌜ numberTold r ≡ byteAt (now (s .entry)) at ⌝ }
 {
@@ -91,7 +94,9 @@ pub fn byte(s: &[u8], at: usize) -> NumberRead
     }
 }
 
-// The head of a map or a simple value.
+// The position past the wanted byte, which stands at the position asked; or 3, then 18.
+//
+// The head of a map, or a simple value, is read so.
 pub fn one_byte(s: &[u8], at: usize, wanted: u8) -> StepRead
     ensures { λ r. ⌜ stepTold r ≡ oneAt (now (s .entry)) at wanted ⌝ }
 {
@@ -108,7 +113,8 @@ pub fn one_byte(s: &[u8], at: usize, wanted: u8) -> StepRead
     StepRead::Past { next: at + 1 }
 }
 
-// The head of an item of a kind, in the shortest form.
+// The head of an item of this kind, in the shortest form: its major type, its number and the
+// position past it; or 18 for another first byte, 3 where the input ends, 18 for a longer form.
 pub fn head(s: &[u8], at: usize, kind: u8) -> HeadRead
     ensures { λ r. ⌜ headTold r ≡ headAt (now (s .entry)) at kind ⌝ }
 {
@@ -141,7 +147,8 @@ pub fn head(s: &[u8], at: usize, kind: u8) -> HeadRead
     HeadRead::Value { major, n, next }
 }
 
-// The number of a head, from least to most: else the refusal is fault, for a negative number too.
+// The number of a head of this kind, within the bounds, and the position past it; or the head's
+// refusal, then the fault that the caller names for any other number, a negative one too.
 pub fn number(s: &[u8], at: usize, kind: u8, least: u64, most: u64, fault: u8) -> NumberRead
     ensures { λ r. ⌜ numberTold r ≡ numberAt (now (s .entry)) at kind least most fault ⌝ }
 {
@@ -161,7 +168,8 @@ pub fn number(s: &[u8], at: usize, kind: u8, least: u64, most: u64, fault: u8) -
     NumberRead::Value { n, next }
 }
 
-// The contents of a string, whose head stands before position at.
+// Where the len bytes of a string stand from the position on, behind its head, and the position
+// past them; or 3.
 pub fn contents(s: &[u8], at: usize, len: u64) -> StringRead
     ensures { λ r. ⌜ stringTold r ≡ contentsAt (now (s .entry)) at len ⌝ }
 {
@@ -183,7 +191,9 @@ pub fn contents(s: &[u8], at: usize, len: u64) -> StringRead
     }
 }
 
-// A byte string or a text of a length from least to most: for another length the refusal is fault.
+// Where the contents of a byte string or a text stand, of a length within the bounds, and the
+// position past them; or the head's refusal, then the fault that the caller names for another
+// length, then 3.
 pub fn string(s: &[u8], at: usize, kind: u8, least: u64, most: u64, fault: u8) -> StringRead
     ensures { λ r. ⌜ stringTold r ≡ stringAt (now (s .entry)) at kind least most fault ⌝ }
 {
@@ -194,7 +204,7 @@ pub fn string(s: &[u8], at: usize, kind: u8, least: u64, most: u64, fault: u8) -
     contents(s, next, n)
 }
 
-// The contents of a key, whose head stands before position at.
+// The contents of a key, whose head stands before position at: a fixed string, compared (R18.2).
 fn name(s: &[u8], at: usize, wanted: &[u8]) -> StepRead
     ensures { λ r. ⌜ stepTold r ≡ nameAt (now (s .entry)) at (now (wanted .entry)) ⌝ }
 {
@@ -218,7 +228,7 @@ fn name(s: &[u8], at: usize, wanted: &[u8]) -> StepRead
     }
 }
 
-// A named key. A name of more than 23 bytes is none.
+// The position past the named key; or 18, 3, 18. No key has a name of more than 23 bytes.
 pub fn key(s: &[u8], at: usize, wanted: &[u8]) -> StepRead
     ensures { λ r. ⌜ stepTold r ≡ keyAt (now (s .entry)) at (now (wanted .entry)) ⌝ }
 {
@@ -235,7 +245,8 @@ pub fn key(s: &[u8], at: usize, wanted: &[u8]) -> StepRead
     name(s, next, wanted)
 }
 
-// A double, by its 64 bits.
+// The 64 bits of a double, which is FB and eight bytes, and the position past it; or 18 for another
+// first byte, 3 where the input ends.
 pub fn double(s: &[u8], at: usize) -> NumberRead
     ensures { λ r. ⌜ numberTold r ≡ doubleAt (now (s .entry)) at ⌝ }
 {
@@ -246,7 +257,9 @@ pub fn double(s: &[u8], at: usize) -> NumberRead
     big_endian_at(s, next, 8)
 }
 
-// A key, and a string of a length from least to most: for another length the refusal is fault.
+// A key, and where the contents of the string behind it stand, of a length within the bounds; or
+// the refusal of the key, then that of the string, which is the fault that the caller names for
+// another length.
 pub fn string_field(
     s: &[u8],
     at: usize,
@@ -265,7 +278,8 @@ pub fn string_field(
     string(s, next, kind, least, most, fault)
 }
 
-// A key, and a number from least to most.
+// A key, and the number behind it, within the bounds; or the refusal of the key, then that of the
+// number, which is 19 where it is outside.
 pub fn number_field(s: &[u8], at: usize, name: &[u8], least: u64, most: u64) -> NumberRead
     ensures { λ r. ⌜ numberTold r ≡ numberFieldAt (now (s .entry)) at (now (name .entry)) least most ⌝ }
 {
@@ -276,7 +290,8 @@ pub fn number_field(s: &[u8], at: usize, name: &[u8], least: u64, most: u64) -> 
     number(s, next, super::INTEGER, least, most, wire::OUT_OF_RANGE)
 }
 
-// A key, and a value of any kind: its first byte, which tells the kind, and its position.
+// A key, and of the value behind it, whatever it is, the first byte, which tells its kind, and the
+// position; or the refusal of the key, then 3.
 pub fn any_field(s: &[u8], at: usize, name: &[u8]) -> NumberRead
     ensures { λ r. ⌜ numberTold r ≡ anyFieldAt (now (s .entry)) at (now (name .entry)) ⌝ }
 {

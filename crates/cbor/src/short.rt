@@ -1,4 +1,4 @@
-// The shortest head of a number: document 01, "CBOR payloads".
+// The shortest head of a number (R10.1).
 ghost use mathlib.Core.Path.{_≡_};
 ghost use Prim.Native.Nat.{_≤_};
 ghost use Rattle.cbor.specs.Form.{infoOf, widthOf};

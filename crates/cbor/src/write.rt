@@ -1,5 +1,6 @@
-// Items written at a position of lent output. Each answers the position past the item; where the item does not fit, nothing
-// is written and the position stays. A payload's writer judges first that all of it fits.
+// Items written at a position of lent output. Each answers the position past the item; where the
+// item does not fit, nothing is written and the position stays. A payload's writer judges first
+// that all of it fits (R10.7).
 ghost use mathlib.Core.Path.{_≡_};
 ghost use Prim.Native.Nat.{_+_, _-_, _%_, _≤_};
 ghost use lib.ListN.{length};
@@ -9,7 +10,7 @@ ghost use Rattle.cbor.specs.Form.{headOf, headSize, stringOf, doubleOf, 
 ghost use Rattle.cbor.specs.Put.{Put};
 use super::short;
 
-// How long the head of a number is.
+// How long the head of the number n is.
 pub fn size(n: u64) -> usize
     ensures { λ r. ⌜ r ≡ headSize n ⌝ }
 {
@@ -45,7 +46,10 @@ fn big_endian(out: &mut [u8], at: usize, k: usize, n: u64)
     }
 }
 
-// Bytes that stand as they are: the head of a map, a simple value, a domain string.
+// The bytes of an item as they are at the position, and the position past them. Where they do not
+// fit, nothing is written and the position stays.
+//
+// The head of a map, a simple value and a domain string are written so.
 pub fn fixed(out: &mut [u8], at: usize, item: &[u8]) -> usize
     ensures { λ r. ⌜ Put at (now (item .entry)) (now (out .entry)) (now (out .exit)) r ⌝ }
 {
@@ -56,7 +60,8 @@ pub fn fixed(out: &mut [u8], at: usize, item: &[u8]) -> usize
     at + item.len()
 }
 
-// A head. A major type is three bits.
+// The one shortest head of the number n at the position, and the position past it. Where it does
+// not fit, nothing is written and the position stays. A major type is three bits.
 pub fn head(out: &mut [u8], at: usize, major: u8, n: u64) -> usize
     ensures { λ r. ⌜ Put at (headOf (major % 8) n) (now (out .entry)) (now (out .exit)) r ⌝ }
 {
@@ -69,7 +74,10 @@ pub fn head(out: &mut [u8], at: usize, major: u8, n: u64) -> usize
     at + 1 + k
 }
 
-// A byte string or a text; a key is a text.
+// A byte string or a text with its head at the position, and the position past it. Where it does
+// not fit, nothing is written and the position stays.
+//
+// A key is a text.
 pub fn string(out: &mut [u8], at: usize, major: u8, bs: &[u8]) -> usize
     ensures { λ r. ⌜ Put at (stringOf (major % 8) (now (bs .entry))) (now (out .entry)) (now (out .exit)) r ⌝ }
 {
@@ -81,7 +89,8 @@ pub fn string(out: &mut [u8], at: usize, major: u8, bs: &[u8]) -> usize
     p + bs.len()
 }
 
-// A double, by its 64 bits.
+// A double by its 64 bits, FB and eight bytes, at the position, and the position past it. Where it
+// does not fit, nothing is written and the position stays.
 pub fn double(out: &mut [u8], at: usize, bits: u64) -> usize
     ensures { λ r. ⌜ Put at (doubleOf bits) (now (out .entry)) (now (out .exit)) r ⌝ }
 {
@@ -93,7 +102,8 @@ pub fn double(out: &mut [u8], at: usize, bits: u64) -> usize
     at + 9
 }
 
-// A key and a string.
+// A key and a string at the position, and the position past them. Where they do not fit, nothing is
+// written and the position stays.
 pub fn string_field(out: &mut [u8], at: usize, name: &[u8], major: u8, bs: &[u8]) -> usize
     ensures { λ r. ⌜ Put at (stringFieldOf (now (name .entry)) (major % 8) (now (bs .entry))) (now (out .entry)) (now (out .exit)) r ⌝ }
 {
@@ -109,7 +119,8 @@ pub fn string_field(out: &mut [u8], at: usize, name: &[u8], major: u8, bs: &[u8]
     string(out, p, major, bs)
 }
 
-// A key and a number.
+// A key and a number at the position, and the position past them. Where they do not fit, nothing is
+// written and the position stays.
 pub fn number_field(out: &mut [u8], at: usize, name: &[u8], n: u64) -> usize
     ensures { λ r. ⌜ Put at (numberFieldOf (now (name .entry)) n) (now (out .entry)) (now (out .exit)) r ⌝ }
 {

@@ -1,5 +1,10 @@
-// Open, offer and join over the bytes of a collection, which are also the saved file: document 01, "The collection".
-// Each public function takes any arguments. Nothing is written before every check has passed, and then only the blocks that change.
+// Open, offer and join over the bytes of a collection, which are also the saved file: R9.1 to R9.8.
+// Each public function takes any arguments. Nothing is written before every check has passed, and
+// then only the blocks that change.
+//
+// Whatever is offered and joined, in any order and grouping, with repeats, bad scans and strangers'
+// pages, the saved bytes are those of the set (`saved`, `saved-set`, `list-saved`, `list-joined`:
+// collection, Demand). Open, offer and join leave a collection well formed (collection, Keeps).
 mod merge;
 mod take;
 
@@ -30,7 +35,7 @@ pub enum Offered {
     Refused { no: u8 },
 }
 
-// The empty collection of a document, over all of c.
+// The empty collection of a document over all of c; or 19, then 11, and nothing changed.
 pub fn open(id: &[u8], c: &mut [u8]) -> Answered
     ensures { λ r. ⌜ Kept (opening (now (id .entry)) (now (c .entry))) (now (c .entry)) (now (c .exit)) (told r) ⌝ }
 {
@@ -47,7 +52,8 @@ pub fn open(id: &[u8], c: &mut [u8]) -> Answered
     Answered::Done
 }
 
-// Takes the page of one raw frame into c.
+// The collection c with the good page of one raw frame taken, and how that page stands: 1 held, 2
+// disputed, 3 the totals disagree; or 13, the frame's own refusal, 12, and nothing changed.
 pub fn offer(c: &mut [u8], raw: &[u8]) -> Offered
     ensures { λ r. ⌜ Kept (offering (now (c .entry)) (now (raw .entry))) (now (c .entry)) (now (c .exit)) (toldKind r) ⌝ }
 {
@@ -66,7 +72,8 @@ pub fn offer(c: &mut [u8], raw: &[u8]) -> Offered
     Offered::Done { kind }
 }
 
-// Joins the collection o into c.
+// The union of c and o, two collections of one document, in c; or 13 for c, 13 for o, 12, and
+// nothing changed.
 pub fn join(c: &mut [u8], o: &[u8]) -> Answered
     ensures { λ r. ⌜ Kept (joining (now (c .entry)) (now (o .entry))) (now (c .entry)) (now (c .exit)) (told r) ⌝ }
 {

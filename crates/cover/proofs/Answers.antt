@@ -1,4 +1,5 @@
--- The answer of `read` says no more than 01, and how a caller goes on from it. Assumes nothing.
+-- The answer of `read` says no more than its number and values do, and how a caller goes on from
+-- it. Assumes nothing.
 use mathlib.Core.Path.{_≡_, ap}
 use Rattle.wire.proofs.Cases.{got-value}
 use Rattle.cover.specs.Cover as C
@@ -6,7 +7,7 @@ use Rattle.cover.specs.Answer.{told}
 use Rattle.cover.specs.declared.CoverRead.{CoverRead}
 use Rattle.cover.specs.declared.CoverRead.the-variants.{Cover, Refused}
 
--- the enum says no more than 01's answer does
+-- the enum says no more than its number and values do
 pub told-injective : (r q : CoverRead) → told r ≡ told q → r ≡ q
 told-injective (Cover m p) (Cover n q) e =
     let v = got-value e in

@@ -1,4 +1,5 @@
--- What a part of the code answers, for the contract of a private function: nothing here is promised to a caller.
+-- What a part of the code answers, for the contract of a private function: nothing here is promised
+-- to a caller.
 use Prim.Native.Nat.{_+_}
 use Rattle.wire.specs.Answer.{refused, Got, got}
 use Rattle.wire.specs.declared.Span.{Span}

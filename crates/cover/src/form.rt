@@ -8,7 +8,7 @@ ghost use Rattle.wire.specs.Writing.{Written};
 ghost use Rattle.cover.specs.Cover.{chunkOf, coverOf};
 use wire::Wrote;
 
-// Two bytes of magic and one of version.
+// Two bytes of magic and one of version (R14.1).
 const OPENING: usize = 3;
 
 // The length of bs and bs at index at; the answer is the index past them.

@@ -1,4 +1,8 @@
-// The outer layout of an envelope, read and laid out: document 01, "CBOR payloads". What its two parts hold is judged by the crate envelope.
+// The outer layout of an envelope, read and laid out: R14.1 and R14.2. What its two parts hold is
+// judged by the crate envelope.
+//
+// What is laid out reads back, and what is read is exactly the layout of its parts (`cover-back`,
+// `cover-only`).
 mod form;
 
 ghost use mathlib.Core.Path.{_≡_};
@@ -15,12 +19,14 @@ use wire::Wrote;
 pub enum CoverRead {
     // Where the manifest and the payload stand in the input.
     Cover { manifest: Span, payload: Span },
-    // 01's number of the refusal.
+    // The number of the refusal (R2.2).
     Refused { no: u8 },
 }
 
 impl CoverRead {
-    // The number of a refusal, for a caller's `else`.
+    // The number of the refusal to read a cover; 0 where one was read.
+    //
+    // For a caller's `else`.
     pub fn no(self) -> u8
         ensures { λ n. ⌜ n ≡ numberOf (told self) ⌝ }
     {
@@ -48,7 +54,7 @@ impl ChunkRead {
     }
 }
 
-// A length and that many bytes. A length near 2^64 is compared, and never added to.
+// A length and that many bytes (R14.2). A length near 2^64 is compared, and never added to.
 fn chunk(s: &[u8], at: usize) -> ChunkRead
     ensures { λ r. ⌜ chunkTold r ≡ chunkAt (now (s .entry)) at ⌝ }
 {
@@ -69,7 +75,8 @@ fn chunk(s: &[u8], at: usize) -> ChunkRead
     }
 }
 
-// The two parts of s, all of s. What is wrong first, from the front on, is refused.
+// Where the manifest and the payload stand in the envelope that s is; or the first fault, from the
+// front on: 3, 4, 5 or 7.
 pub fn read(s: &[u8]) -> CoverRead
     ensures { λ r. ⌜ told r ≡ coverAt (now (s .entry)) ⌝ }
 {
@@ -93,7 +100,7 @@ pub fn read(s: &[u8]) -> CoverRead
     CoverRead::Cover { manifest, payload }
 }
 
-// The layout of any two parts, at the front of out.
+// The envelope of any two parts at the front of out, and its length; or 11 and nothing changed.
 pub fn lay(manifest: &[u8], payload: &[u8], out: &mut [u8]) -> Wrote
     ensures { λ r. ⌜ Written 0 (done (coverOf (now (manifest .entry)) (now (payload .entry)))) (now (out .entry)) (now (out .exit)) r ⌝ }
 {

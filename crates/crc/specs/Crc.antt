@@ -1,9 +1,9 @@
--- CRC-32/ISO-HDLC (source document 002, section 6): the reflected polynomial EDB88320, first register and final exclusive or FFFFFFFF.
+-- CRC-32/ISO-HDLC (R6.3).
 use mathlib.Core.List.{List, [], _∷_}
 use Prim.Native.Nat.{ℕ, zero, suc, _*_, _/_, _%_}
 use lib.Bits.{bitXor}
 
--- one bit: the register moves right, and the bit that falls out picks the polynomial
+-- one bit: the register moves right, and the bit that falls out picks the reflected polynomial
 unfoldable pub bit : ℕ → ℕ
 bit c = bitXor (c / 2) (c % 2 * 0xEDB88320)
 
@@ -21,5 +21,6 @@ unfoldable pub through : ℕ → List ℕ → ℕ
 through c [] = c
 through c (b ∷ bs) = through (byte c b) bs
 
+-- the register is FFFFFFFF at first, and inverted at the end (R6.3)
 unfoldable pub crc32 : List ℕ → ℕ
 crc32 bs = bitXor (through 0xFFFFFFFF bs) 0xFFFFFFFF

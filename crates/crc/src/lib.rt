@@ -1,5 +1,5 @@
-// CRC-32/ISO-HDLC: the checksum of a frame and of a block of the collection. The definition takes one bit at a time; here eight leave
-// the register at once, by a table.
+// CRC-32/ISO-HDLC: the checksum of a frame (R6.3) and of a block of the collection (R8.2). The
+// definition takes one bit at a time; here eight leave the register at once, by a table.
 mod table;
 
 ghost use mathlib.Core.Path.{_≡_};
@@ -25,7 +25,7 @@ fn word(t: &[u32; 256], c: u32, b0: u8, b1: u8, b2: u8, b3: u8) -> u32
     eight_bits(t, eight_bits(t, eight_bits(t, eight_bits(t, c ^ all))))
 }
 
-// The checksum of all of s.
+// The CRC-32/ISO-HDLC of all of s.
 pub fn crc32(s: &[u8]) -> u32
     ensures { λ r. ⌜ r ≡ C.crc32 (now (s .entry)) ⌝ }
 {
@@ -55,7 +55,7 @@ fn big_endian(n: u32) -> [u8; 4]
     ]
 }
 
-// The checksum of all of s as a frame and a block hold it: four bytes, the highest first.
+// The CRC-32/ISO-HDLC of all of s as a frame and a block hold it: four bytes, the highest first.
 pub fn sum(s: &[u8]) -> [u8; 4]
     ensures { λ r. ⌜ r ≡ bigEndian 4 (C.crc32 (now (s .entry))) ⌝ }
 {

@@ -1,5 +1,5 @@
 // What eight bits make of a register that holds one byte alone: 0, 1, and so on to 255.
-// The proof of crc32 computes them all once more from the definition.
+// The proof of crc32 computes them all once more from the definition (R18.3).
 pub const TABLE: [u32; 256] = [
     0x00000000,
     0x77073096,

@@ -1,4 +1,4 @@
--- Numbers in decimal, and the line that says one: document 01, "The collection", of a refusal.
+-- Numbers in decimal, as the status line has them (R9.12), and the line of a refusal.
 use Prim.Native.Nat.{ℕ, _+_, _/_, _%_}
 use mathlib.Core.List.{List, [], _∷_, _++_}
 use lib.Dec.{ltb}
@@ -15,12 +15,13 @@ decimal n =
     choose (ltb n 10) (digit n ∷ [])
     (choose (ltb n 100) (digit (n / 10) ∷ digit (n % 10) ∷ []) (digit (n / 100) ∷ digit (n / 10 % 10) ∷ digit (n % 10) ∷ []))
 
--- what ends a line
+-- what ends a line (R9.12)
 abbrev pub lineFeed : List ℕ
 lineFeed = 10 ∷ []
 
 abbrev pub refusedName : List ℕ
 refusedName = ascii "refused "
 
+-- the word and the number of the refusal (R9.13)
 unfoldable pub refusedLine : ℕ → List ℕ
 refusedLine e = refusedName ++ decimal e ++ lineFeed

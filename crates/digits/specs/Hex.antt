@@ -1,4 +1,5 @@
--- Bytes in lower-case hex: 0 to 9 are 30 to 39 hex, 10 to 15 are 61 to 66 hex.
+-- Bytes in lower-case hex, as the programs print and read an id (R15.1, R15.4): 0 to 9 are 30 to 39
+-- hex, 10 to 15 are 61 to 66 hex.
 use Prim.Native.Nat.{ℕ, _+_, _-_, _*_, _/_, _%_}
 use mathlib.Core.Bool.{Bool, _&&_}
 use mathlib.Core.List.{List, [], _∷_}
@@ -32,6 +33,6 @@ hexBytes [] = []
 hexBytes (h ∷ []) = []
 hexBytes (h ∷ l ∷ s) = (hexValue h * 16 + hexValue l) ∷ hexBytes s
 
--- digits alone, and none without its second: else 19
+-- digits alone, and none without its second: else 19 (R15.1)
 unfoldable pub hexVerdict : List ℕ → Answer (List ℕ)
 hexVerdict s = demand (eqb (length s % 2) 0 && allHex s) 19 (done (hexBytes s))

@@ -1,4 +1,8 @@
-// Numbers and bytes as digits: a number in decimal, with the line that says a refusal's, and bytes in lower-case hex, written and read.
+// Numbers and bytes as digits: a number in decimal, with the line that says a refusal's, and bytes
+// in lower-case hex, written and read.
+//
+// What is written in hex reads back, for all bytes (`hex-back`: digits, Hexes). A number has at
+// most three digits, since it is a byte (`length-decimal`: digits, Decimals).
 ghost use mathlib.Core.Path.{_≡_};
 ghost use mathlib.Core.Bool.{true};
 ghost use mathlib.Core.List.{[], _∷_};
@@ -13,7 +17,8 @@ use wire::Wrote;
 
 // ---- decimal
 
-// The digits of n from index at on, where they fit. Answers how many they are.
+// The decimal digits of n from the index on; nothing changes where they do not fit. The answer is
+// how many they are, in either case.
 pub fn decimal(out: &mut [u8], at: usize, n: u8) -> usize
     ensures { λ r. ⌜ (r ≡ length (decimalOf n)) × (r ≤ 3) × (now (out .exit) ≡ over at (decimalOf n) (now (out .entry))) ⌝ }
 {
@@ -34,7 +39,11 @@ pub fn decimal(out: &mut [u8], at: usize, n: u8) -> usize
 // The word, three digits and the line feed.
 const REFUSED_ROOM: usize = 12;
 
-// The line of a refusal, at the front of out: of a collection that is not well formed, and of a program that refuses its input.
+// The word `refused`, the number and a line feed at the front of out, and their length; or 11 and
+// nothing changed.
+//
+// A collection that is not well formed is told by this line, and so is an input that a program
+// refuses.
 pub fn refused_line(no: u8, out: &mut [u8]) -> Wrote
     ensures { λ r. ⌜ Written 0 (done (refusedLine no)) (now (out .entry)) (now (out .exit)) r ⌝ }
 {
@@ -75,7 +84,8 @@ fn hex_fitting(out: &mut [u8], at: usize, src: &[u8])
     }
 }
 
-// Two digits for each byte of src from index at on, where they all fit.
+// Two lower-case hex digits for each byte of src from the index on. Nothing changes where they do
+// not all fit.
 pub fn hex(out: &mut [u8], at: usize, src: &[u8])
     ensures { λ _. ⌜ now (out .exit) ≡ over at (hexOf (now (src .entry))) (now (out .entry)) ⌝ }
 {
@@ -107,7 +117,7 @@ fn value(b: u8) -> u8
     16
 }
 
-// Whether each byte is a lower-case hex digit.
+// True exactly where each byte is a lower-case hex digit.
 pub fn all_hex(s: &[u8]) -> bool
     ensures { λ r. ⌜ r ≡ allHex (now (s .entry)) ⌝ }
 {
@@ -134,7 +144,8 @@ fn read_fitting(s: &[u8], out: &mut [u8])
     }
 }
 
-// The bytes that the digits say, at the front of out.
+// The bytes that lower-case hex digits say, at the front of out, and their number; or 19 where a
+// byte is no such digit or the last digit stands alone, then 11, and nothing changed.
 pub fn hex_read(s: &[u8], out: &mut [u8]) -> Wrote
     ensures { λ r. ⌜ Written 0 (hexVerdict (now (s .entry))) (now (out .entry)) (now (out .exit)) r ⌝ }
 {

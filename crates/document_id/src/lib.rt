@@ -1,8 +1,8 @@
-// The id of a document: document 01, "Frames", the paragraph "Printing". Printing and finishing both compute it.
+// The id of a document (R7.1). Printing and finishing both compute it.
 ghost use mathlib.Core.Path.{_≡_};
 ghost use Rattle.document_id.specs.Id.{documentId};
 
-// The id is the front of the digest of the whole ciphertext.
+// The id of the document: the first 8 bytes of the BLAKE2b of the whole ciphertext.
 pub fn of(ciphertext: &[u8]) -> [u8; wire::ID_SIZE]
     ensures { λ r. ⌜ r ≡ documentId (now (ciphertext .entry)) ⌝ }
 {

@@ -1,4 +1,5 @@
--- What the readers answer is fixed by their contracts, and how a chain of items goes on from an mtime and a file. Assumes nothing.
+-- What the readers answer is fixed by their contracts, and how a chain of items goes on from an
+-- mtime and a file. Assumes nothing.
 use Prim.Native.Nat.{ℕ}
 use mathlib.Core.Path.{_≡_, refl}
 use Rattle.wire.specs.Answer.{refused, numberOf, then, Got, Answer}
@@ -13,7 +14,7 @@ use Rattle.entry.specs.declared.MtimeRead.the-variants as mtime
 use Rattle.entry.specs.declared.FileRead.{FileRead}
 use Rattle.entry.specs.declared.FileRead.the-variants as file
 
--- the enum says no more than 01's answer does
+-- the enum says no more than its number and values do
 pub file-injective : (r q : FileRead) → fileTold r ≡ fileTold q → r ≡ q
 file-injective (file.Value v i) (file.Value w j) e = cc (got-value e, got-next e)
 file-injective (file.Value v i) (file.Refused n) e = cc

@@ -1,4 +1,5 @@
--- What a part of the code answers, for the contract of a private function: nothing here is promised to a caller.
+-- What a part of the code answers, for the contract of a private function: nothing here is promised
+-- to a caller.
 use Prim.Native.Nat.{ℕ, _+_}
 use mathlib.Core.List.{List, _++_}
 use Rattle.wire.specs.Answer.{refused, Got, got}
@@ -23,7 +24,7 @@ mtimeSize (Integer negative n) = headSize n
 unfoldable pub fileSize : File → ℕ
 fileSize f = 56 + headSize (f .path .len) + f .path .len + headSize (f .size) + mtimeSize (f .mtime)
 
--- what `mtime_field` answers, as document 01's number and value
+-- what `mtime_field` answers, as a number and a value (R18.5)
 abbrev pub mtimeTold : MtimeRead → Got Mtime
 mtimeTold (mtime.Value v next) = got v next
 mtimeTold (mtime.Refused e) = refused e

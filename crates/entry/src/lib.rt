@@ -1,4 +1,5 @@
-// One file of a manifest, read at a position of the input and written at a position of lent output: document 01, "CBOR payloads".
+// One file of a manifest (R13.5), read at a position of the input and written at a position of lent
+// output.
 pub mod read;
 pub mod write;
 
@@ -10,11 +11,12 @@ use wire::Span;
 
 pub enum Mtime {
     Null,
-    // The number n, or -1 - n where it is negative.
+    // The number n, or -1 - n where it is negative (R13.6).
     Integer { negative: bool, n: u64 },
 }
 
-// Its hash and path stand in a pool of bytes. Of a file that was read the pool is the input.
+// Its hash and path stand in a pool of bytes. Of a file that was read the pool is the input
+// (R13.7).
 pub struct File {
     pub hash: Span,
     pub path: Span,
@@ -45,6 +47,7 @@ pub enum FileRead {
 }
 
 impl FileRead {
+    // The number of the refusal to read a file; 0 where one was read.
     pub fn no(self) -> u8
         ensures { λ n. ⌜ n ≡ numberOf (fileTold self) ⌝ }
     {

@@ -1,4 +1,5 @@
-// What stands at a position of the input. Of several faults the one furthest in front is told: see specs/File.antt.
+// What stands at a position of the input. Of several faults the one furthest in front is told
+// (R10.2), and a refusal leaves at once (R18.4).
 ghost use mathlib.Core.Path.{_≡_};
 ghost use Rattle.entry.specs.File.{integerAt, mtimeAt, pathAt, fileAt};
 ghost use Rattle.entry.specs.Answer.{fileTold};
@@ -21,10 +22,11 @@ use wire::OUT_OF_RANGE;
 use wire::Span;
 use wire::StepRead;
 
-// 2^63: an integer is n or -1 - n with n below it.
+// 2^63: an integer is n or -1 - n with n below it (R13.6).
 const END: u64 = 0x8000000000000000;
 
-// An integer of either sign: the major type NEGATIVE tells which.
+// An integer from -2^63 to 2^63 - 1, and the position past it; or 3, 18, 19. The major type
+// NEGATIVE tells that it is below 0.
 pub fn integer(s: &[u8], at: usize) -> HeadRead
     ensures { λ r. ⌜ headTold r ≡ integerAt (now (s .entry)) at ⌝ }
 {
@@ -62,7 +64,7 @@ fn mtime_field(s: &[u8], at: usize) -> MtimeRead
     }
 }
 
-// A path that is above prev, the path before it.
+// A path that is above prev, the path before it (R12.6).
 fn path_field(s: &[u8], at: usize, prev: &[u8]) -> StringRead
     ensures { λ r. ⌜ stringTold r ≡ pathAt (now (s .entry)) at (now (prev .entry)) ⌝ }
 {
@@ -80,7 +82,8 @@ fn path_field(s: &[u8], at: usize, prev: &[u8]) -> StringRead
     StringRead::Value { start, len, next }
 }
 
-// A file whose path is above prev, the path before it.
+// The map of one file, whose path is above prev, the path before it, and the position past the map;
+// or the refusal of the first offending item.
 pub fn file(s: &[u8], at: usize, prev: &[u8]) -> FileRead
     ensures { λ r. ⌜ fileTold r ≡ fileAt (now (s .entry)) at (now (prev .entry)) ⌝ }
 {

@@ -1,4 +1,4 @@
-// Whether a file may be written, and its written form. Its places are in a pool of bytes.
+// Whether a file may be written, and its written form. Its places are in a pool of bytes (R13.7).
 ghost use mathlib.Core.Path.{_≡_};
 ghost use Prim.Native.Nat.{_+_, _≤_};
 ghost use lib.ListN.{length};
@@ -19,7 +19,7 @@ use wire::OUT_OF_RANGE;
 use wire::Span;
 use wire::Wrote;
 
-// The bytes at a place; of one that reaches past the pool those that are there.
+// The bytes at a place of the pool; of a place that reaches past the pool those that are there.
 pub fn part(pool: &[u8], p: Span) -> &[u8]
     ensures { λ r. ⌜ now r ≡ partAt (now (pool .entry)) p ⌝ }
 {
@@ -48,7 +48,7 @@ fn holds(pool: &[u8], p: Span) -> bool
     true
 }
 
-// Whether a hash or a seed is at that place.
+// True exactly where 32 bytes of the pool are at the place, as of a hash or a seed.
 pub fn digest(pool: &[u8], p: Span) -> bool
     ensures { λ r. ⌜ r ≡ digestIn (now (pool .entry)) p ⌝ }
 {
@@ -100,7 +100,8 @@ fn size(f: File) -> usize
     56 + cbor::write::size(len as u64) + len + cbor::write::size(f.size) + mtime_size(mtime)
 }
 
-// The length of the file's written form, or the refusal. Its path has to be above prev, the path before it.
+// The length of the written form of a file, where the file may be written behind prev, the path
+// before it; or 19, 20.
 pub fn judge(pool: &[u8], prev: &[u8], f: File) -> Wrote
     ensures { λ r. ⌜ told r ≡ outcome (fileVerdict (now (pool .entry)) (now (prev .entry)) f) ⌝ }
 {
@@ -122,7 +123,8 @@ pub fn judge(pool: &[u8], prev: &[u8], f: File) -> Wrote
     Wrote::Done { len: size(f) }
 }
 
-// The number n, or -1 - n where it is negative.
+// The number n, or -1 - n where it is negative, in its one form at the position, and the position
+// past it. Where it does not fit, nothing is written and the position stays.
 pub fn integer(out: &mut [u8], at: usize, negative: bool, n: u64) -> usize
     ensures { λ r. ⌜ Put at (integerOf negative n) (now (out .entry)) (now (out .exit)) r ⌝ }
 {
@@ -157,8 +159,10 @@ fn file_fitting(pool: &[u8], f: File, out: &mut [u8], at: usize) -> usize
     mtime_fitting(mtime, out, d)
 }
 
-// Writes a file at position at and answers the position past it. Where it is refused or does not fit, nothing is written and
-// the position stays: a manifest's writer judges first that all of it may be written and fits.
+// The map of one file at the position, and the position past it. Where the file is refused or does
+// not fit, nothing is written and the position stays.
+//
+// A manifest's writer judges first that all of it may be written and fits.
 pub fn file(pool: &[u8], prev: &[u8], f: File, out: &mut [u8], at: usize) -> usize
     ensures { λ r. ⌜ Put at (formOf (fileVerdict (now (pool .entry)) (now (prev .entry)) f)) (now (out .entry)) (now (out .exit)) r ⌝ }
 {

@@ -1,4 +1,5 @@
--- How the cover's and the judge's answers give those of `read` and `write`, and that these are fixed by their contracts. Assumes nothing.
+-- How the cover's and the judge's answers give those of `read` and `write`, and that these are
+-- fixed by their contracts. Assumes nothing.
 use Prim.Native.Nat.{ℕ}
 use mathlib.Core.Path.{_≡_, refl, sym, ap, _∙_}
 use mathlib.Core.List.{List}
@@ -67,7 +68,7 @@ module _ (m p out : List ℕ) (j : Judge) (h : judgeTold j ≡ judged m p) where
       let v : judged m p ≡ done tt = sym h ∙ ap judgeTold f in
       rw v (record { answer = ap wroteTold e ∙ wrote-as w ∙ k .answer; bytes = k .bytes })
 
--- ---- an enum says no more than 01's answer does
+-- ---- an enum says no more than its number and values do
 
 pub read-injective : (r q : EnvelopeRead) → readTold r ≡ readTold q → r ≡ q
 read-injective (R.Envelope m p) (R.Envelope n q) e =

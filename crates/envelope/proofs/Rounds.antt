@@ -1,4 +1,5 @@
--- What is written reads back, and what is read would be written again, byte for byte. Assumes nothing.
+-- What is written reads back, and what is read would be written again, byte for byte.
+-- Assumes nothing.
 use Prim.Native.Nat.{ℕ, _^_, _<_, _≤_}
 use mathlib.Core.Path.{_≡_, sym, ap, subst, _∙_}
 use mathlib.Core.List.{List}
@@ -19,7 +20,7 @@ use Rattle.envelope.specs.Envelope.{contents, judged, envelopeAt, verdic
 abbrev pub Accepted : List ℕ → List ℕ → Type 0
 Accepted m p = judged m p ≡ done tt
 
--- a manifest that is accepted is no longer than 01 allows
+-- a manifest that is accepted is no longer than R3.3 allows
 accepted-most : (m p : List ℕ) → Accepted m p → length m ≤ 16384
 unfolding judged
 accepted-most m p h =

@@ -1,4 +1,4 @@
--- The envelope, read and written: document 01, "CBOR payloads", its paragraph on the envelope; source document 002, sections 2 and 5.
+-- The envelope, read and written: section 14 of docs/RULES.md.
 use Prim.Native.Nat.{ℕ, _+_}
 use mathlib.Core.List.{List, [], _∷_}
 use lib.Dec.{eqb}
@@ -16,25 +16,26 @@ unfoldable pub total : List File → ℕ
 total [] = 0
 total (f ∷ fs) = f .size + total fs
 
--- each digest in its turn: of file i and those after it, whose contents stand one after the other in rest
+-- each digest in its turn: of file i and those after it, whose contents stand one after the other
+-- in rest (R14.3); the place of a wrong one is that of its file (R2.2)
 unfoldable pub digests : (manifest : List ℕ) (files : List File) (i : ℕ) (rest : List ℕ) → Answer Unit
 digests manifest [] i rest = done tt
 digests manifest (f ∷ fs) i rest =
     demandAt (same (sha256 (take (f .size) rest)) (partAt manifest (f .hash))) 21 i
     (digests manifest fs (i + 1) (drop (f .size) rest))
 
--- the sizes first: the place of a wrong sum is the number of files
+-- the sizes first (R14.3): the place of a wrong sum is the number of files (R2.2)
 unfoldable pub contents : List ℕ → List File → List ℕ → Answer Unit
 contents manifest files payload = demandAt (eqb (total files) (length payload)) 21 (length files) (digests manifest files 0 payload)
 
--- the manifest, as its own reader judges it; then its files against the payload
+-- the manifest, as its own reader judges it; then its files against the payload (R14.3)
 unfoldable pub judged : List ℕ → List ℕ → Answer Unit
 judged manifest payload = then (valueOf (manifestAt manifest)) (λ v. contents manifest (v .files) payload)
 
--- the cover from its front to its end, and then the two parts in it
+-- the cover from its front to its end (R14.2), and then the two parts in it (R14.3)
 unfoldable pub envelopeAt : List ℕ → Answer Cover
 envelopeAt s = then (valueOf (coverAt s)) (λ c. then (judged (partAt s (c .manifest)) (partAt s (c .payload))) (λ _. done c))
 
--- the writer is given the two parts, and judges them as the reader does
+-- the writer is given the two parts, and judges them as the reader does (R14.4)
 unfoldable pub verdict : List ℕ → List ℕ → Answer (List ℕ)
 verdict manifest payload = then (judged manifest payload) (λ _. done (coverOf manifest payload))

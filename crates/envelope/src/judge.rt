@@ -1,4 +1,5 @@
-// The manifest and the payload against each other: read and written envelopes are judged by the same function.
+// The manifest and the payload against each other: read and written envelopes are judged by the
+// same function (R14.3, R14.4).
 ghost use mathlib.Core.Path.{_≡_};
 ghost use Prim.Native.Nat.{_≤_};
 ghost use lib.Dec.{eqb};
@@ -12,11 +13,12 @@ use wire::StepRead;
 
 pub enum Judge {
     Fine,
-    // 01's number of the refusal, and the place that it returns.
+    // The number of the refusal (R2.2), and the place that comes with it (R2.3).
     Faulty { no: u8, place: usize },
 }
 
-// Whether the sizes of the first count files sum to n. Each is taken off what is left of n, so that no sum can wrap.
+// Whether the sizes of the first count files sum to n (R14.3). Each is taken off what is left of n,
+// so that no sum can wrap.
 fn adds_up(files: [File; wire::MOST_FILES], count: usize, n: u64) -> bool
     requires { ⌜ (count ≤ mostFiles) × (count ≤ length files) ⌝ }
     ensures { λ r. ⌜ r ≡ eqb (total (take count files)) n ⌝ }
@@ -34,7 +36,7 @@ fn adds_up(files: [File; wire::MOST_FILES], count: usize, n: u64) -> bool
     left == 0
 }
 
-// The digests of the first count files, which take up the payload one after the other.
+// The digests of the first count files, which take up the payload one after the other (R14.3).
 fn digests_hold(
     manifest: &[u8],
     payload: &[u8],

@@ -1,4 +1,8 @@
-// The envelope, read and written: document 01, "CBOR payloads". Its outer layout is the crate cover's.
+// The envelope, read and written: section 14 of docs/RULES.md. Its outer layout is the crate
+// cover's.
+//
+// What is written reads back, and what is read is exactly the written form of its manifest and its
+// payload, which the writer accepts (`envelope-back`, `envelope-only`).
 mod judge;
 
 ghost use mathlib.Core.Path.{_≡_};
@@ -14,18 +18,19 @@ use wire::Wrote;
 pub enum EnvelopeRead {
     // Where the manifest and the payload stand in the input.
     Envelope { manifest: Span, payload: Span },
-    // 01's number of the refusal, and the place that it returns.
+    // The number of the refusal (R2.2), and the place that comes with it (R2.3).
     Refused { no: u8, place: usize },
 }
 
 pub enum EnvelopeWrote {
     // How many bytes were written.
     Done { len: usize },
-    // 01's number of the refusal, and the place that it returns.
+    // The number of the refusal (R2.2), and the place that comes with it (R2.3).
     Refused { no: u8, place: usize },
 }
 
-// The envelope that s is, all of s.
+// Where the manifest and the payload stand in the envelope that s is, once both agree; or the
+// refusal and its place.
 pub fn read(s: &[u8]) -> EnvelopeRead
     ensures { λ r. ⌜ readTold r ≡ envelopeAt (now (s .entry)) ⌝ }
 {
@@ -43,7 +48,7 @@ pub fn read(s: &[u8]) -> EnvelopeRead
     EnvelopeRead::Envelope { manifest, payload }
 }
 
-// An answer whose refusal has no place of its own.
+// An answer whose refusal has no place of its own (R2.3).
 fn unplaced(w: Wrote) -> EnvelopeWrote
     ensures { λ r. ⌜ r ≡ wroteAs w ⌝ }
 {
@@ -53,7 +58,8 @@ fn unplaced(w: Wrote) -> EnvelopeWrote
     }
 }
 
-// The envelope of a manifest's bytes and a payload, at the front of out.
+// The envelope of a manifest's bytes and its payload at the front of out; or 9, the manifest's
+// refusal, 21 and its place, 11, and nothing changed.
 pub fn write(manifest: &[u8], payload: &[u8], out: &mut [u8]) -> EnvelopeWrote
     ensures { λ r. ⌜ EnvelopeWritten (verdict (now (manifest .entry)) (now (payload .entry))) (now (out .entry)) (now (out .exit)) r ⌝ }
 {

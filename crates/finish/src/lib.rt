@@ -1,4 +1,5 @@
-// Finish: the ciphertext of a complete collection. Document 01, "The collection".
+// Finish: the ciphertext of a complete collection (R9.10). When a set of pages gives it is said in
+// the crate model.
 ghost use mathlib.Core.Path.{_≡_};
 ghost use Prim.Native.Nat.{_≤_};
 ghost use lib.ListN.{length};
@@ -78,7 +79,8 @@ fn pages(c: &[u8], total: u8, out: &mut [u8]) -> Finished
     deliver(c, total, out)
 }
 
-// The ciphertext, at the front of out.
+// The ciphertext at the front of out, and its length; or 13, 14, 15 and 16 with their place, 11,
+// 17, and nothing changed.
 pub fn finish(c: &[u8], out: &mut [u8]) -> Finished
     ensures { λ r. ⌜ Closed (finished (now (c .entry)) (now (out .entry))) (now (out .entry)) (now (out .exit)) r ⌝ }
 {

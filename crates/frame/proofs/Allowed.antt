@@ -1,4 +1,4 @@
--- The tests of the reader say which parts 01's rules allow a frame. Assumes nothing.
+-- The tests of the reader say which parts the rules allow a frame. Assumes nothing.
 use Prim.Native.Nat.{ℕ, _<_, _≤_}
 use mathlib.Core.Path.{_≡_, refl}
 use mathlib.Core.Logic.{_⊎_, inl, inr}

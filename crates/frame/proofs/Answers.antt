@@ -1,4 +1,4 @@
--- The answer of `read` says no more than 01. Assumes nothing.
+-- The answer of `read` says no more than its number and values do. Assumes nothing.
 use mathlib.Core.Path.{_≡_, ap}
 use Rattle.wire.proofs.Cases.{got-value}
 use Rattle.frame.specs.Frame as F
@@ -6,7 +6,7 @@ use Rattle.frame.specs.Answer.{told}
 use Rattle.frame.specs.declared.FrameRead.{FrameRead}
 use Rattle.frame.specs.declared.FrameRead.the-variants.{Frame, Refused}
 
--- the enum says no more than 01's answer does
+-- the enum says no more than its number and values do
 pub told-injective : (r q : FrameRead) → told r ≡ told q → r ≡ q
 told-injective (Frame k i t d) (Frame k' i' t' d') e =
     let p = got-value e in

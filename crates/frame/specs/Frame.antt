@@ -1,4 +1,4 @@
--- One frame, read: document 01, "Frames" and "House sizes"; source document 002, section 6.
+-- One frame, read: section 6 of docs/RULES.md.
 use Prim.Native.Nat.{ℕ, _+_, _-_}
 use mathlib.Core.Bool.{Bool, true, false}
 use mathlib.Core.List.{List}
@@ -22,31 +22,32 @@ pub record Frame : Type 0 where
   pub total : ℕ
   pub at : Span
 
--- the id of a frame that is read stands at bytes 4 to 11
+-- the id of a frame that is read stands at bytes 4 to 11 (R6.1)
 abbrev pub idOf : List ℕ → List ℕ
 idOf s = take idSize (drop 4 s)
 
 abbrev pub dataOf : List ℕ → Frame → List ℕ
 dataOf s f = partAt s (f .at)
 
--- ---- the fields, left to right: each is judged once it is whole
+-- ---- the fields, left to right: each is judged once it is whole (R6.4)
 
--- in front of every frame; the version stands behind it
+-- `41 50` in front of every frame (R6.1); the version stands behind it
 abbrev pub magic : List ℕ
 magic = ascii "AP"
 
--- the types: main, key and auth
+-- the types: main, key and auth (R6.2)
 unfoldable pub known : ℕ → Bool
 known kind = choose (eqb kind 0x44) true (choose (eqb kind 0x4B) true (eqb kind 0x41))
 
+-- the type byte; an unknown one is 6 (R6.4)
 unfoldable pub kindAt : List ℕ → ℕ → Got ℕ
 kindAt s at = choose (leb (length s) at) (refused 3) (choose (known (getD s at 0)) (got (getD s at 0) (at + 1)) (refused 6))
 
--- 8 bytes id
+-- 8 bytes id (R6.1, R3.8)
 unfoldable pub idAt : List ℕ → ℕ → Got Unit
 idAt s at = choose (ltb (length s - at) idSize) (refused 3) (got tt (at + idSize))
 
--- all before the varints: the type byte
+-- all before the varints, in the order of R6.1: the type byte
 unfoldable pub startOf : List ℕ → Got ℕ
 startOf s =
     then (markOf magic s) (λ (_, a).
@@ -59,14 +60,15 @@ pub record Numbers : Type 0 where
   pub total : ℕ
   pub len : ℕ
 
+-- each is 7 where it is no varint (R6.4)
 unfoldable pub numbersAt : List ℕ → ℕ → Got Numbers
 numbersAt s at =
     then (varintAt s at) (λ (index, a).
     then (varintAt s a) (λ (total, b).
     then (varintAt s b) (λ (len, c). got (record { index = index; total = total; len = len }) c)))
 
--- the data and four bytes are all that is left of the input, else 3; the four are the checksum of what stands in front of them, the highest
--- byte first, else 10
+-- the data and four bytes are all that is left of the input, else 3; the four are the checksum of
+-- what stands in front of them, the highest byte first, else 10 (R6.5, R6.3)
 unfoldable pub dataAt : List ℕ → ℕ → ℕ → Got Unit
 dataAt s at len =
     demand (eqb (length s - at) (len + 4)) 3
@@ -76,21 +78,22 @@ dataAt s at len =
 -- ---- the frame as a whole
 
 -- a frame is one of its TOTAL, counted from 0, and a key or auth frame is the only one: else 8
+-- (R6.6)
 unfoldable pub inPlace : ℕ → ℕ → ℕ → Bool
 inPlace kind index total = choose (eqb total 0) false (choose (leb total index) false (choose (eqb kind 0x44) true (eqb total 1)))
 
--- unless 9 is due: TOTAL, or the length of the data, above the house size
+-- unless 9 is due (R6.7): TOTAL above R3.1, or the length of the data above R3.2
 unfoldable pub inSize : ℕ → ℕ → Bool
 inSize total len = choose (ltb mostPages total) false (leb len mostData)
 
--- the type byte and the numbers are judged together, after the CRC: 8, then 9
+-- the type byte and the numbers are judged together, after the CRC: 8 (R6.6), then 9 (R6.7)
 unfoldable pub judged : (kind : ℕ) (n : Numbers) (at next : ℕ) → Got Frame
 judged kind n at next =
     demand (inPlace kind (n .index) (n .total)) 8
     (demand (inSize (n .total) (n .len)) 9
     (got (record { kind = kind; index = n .index; total = n .total; at = record { start = at; len = n .len } }) next))
 
--- each field in its turn, the checksum last; then what the numbers say
+-- each field in its turn (R6.4), the checksum last (R6.5); then what the numbers say
 unfoldable pub frameOf : List ℕ → Got Frame
 frameOf s =
     then (startOf s) (λ (kind, a).

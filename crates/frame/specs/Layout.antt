@@ -1,4 +1,4 @@
--- One frame, laid out from its parts, whatever they are: document 01, "Frames"; source document 002, section 6.
+-- One frame, laid out from its parts, whatever they are: section 6 of docs/RULES.md.
 use Prim.Native.Nat.{ℕ}
 use mathlib.Core.List.{List, [], _∷_, _++_}
 use lib.ListN.{length}
@@ -20,6 +20,6 @@ numbers index total len = varint index ++ varint total ++ varint len
 unfoldable pub body : (kind : ℕ) (id : List ℕ) (index total : ℕ) (contents : List ℕ) → List ℕ
 body kind id index total contents = start kind id ++ numbers index total (length contents) ++ contents
 
--- all that, and its checksum, the highest byte first
+-- all that (R6.1), and its checksum, the highest byte first (R6.3)
 unfoldable pub layout : (kind : ℕ) (id : List ℕ) (index total : ℕ) (contents : List ℕ) → List ℕ
 layout kind id index total contents = body kind id index total contents ++ bigEndian 4 (crc32 (body kind id index total contents))

@@ -1,4 +1,5 @@
-// The fields of a frame, from left to right: the first fault decides.
+// The fields of a frame, from left to right: the first fault decides (R6.4). Each answer is taken
+// apart with `let .. else`, and a refusal leaves at once (R18.4).
 ghost use mathlib.Core.Path.{_≡_};
 ghost use Prim.Native.Nat.{_≤_};
 ghost use lib.ListN.{length, take, drop};
@@ -97,7 +98,7 @@ fn id(s: &[u8], at: usize) -> StepRead
     }
 }
 
-// All before the varints.
+// All before the varints. The magic is a fixed string (R18.2).
 pub(super) fn start(s: &[u8]) -> KindRead
     ensures { λ r. ⌜ kindOf r ≡ startOf (now (s .entry)) ⌝ }
 {
@@ -140,7 +141,7 @@ pub(super) fn numbers(s: &[u8], at: usize) -> NumbersRead
     }
 }
 
-// Whether the checksum of what stands before end is all that stands from there on.
+// Whether the checksum of what stands before end is all that stands from there on (R6.5).
 fn sum_stands(s: &[u8], end: usize) -> bool
     requires { ⌜ end ≤ length (now s) ⌝ }
     ensures { λ r. ⌜ r ≡ same (drop end (now (s .entry))) (bigEndian 4 (crc32 (take end (now (s .entry))))) ⌝ }
@@ -149,7 +150,8 @@ fn sum_stands(s: &[u8], end: usize) -> bool
     lend::equal(&s[end..], &sum)
 }
 
-// The data, len bytes from at on, and the CRC of all before it. A length near 2^64 is compared, and never added to.
+// The data, len bytes from at on, and the CRC of all before it (R6.5). A length near 2^64 is
+// compared, and never added to.
 pub(super) fn data_and_sum(s: &[u8], at: usize, len: u64) -> StepRead
     requires { ⌜ at ≤ length (now s) ⌝ }
     ensures { λ r. ⌜ stepTold r ≡ dataAt (now (s .entry)) at len ⌝ }

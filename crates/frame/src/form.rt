@@ -12,7 +12,7 @@ ghost use Rattle.crc.specs.Crc.{crc32};
 ghost use Rattle.frame.specs.Layout as L;
 use wire::Wrote;
 
-// Two bytes of magic, one of version, one of type, eight of id and four of CRC.
+// Two bytes of magic, one of version, one of type, eight of id and four of CRC (R6.1).
 const SHORTEST: usize = 16;
 
 // How many bytes the three varints take.

@@ -1,4 +1,7 @@
-// One frame, read and laid out: document 01, "Frames".
+// A single frame, how it is read and how one is laid out: section 6 of docs/RULES.md.
+//
+// A laid-out frame reads back as its parts (`reads-back`), and a frame that is read is exactly the
+// layout of its parts (`only-layouts`).
 mod fields;
 mod form;
 
@@ -15,7 +18,7 @@ use wire::Span;
 use wire::StepRead;
 use wire::Wrote;
 
-// The type bytes of source 6.
+// The type bytes (R6.2).
 pub const MAIN: u8 = 0x44;
 
 pub const KEY: u8 = 0x4B;
@@ -23,21 +26,23 @@ pub const KEY: u8 = 0x4B;
 pub const AUTH: u8 = 0x41;
 
 pub enum FrameRead {
-    // Where the data stand in the input; the id always stands at bytes 4 to 11.
+    // Where the data stand in the input; the id always stands at bytes 4 to 11 (R6.1).
     Frame {
         kind: u8,
         index: u64,
         total: u64,
         at: Span,
     },
-    // 01's number of the refusal.
+    // The number of the refusal (R2.2).
     Refused {
         no: u8,
     },
 }
 
 impl FrameRead {
-    // The number of a refusal, for a caller's `else`.
+    // The number of the refusal to read a frame; 0 where one was read.
+    //
+    // For a caller's `else`.
     pub fn no(self) -> u8
         ensures { λ n. ⌜ n ≡ numberOf (told self) ⌝ }
     {
@@ -48,6 +53,7 @@ impl FrameRead {
     }
 }
 
+// Whether the frame is one of its total (R6.6).
 fn in_place(kind: u8, index: u64, total: u64) -> bool
     ensures { λ r. ⌜ r ≡ inPlace kind index total ⌝ }
 {
@@ -63,6 +69,7 @@ fn in_place(kind: u8, index: u64, total: u64) -> bool
     total == 1
 }
 
+// Whether the house takes so many pages, and so much data (R6.7).
 fn in_size(total: u64, len: u64) -> bool
     ensures { λ r. ⌜ r ≡ inSize total len ⌝ }
 {
@@ -97,7 +104,9 @@ fn judge(kind: u8, index: u64, total: u64, len: u64, at: usize) -> FrameRead
     }
 }
 
-// The frame that s is, all of s.
+// Of the frame that s is its type, INDEX, TOTAL and where its data stand; or the first fault from
+// left to right, which is 4, then 5 or 7, then 6, then 7, with 3 where s ends too soon or too late;
+// after these 10, 8, 9.
 pub fn read(s: &[u8]) -> FrameRead
     ensures { λ r. ⌜ told r ≡ frameOf (now (s .entry)) ⌝ }
 {
@@ -122,7 +131,8 @@ pub fn read(s: &[u8]) -> FrameRead
     judge(kind, index, total, len, b)
 }
 
-// The frame of these parts, whatever they are, at the front of out.
+// The frame of these parts, whatever they are, at the front of out, and its length; or 11 and
+// nothing changed.
 pub fn lay(
     kind: u8,
     id: &[u8; wire::ID_SIZE],

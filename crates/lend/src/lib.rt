@@ -1,4 +1,5 @@
-// Writes into lent buffers and comparison of them. Each function takes any arguments: a write that does not fit changes nothing.
+// Writes into lent buffers and comparison of them. Each function takes any arguments: a write that
+// does not fit changes nothing.
 ghost use mathlib.Core.Path.{_≡_};
 ghost use mathlib.Core.List.{[], _∷_};
 ghost use Prim.Native.Nat.{_+_, _≤_};
@@ -9,7 +10,7 @@ ghost use Rattle.wire.specs.Writing.{Written};
 ghost use Rattle.lend.specs.Same.{same};
 use wire::Wrote;
 
-// One byte at index at.
+// The byte b stands at the index. Nothing changes where that index is outside.
 pub fn put(out: &mut [u8], at: usize, b: u8)
     ensures { λ _. ⌜ now (out .exit) ≡ over at (b ∷ []) (now (out .entry)) ⌝ }
 {
@@ -29,7 +30,7 @@ fn copy_fitting(out: &mut [u8], at: usize, src: &[u8])
     }
 }
 
-// All of src from index at on.
+// All of src stands from the index on. Nothing changes where it does not fit.
 pub fn copy(out: &mut [u8], at: usize, src: &[u8])
     ensures { λ _. ⌜ now (out .exit) ≡ over at (now (src .entry)) (now (out .entry)) ⌝ }
 {
@@ -51,7 +52,7 @@ fn fill_fitting(out: &mut [u8], at: usize, n: usize, b: u8)
     }
 }
 
-// The byte b, n times, from index at on.
+// The byte b stands n times from the index on. Nothing changes where that does not fit.
 pub fn fill(out: &mut [u8], at: usize, n: usize, b: u8)
     ensures { λ _. ⌜ now (out .exit) ≡ over at (replicate n b) (now (out .entry)) ⌝ }
 {
@@ -62,14 +63,16 @@ pub fn fill(out: &mut [u8], at: usize, n: usize, b: u8)
     }
 }
 
-// n zeros from index at on.
+// n zeros stand from the index on. Nothing changes where they do not fit.
 pub fn clear(out: &mut [u8], at: usize, n: usize)
     ensures { λ _. ⌜ now (out .exit) ≡ over at (replicate n 0) (now (out .entry)) ⌝ }
 {
     fill(out, at, n, 0);
 }
 
-// Whether a and b hold the same bytes. All of them are looked at: of a loop that never leaves early the compiler makes one that takes
+// True exactly where a and b hold the same bytes (`same-eq`, `same-refl`).
+//
+// All of them are looked at: of a loop that never leaves early the compiler makes one that takes
 // sixteen bytes at a time.
 pub fn equal(a: &[u8], b: &[u8]) -> bool
     ensures { λ r. ⌜ r ≡ same (now (a .entry)) (now (b .entry)) ⌝ }
@@ -88,7 +91,9 @@ pub fn equal(a: &[u8], b: &[u8]) -> bool
     alike
 }
 
-// All of text at the front of out, where it fits: the whole answer of a call that writes what was put together elsewhere.
+// All of a text at the front of out, and its length; or 11 and nothing changed.
+//
+// This is the whole answer of a call that writes what was put together elsewhere.
 pub fn give(text: &[u8], out: &mut [u8]) -> Wrote
     ensures { λ r. ⌜ Written 0 (done (now (text .entry))) (now (out .entry)) (now (out .exit)) r ⌝ }
 {

@@ -1,4 +1,4 @@
--- What `read` answers: document 01's number, and the value in a struct every field of which is fixed.
+-- What `read` answers: a number, and the value in a struct every field of which is fixed.
 use Prim.Native.Nat.{_-_}
 use mathlib.Core.Bool.{true, false}
 use mathlib.Core.List.{List, [], _++_}
@@ -14,19 +14,19 @@ use Rattle.manifest.specs.declared.Created.the-variants as created
 use Rattle.manifest.specs.declared.Manifest.{Manifest}
 use Rattle.manifest.specs.declared.ManifestRead.{ManifestRead}
 
--- what stands where no file is
+-- what stands where no file is (R13.7)
 unfoldable pub blankFile : File
 blankFile = record { hash = record { start = 0; len = 0 }; path = record { start = 0; len = 0 }; size = 0; mtime = mtime.Null }
 
--- the files in an array with room for the most
+-- the files in an array with room for the most (R3.4), and blank ones behind them (R13.7)
 unfoldable pub padded : List File → List File
 padded fs = fs ++ replicate (mostFiles - length fs) blankFile
 
--- the answer's value where a manifest is refused
+-- the answer's value where a manifest is refused (R13.7)
 unfoldable pub blankManifest : Manifest
 blankManifest = record { seed = seed.Null; files = padded []; count = 0; sealed = true; created = created.Integer false 0 }
 
--- the whole answer
+-- the whole answer: for each case its number and its value (R18.5)
 abbrev pub answerFor : Got Listing → ManifestRead
 answerFor (done (v, next)) =
     record {

@@ -1,4 +1,5 @@
--- What a part of the code answers, for the contract of a private function: nothing here is promised to a caller.
+-- What a part of the code answers, for the contract of a private function: nothing here is promised
+-- to a caller.
 use Prim.Native.Nat.{ℕ, _+_, _≤_}
 use mathlib.Core.Path.{_≡_}
 use mathlib.Core.Bool.{Bool}
@@ -64,7 +65,7 @@ pub record Ready (pool : List ℕ) (m : Manifest) (out : List ℕ) : Type 0 wher
   pub judged : manifestVerdict pool m ≡ done (manifestOf pool (listed m))
   pub room : length (manifestOf pool (listed m)) ≤ length out
 
--- ---- what a field's reader answers, as document 01's number and value
+-- ---- what a field's reader answers, as a number and a value (R18.5)
 
 abbrev pub seedTold : SeedRead → Got Seed
 seedTold (seedread.Value v next) = got v next

@@ -1,4 +1,4 @@
--- The manifest, as it is written: document 01, "CBOR payloads" and "House sizes".
+-- The manifest, as it is written: section 13 of docs/RULES.md.
 use Prim.Native.Nat.{ℕ, _^_, _<_}
 use mathlib.Core.Path.{_≡_}
 use mathlib.Core.Bool.{Bool, true, _&&_}
@@ -38,13 +38,13 @@ unfoldable pub seedIn : List ℕ → Seed → Secret
 seedIn pool seed.Null = none
 seedIn pool (seed.Bytes span) = some (partAt pool span)
 
--- a manifest whose places are in a pool
+-- a manifest whose places are in a pool (R13.7)
 unfoldable pub saidIn : List ℕ → Listing → Said
 saidIn pool v = record { seed = seedIn pool (v .seed); files = map (entryIn pool) (v .files); sealed = v .sealed; created = v .created }
 
 -- ---- its written form
 
--- null is F6
+-- null is F6 (R13.3)
 unfoldable pub secretOf : Secret → List ℕ
 secretOf none = 0xF6 ∷ []
 secretOf (some bs) = stringOf 2 bs
@@ -53,11 +53,12 @@ unfoldable pub entriesOf : List Entry → List ℕ
 entriesOf [] = []
 entriesOf (e ∷ es) = entryOf e ++ entriesOf es
 
+-- an integer or a double (R13.6)
 unfoldable pub createdOf : Created → List ℕ
 createdOf (created.Integer negative n) = integerOf negative n
 createdOf (created.Double bits) = doubleOf bits
 
--- a map of five, its fields in the order of their keys
+-- a map of five (R13.1), its fields in the order of their keys (R10.1)
 unfoldable pub saidOf : Said → List ℕ
 saidOf v =
     (0xA5 ∷ [])
@@ -74,18 +75,19 @@ manifestOf pool v = saidOf (saidIn pool v)
 
 -- ---- which values may be written
 
--- null, or 32 bytes in the pool
+-- null, or 32 bytes in the pool (R13.3, R13.7)
 unfoldable pub seedAllowed : List ℕ → Seed → Bool
 seedAllowed pool seed.Null = true
 seedAllowed pool (seed.Bytes span) = digestIn pool span
 
--- each file, the first above prev and each above the one before it
+-- each file in the order that is given (R13.4), the first above prev and each above the one before
+-- it (R12.5)
 unfoldable pub filesVerdict : List ℕ → List ℕ → List File → Answer (List ℕ)
 filesVerdict pool prev [] = done []
 filesVerdict pool prev (f ∷ fs) =
     then (fileVerdict pool prev f) (λ b. then (filesVerdict pool (partAt pool (f .path)) fs) (λ bs. done (b ++ bs)))
 
--- from -2^63 to 2^63 - 1, or finite
+-- from -2^63 to 2^63 - 1, or finite (R13.6, R10.8)
 unfoldable pub createdAllowed : Created → Bool
 createdAllowed (created.Integer negative n) = ltb n (2 ^ 63)
 createdAllowed (created.Double bits) = finite bits
@@ -94,7 +96,7 @@ createdAllowed (created.Double bits) = finite bits
 unfoldable pub listed : Manifest → Listing
 listed m = record { seed = m .seed; files = take (m .count) (m .files); sealed = m .sealed; created = m .created }
 
--- the values are judged in the order of the keys, and then the size of the whole (9)
+-- the values are judged in the order of the keys, and then the size of the whole, 9 (R10.7, R3.3)
 unfoldable pub manifestVerdict : List ℕ → Manifest → Answer (List ℕ)
 manifestVerdict pool m =
     demand (seedAllowed pool (m .seed)) 19
@@ -112,7 +114,7 @@ abbrev pub CreatedFits : Created → Type 0
 CreatedFits (created.Integer negative n) = Unit
 CreatedFits (created.Double bits) = bits < 2 ^ 64
 
--- the array has room for the most files
+-- the array has room for the most files (R3.4)
 pub record Typed (m : Manifest) : Type 0 where
   pub array : length (m .files) ≡ mostFiles
   pub bits : CreatedFits (m .created)

@@ -1,5 +1,5 @@
-// The fields of a manifest but its files, at a position of the input. Of several faults the one furthest in front is told: see
-// specs/Manifest.antt.
+// The fields of a manifest but its files, at a position of the input. Of several faults the one
+// furthest in front is told (R10.2), and a refusal leaves at once (R18.4).
 ghost use mathlib.Core.Path.{_≡_};
 ghost use Rattle.wire.specs.Answer.{numberOf};
 ghost use Rattle.manifest.specs.Manifest.{seedAt, agrees, sealedAt, finite, finiteAt, createdAt, endAt};
@@ -45,7 +45,7 @@ pub(super) fn seed_field(s: &[u8], at: usize) -> SeedRead
     }
 }
 
-// Whether a manifest is sealed exactly when its seed is null.
+// Whether a manifest is sealed exactly when its seed is null (R13.3).
 pub(super) fn agree(seed: Seed, sealed: bool) -> bool
     ensures { λ r. ⌜ r ≡ agrees seed sealed ⌝ }
 {
@@ -89,7 +89,7 @@ fn sealed_field(s: &[u8], at: usize, seed: Seed) -> SealedRead
     }
 }
 
-// Whether the double with these bits is finite: its eleven exponent bits are not all ones.
+// Whether the double with these bits is finite: its eleven exponent bits are not all ones (R10.8).
 pub(super) fn is_finite(bits: u64) -> bool
     ensures { λ r. ⌜ r ≡ finite bits ⌝ }
 {

@@ -1,4 +1,4 @@
-// The list of files at a position of the input.
+// The list of files at a position of the input (R13.4).
 ghost use mathlib.Core.Path.{_≡_};
 ghost use mathlib.Core.List.{[]};
 ghost use Prim.Native.Nat.{_≤_};

@@ -1,4 +1,5 @@
-// Whether a manifest may be written, and how long it then is: the values are judged in the order of the keys.
+// Whether a manifest may be written, and how long it then is: the values are judged in the order of
+// the keys (R10.7).
 ghost use mathlib.Core.Path.{_≡_};
 ghost use mathlib.Core.List.{[]};
 ghost use Prim.Native.Nat.{_+_, _^_, _≤_};

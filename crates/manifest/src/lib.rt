@@ -1,4 +1,8 @@
-// The manifest, read and written: document 01, "CBOR payloads".
+// The manifest, read and written: section 13 of docs/RULES.md.
+//
+// What is written reads back, and what is read is exactly the written form of its value, which the
+// writer accepts (`manifest-back`, `manifest-only`, `manifest-once`: manifest, Rounds). A manifest
+// that its writer accepts has at most 16,384 bytes.
 mod fields;
 mod files;
 mod form;
@@ -21,14 +25,15 @@ use wire::Wrote;
 
 pub enum Seed {
     Null,
-    // A place in the pool of the manifest's bytes: of one that was read the pool is the input.
+    // A place in the pool of the manifest's bytes: of one that was read the pool is the input
+    // (R13.7).
     Bytes { span: Span },
 }
 
 pub enum Created {
-    // The number n, or -1 - n where it is negative.
+    // The number n, or -1 - n where it is negative (R13.6).
     Integer { negative: bool, n: u64 },
-    // A double, by its 64 bits.
+    // A double, by its 64 bits (R10.8).
     Double { bits: u64 },
 }
 
@@ -41,8 +46,8 @@ pub struct Manifest {
     pub created: Created,
 }
 
-// The position past the manifest, which is the input's length, or 01's number of the refusal. The value of a refused manifest,
-// and each file past the count, is blank.
+// The position past the manifest, which is the input's length, or the number of the refusal (R2.2).
+// The value of a refused manifest, and each file past the count, is blank (R13.7).
 pub struct ManifestRead {
     pub answer: StepRead,
     pub value: Manifest,
@@ -137,7 +142,8 @@ fn refusal(no: u8) -> ManifestRead
     }
 }
 
-// The whole payload.
+// The whole value of the manifest that s is, every field of it; or the refusal of the first
+// offending item, 9 before all else.
 pub fn read(s: &[u8]) -> ManifestRead
     ensures { λ r. ⌜ r ≡ answerFor (manifestAt (now (s .entry))) ⌝ }
 {
@@ -176,8 +182,11 @@ pub fn read(s: &[u8]) -> ManifestRead
     }
 }
 
-// Writes the first `count` files of m with the rest of it. Its places are in the pool, so what `read` answered is written by
-// the same bytes with the input as the pool.
+// The manifest of m, with the first `count` of its files, at the front of out; or 19, 20, then 9,
+// then 11, and nothing changed.
+//
+// Its places are in the pool, so what `read` answered is written by the same bytes with the input
+// as the pool.
 pub fn write(pool: &[u8], m: Manifest, out: &mut [u8]) -> Wrote
     ensures { λ r. ⌜ Written 0 (manifestVerdict (now (pool .entry)) m) (now (out .entry)) (now (out .exit)) r ⌝ }
 {

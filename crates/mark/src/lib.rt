@@ -1,4 +1,7 @@
-// What a frame and an envelope begin with: magic, which the caller gives, and version 1.
+// What a frame and an envelope begin with: magic, which the caller gives, and version 1 (R6.1,
+// R14.1).
+//
+// What is laid out is read (`mark-reads`), and what is read is exactly that (`mark-was`).
 ghost use mathlib.Core.Path.{_≡_};
 ghost use Rattle.wire.specs.Over.{over};
 ghost use Rattle.wire.specs.Reading.{stepTold};
@@ -21,7 +24,7 @@ fn version(s: &[u8], at: usize) -> StepRead
     }
 }
 
-// The front of s, under this magic.
+// The position past the magic and version 1 at the front of s; or the first fault: 3, 4, 5 or 7.
 pub fn read(magic: &[u8], s: &[u8]) -> StepRead
     ensures { λ r. ⌜ stepTold r ≡ markOf (now (magic .entry)) (now (s .entry)) ⌝ }
 {
@@ -39,7 +42,7 @@ pub fn read(magic: &[u8], s: &[u8]) -> StepRead
     }
 }
 
-// The same at the front of out; nothing changes where it does not fit.
+// The magic and version 1 at the front of out. Nothing changes where they do not fit.
 pub fn lay(magic: &[u8], out: &mut [u8])
     ensures { λ _. ⌜ now (out .exit) ≡ over 0 (marked (now (magic .entry))) (now (out .entry)) ⌝ }
 {

@@ -1,4 +1,5 @@
-// Mend, for a damaged file. Document 01, "The collection".
+// Mend, for a damaged file (R9.11). What it leaves is well formed, what was well formed is
+// untouched, and nothing is invented (mend, Mends).
 ghost use mathlib.Core.Path.{_≡_};
 ghost use mathlib.Core.Bool.{true};
 ghost use mathlib.Core.List.{_++_};
@@ -47,8 +48,10 @@ fn pages(c: &mut [u8]) -> u8
     count
 }
 
-// Makes each page block absent that is not well formed, so that the collection is. It forgets pages and disputes: what it leaves is
-// no longer what was offered.
+// Each page block of c that is not well formed made absent, and how many they were; or 13 and
+// nothing changed.
+//
+// Mend forgets pages and disputes: what it leaves is no longer what was offered.
 pub fn mend(c: &mut [u8]) -> Mended
     ensures { λ r. ⌜ Kept (mending (now (c .entry))) (now (c .entry)) (now (c .exit)) (told r) ⌝ }
 {

@@ -1,4 +1,9 @@
-// A document's pages: document 01, "Frames", the paragraph "Printing".
+// The pages of a document, each as a frame or as one of its two texts: section 7 of docs/RULES.md.
+//
+// The data of the pages in index order are the ciphertext (`pages-join`), a page before the last
+// has its whole size (`page-full`), each has at least one byte (`page-some`), and each reads back
+// as its own index, the total, the id and its slice (`page-reads`), also through either text form
+// (`page-typed`).
 ghost use mathlib.Core.Path.{_≡_};
 ghost use Prim.Native.Nat.{_-_, _≤_, min};
 ghost use Rattle.wire.specs.Answer.{numberOf};
@@ -10,11 +15,11 @@ use wire::Wrote;
 
 pub enum PageCount {
     Pages { n: usize },
-    // 01's number of the refusal.
+    // The number of the refusal (R2.2).
     Refused { no: u8 },
 }
 
-// How many pages of size bytes hold a ciphertext of n bytes.
+// How many pages of this size hold a ciphertext of n bytes; or 19, then 9.
 pub fn count(n: usize, size: usize) -> PageCount
     ensures { λ r. ⌜ told r ≡ countOf n size ⌝ }
 {
@@ -53,7 +58,8 @@ impl PageCount {
     }
 }
 
-// Where a page ends that starts at `start`: only at the end of the document is it shorter than its size.
+// Where a page ends that starts at `start`: only at the end of the document is it shorter than its
+// size (R7.2).
 fn page_end(start: usize, size: usize, n: usize) -> usize
     requires { ⌜ start ≤ n ⌝ }
     ensures { λ r. ⌜ (start ≤ r) × (r ≤ n) × (r - start ≡ min size (n - start)) ⌝ }
@@ -64,7 +70,8 @@ fn page_end(start: usize, size: usize, n: usize) -> usize
     n
 }
 
-// Page `number` of the document, as a frame at the front of out.
+// Page `number` of the document as a frame at the front of out, and its length; or 19, 9, 8, 11, in
+// that order, and nothing changed.
 pub fn write(c: &[u8], size: usize, number: usize, out: &mut [u8]) -> Wrote
     ensures { λ r. ⌜ Written 0 (pageVerdict (now (c .entry)) size number) (now (out .entry)) (now (out .exit)) r ⌝ }
 {
@@ -93,7 +100,8 @@ pub fn write(c: &[u8], size: usize, number: usize, out: &mut [u8]) -> Wrote
 // No frame of a page has more bytes.
 const FRAME_ROOM: usize = 512;
 
-// The page as the text of its code square.
+// Page `number` of the document as the base64 text of its code square, at the front of out; or 19,
+// 9, 8, 11, in that order, and nothing changed.
 pub fn write_base64(c: &[u8], size: usize, number: usize, out: &mut [u8]) -> Wrote
     ensures { λ r. ⌜ Written 0 (typed base64 (pageVerdict (now (c .entry)) size number)) (now (out .entry)) (now (out .exit)) r ⌝ }
 {
@@ -105,7 +113,8 @@ pub fn write_base64(c: &[u8], size: usize, number: usize, out: &mut [u8]) -> Wro
     text::base64_write(&room[0..len], out)
 }
 
-// The page as the text that is typed below the square.
+// Page `number` of the document as the z-base-32 text that is typed below the square, at the front
+// of out; or 19, 9, 8, 11, in that order, and nothing changed.
 pub fn write_zbase32(c: &[u8], size: usize, number: usize, out: &mut [u8]) -> Wrote
     ensures { λ r. ⌜ Written 0 (typed zbase32 (pageVerdict (now (c .entry)) size number)) (now (out .entry)) (now (out .exit)) r ⌝ }
 {

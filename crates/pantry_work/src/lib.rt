@@ -1,5 +1,17 @@
-// What the pantry does between reading and printing: a saved collection is taken up again, and the ciphertext, or why there is none yet,
-// is laid out. Each public function takes any arguments.
+// What the pantry does between reading and printing: a saved collection is taken up again, and the
+// ciphertext, or why there is none yet, is laid out: R15.6 and R15.7. Each public function takes
+// any arguments.
+//
+// The ciphertext is answered exactly when the set of pages is complete and its id is the document's
+// (`ending-data`, `prints-data`: pantry_work, Demand); a complete set of another id prints
+// `refused 17 0` (`prints-17`), any other the status line (`prints-status`), and 11 never comes up
+// (`never-11`). Taking up leaves the one collection of the union of what was saved and what was
+// scanned now (`resume-union`, `resume-lists`), and a refusal changes nothing (`refused-keeps`).
+// Since a session's collection is well formed, 13 is said of the saved bytes and 12 of their
+// document (`resume-13`, `resume-12`, `resume-0`: pantry_work, Sessions). Of a whole input: what is
+// printed (`alone-prints`, `file-prints`), what is kept (`file-kept`), and which files are refused
+// (`damaged-13`, `another-12`, `none-19`: pantry_work, Pantry). 46,080 bytes are room for all that
+// is printed (`answered-most`: pantry_work, Answers).
 ghost use Rattle.wire.specs.Answer.{done, refusedAt, Kept};
 ghost use Rattle.wire.specs.Writing.{Written};
 ghost use Rattle.collection.specs.Answer.{told};
@@ -13,7 +25,8 @@ use wire::Wrote;
 // Room for the line of any refusal: the word, twice a space and three digits, and the line feed.
 const ROOM: usize = 16;
 
-// Joins what was saved into a session's collection.
+// What was saved joined into the collection c of a session; or 19 where the session does not
+// collect, then 13 and 12 as of `collection::join`, and nothing changed.
 pub fn resume(s: Session, saved: &[u8], c: &mut [u8]) -> Answered
     ensures { λ r. ⌜ Kept (resuming (s .phase) (now (c .entry)) (now (saved .entry))) (now (c .entry)) (now (c .exit)) (told r) ⌝ }
 {
@@ -25,7 +38,8 @@ pub fn resume(s: Session, saved: &[u8], c: &mut [u8]) -> Answered
     }
 }
 
-// The line of a refusal with its place, at the front of out.
+// The word `refused`, a number, a place and a line feed at the front of out, and their length; or
+// 11 and nothing changed.
 pub fn refused_line(no: u8, place: u8, out: &mut [u8]) -> Wrote
     ensures { λ r. ⌜ Written 0 (done (refusalLine no place)) (now (out .entry)) (now (out .exit)) r ⌝ }
 {
@@ -53,7 +67,10 @@ fn lacking_line(no: u8, place: u8, c: &[u8], out: &mut [u8]) -> Wrote
     status::status(c, out)
 }
 
-// What is printed at the end of a session, at the front of out: the ciphertext, or why there is none.
+// What the pantry prints at the end of a session, at the front of out, and its length: the
+// ciphertext and nothing else where finish gives it; the status line for 14, 15 and 16; else the
+// line of the refusal, which is `refused 19 0` where the session does not collect; or 11 and
+// nothing changed.
 pub fn answer(s: Session, c: &[u8], out: &mut [u8]) -> Wrote
     ensures { λ r. ⌜ Written 0 (done (answered (s .phase) (now (c .entry)))) (now (out .entry)) (now (out .exit)) r ⌝ }
 {

@@ -26,7 +26,7 @@ names-stay n (p ∷ ps) e h =
     let q = both-hold (isName p) (every isName ps) e in
     rw (name-enters n p ps (q .0)) (names-stay (n + 1) ps (q .1) (omega arith))
 
--- the path of document 02, `lists/../../pier`: the walk would leave its start at the third part
+-- the path of Ticket 6, `lists/../../pier`: the walk would leave its start at the third part
 abbrev example : List ℕ
 example =
     0x6C ∷ 0x69 ∷ 0x73 ∷ 0x74 ∷ 0x73 ∷ 0x2F ∷ 0x2E ∷ 0x2E ∷ 0x2F ∷ 0x2E ∷ 0x2E ∷ 0x2F ∷ 0x70 ∷ 0x69 ∷ 0x65 ∷ 0x72 ∷ []

@@ -1,4 +1,17 @@
-// Which paths a manifest may name, and their order: document 01, "CBOR payloads" and "House sizes"; document 02, Ticket 6.
+// Which paths a manifest may name, and their order: section 12 of docs/RULES.md. Ticket 6 made the
+// rule narrower.
+//
+// A text is its parts joined by slashes, and parts without a slash, so joined, are the parts of the
+// text (`joined-parts`, `parts-joined`). Taken below any folder, an allowed path stays below it: no
+// step of a walk along its parts goes above the folder, and the walk ends inside
+// (`allowed-stays-below`; the walk is `staysBelow`: path, Names). One part that is empty, `.` or
+// `..`, wherever it stands, is enough to refuse a text (`part-refused`), and so is one byte 00
+// (`zero-refused`); names joined by slashes are refused for nothing but their letters and their
+// length (`joined-allowed`). That a path has a byte and at most 200 is `allowed-length`. What a
+// disk makes of a path, such as a symbolic link below the folder, is outside these words.
+//
+// Byte order is code point order on allowed paths (`code-point-order`), and a strict total order
+// (`below-irreflexive`, `below-transitive`, `below-total`).
 ghost use mathlib.Core.Path.{_≡_};
 ghost use Prim.Native.Nat.{_<_};
 ghost use lib.ListN.{length};
@@ -9,12 +22,13 @@ ghost use Rattle.path.specs.Names.{parts, isName};
 ghost use Rattle.path.specs.Path.{plainText, pathAllowed};
 ghost use Rattle.path.specs.Private.{Spans};
 
-// How many bytes a path has. A reader judges its length by these before the bytes are there.
+// How many bytes a path has (R3.5). A reader judges its length by these before the bytes are there
+// (R12.6).
 pub const LEAST: u64 = 1;
 
 pub const MOST: u64 = wire::MOST_PATH as u64;
 
-// Only code points below this one are allowed.
+// Only code points below this one are allowed (R12.1).
 const END: u32 = 0x300;
 
 // No code point at all: the last is U+10FFFF.
@@ -76,7 +90,7 @@ fn plain(s: &[u8]) -> bool
     true
 }
 
-// Whether a part names something: it is not empty, not `.` and not `..`.
+// Whether a part names something: it is not empty, not `.` and not `..` (R12.2).
 fn is_name(p: &[u8]) -> bool
     ensures { λ r. ⌜ r ≡ isName (now (p .entry)) ⌝ }
 {
@@ -127,7 +141,8 @@ fn lacks(s: &[u8], b: u8) -> bool
     true
 }
 
-// Whether s is a path that a manifest may name.
+// True exactly for a path that a manifest may name: 1 to 200 bytes of UTF-8 below U+0300, none of
+// them 00, and each part between slashes a name, not empty, `.` or `..`.
 pub fn allowed(s: &[u8]) -> bool
     ensures { λ r. ⌜ r ≡ pathAllowed (now (s .entry)) ⌝ }
 {
@@ -143,7 +158,7 @@ pub fn allowed(s: &[u8]) -> bool
     lacks(s, 0)
 }
 
-// Whether b may follow a in a manifest: a is strictly below b by bytes.
+// True exactly where a is strictly below b by bytes, so that b may follow a in a manifest.
 pub fn ascends(a: &[u8], b: &[u8]) -> bool
     ensures { λ r. ⌜ r ≡ below (now (a .entry)) (now (b .entry)) ⌝ }
 {

@@ -1,4 +1,4 @@
--- Key and auth frames, written: document 01, "Frames", the paragraph "Printing".
+-- Key and auth frames, written: section 7 of docs/RULES.md.
 use Prim.Native.Nat.{ℕ}
 use mathlib.Core.List.{List}
 use lib.Dec.{eqb, leb}
@@ -9,7 +9,8 @@ use Rattle.frame.specs.Layout.{layout}
 use Rattle.auth.specs.Auth.{authAt}
 use Rattle.shard.specs.Shard.{shardAt}
 
--- an id that is not of 8 bytes is 19, data above 480 bytes 9; then what the payload's reader refuses of the data; else the frame, the first of one
+-- an id of another length is 19, too much data 9; then what the payload's reader refuses of the
+-- data; else the frame, the first of one (R7.5)
 unfoldable pub payloadFrame : {A : Type 0} → (kind : ℕ) (id contents : List ℕ) (read : Answer A) → Answer (List ℕ)
 payloadFrame kind id contents read =
     demand (eqb (length id) idSize) 19
@@ -17,8 +18,10 @@ payloadFrame kind id contents read =
     (then read (λ _.
     done (layout kind id 0 1 contents))))
 
+-- the frame of a shard payload (R7.5)
 abbrev pub keyFrame : List ℕ → List ℕ → Answer (List ℕ)
 keyFrame id contents = payloadFrame 0x4B id contents (shardAt contents)
 
+-- the frame of an auth payload (R7.5)
 abbrev pub authFrame : List ℕ → List ℕ → Answer (List ℕ)
 authFrame id contents = payloadFrame 0x41 id contents (authAt contents)

@@ -1,5 +1,6 @@
-// The four functions that the phone app, written in C, calls: document 01, "What crosses the pier". include/stiltbasket.h declares
-// them. A slice passes as a pointer and a length.
+// The four functions that the phone app, written in C, calls: section 16 of docs/RULES.md.
+// include/stiltbasket.h declares them and takes their one number apart. A slice passes as a pointer
+// and a length.
 ghost use mathlib.Core.Path.{_≡_};
 ghost use Prim.Native.Nat.{_≤_};
 ghost use Rattle.wire.specs.Answer.{bytesAfter, answerOf};
@@ -29,6 +30,7 @@ fn answer(r: Answered) -> u64
     }
 }
 
+// What `collection::open` does, for C: its answer as one number, and the bytes that it leaves in c.
 #[no_mangle]
 pub extern "C" fn stilt_open(id: &[u8], c: &mut [u8]) -> u64
     ensures { λ r. ⌜ r ≡ packedAnswer (answerOf (opening (now (id .entry)) (now (c .entry)))) ⌝ }
@@ -37,6 +39,8 @@ pub extern "C" fn stilt_open(id: &[u8], c: &mut [u8]) -> u64
     answer(collection::open(id, c))
 }
 
+// What `collection::offer` does, for C: its answer, with how the page stands, as one number, and
+// the bytes that it leaves in c.
 #[no_mangle]
 pub extern "C" fn stilt_offer(c: &mut [u8], frame: &[u8]) -> u64
     ensures { λ r. ⌜ r ≡ packedKind (answerOf (offering (now (c .entry)) (now (frame .entry)))) ⌝ }
@@ -49,6 +53,8 @@ pub extern "C" fn stilt_offer(c: &mut [u8], frame: &[u8]) -> u64
     }
 }
 
+// What `collection::join` does, for C: its answer as one number, and the bytes that it leaves in
+// the first collection.
 #[no_mangle]
 pub extern "C" fn stilt_join(into: &mut [u8], from: &[u8]) -> u64
     ensures { λ r. ⌜ r ≡ packedAnswer (answerOf (joining (now (into .entry)) (now (from .entry)))) ⌝ }
@@ -57,6 +63,8 @@ pub extern "C" fn stilt_join(into: &mut [u8], from: &[u8]) -> u64
     answer(collection::join(into, from))
 }
 
+// What `finish::finish` does, for C: its answer, with the length or the place, as one number, and
+// the bytes that it leaves in out.
 #[no_mangle]
 pub extern "C" fn stilt_finish(c: &[u8], out: &mut [u8]) -> u64
     ensures { λ r. ⌜ r ≡ packedFinish (answerOf (F.finishing (now (c .entry)) (now (out .entry)))) ⌝ }

@@ -49,7 +49,7 @@ block-vacate-once κs args x y u v p q = (refl, here (p ∙ sym q))
 pub block-state-once : Once block-state.Kinds.ps block-state.Kinds.r block-state.Reads.Learnt
 block-state-once κs args x y u v p q = (p ∙ sym q, refl)
 
--- a slice of the collection is lent back: what is fixed is its bytes (docs/PROMISES.md, "Exceptions")
+-- a part of the collection is lent back, the data of a block: its bytes are fixed, not its place
 pub block-contents-once : OnceSeen block-contents.Kinds.ps block-contents.Kinds.r (λ κs x. now x) block-contents.Reads.Learnt
 block-contents-once κs args x y u v p q = (p ∙ sym q, refl)
 
@@ -71,7 +71,7 @@ book-state-once κs args x y u v p q = (p ∙ sym q, refl)
 pub book-total-once : Once book-total.Kinds.ps book-total.Kinds.r book-total.Reads.Learnt
 book-total-once κs args x y u v p q = (p ∙ sym q, refl)
 
--- as for `block::contents`
+-- a part of the collection is lent back, the id in its head: its bytes are fixed, not its place
 pub book-id-once : OnceSeen book-id.Kinds.ps book-id.Kinds.r (λ κs x. now x) book-id.Reads.Learnt
 book-id-once κs args x y u v p q = (p ∙ sym q, refl)
 

@@ -72,7 +72,7 @@ entry-read-integer-once κs args x y u v p q = (head-injective x y (p ∙ sym q)
 pub entry-read-file-once : Once entry-read-file.Kinds.ps entry-read-file.Kinds.r entry-read-file.Reads.Learnt
 entry-read-file-once κs args x y u v p q = (file-injective x y (p ∙ sym q), refl)
 
--- a slice of the pool is lent back: what is fixed is its bytes (docs/PROMISES.md, "Exceptions")
+-- a part of the pool is lent back: its bytes are fixed, not its place
 pub entry-write-part-once : OnceSeen entry-write-part.Kinds.ps entry-write-part.Kinds.r (λ κs x. now x) entry-write-part.Reads.Learnt
 entry-write-part-once κs args x y u v p q = (p ∙ sym q, refl)
 

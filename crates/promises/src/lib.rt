@@ -1,1 +1,2 @@
-// What is promised, in one place: definitions and theorems only, in specs/ and proofs/.
+// What is promised of the whole, in one place: definitions and theorems only, in specs/ and
+// proofs/. docs/DEMANDS.md leads through them.

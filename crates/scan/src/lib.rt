@@ -1,11 +1,20 @@
-// What the small program does with the lines that it reads: document 01, "What crosses the pier".
+// What the small program does with the lines that it reads: R15.1 to R15.3.
+//
+// It is a session, byte by byte, so that where its input is cut into parts cannot matter
+// (`fed-append`: scan, Inputs). Of a whole input it is said what the rules say (scan, Input): cut
+// at line feeds, the first line the id, each further line of at most 1,024 bytes a base64 text,
+// those that read the scans. A session ends with the collection of these scans
+// (`session-collects`), or, where no id is named, with nothing changed (`session-refused`), and its
+// line is the status line of that (`session-prints`, `prints-set`). A session's collection is well
+// formed whatever its input was (`fed-sound`, `closed-sound`: scan, Sound).
 pub mod session;
 
 ghost use Rattle.wire.specs.Writing.{Written};
 ghost use Rattle.scan.specs.Id.{idVerdict};
 use wire::Wrote;
 
-// The document id that the first line says, at the front of out.
+// The 8 bytes of the document id that a line of 16 lower-case hex digits says, at the front of out;
+// or 19, then 11, and nothing changed.
 pub fn id(line: &[u8], out: &mut [u8]) -> Wrote
     ensures { λ r. ⌜ Written 0 (idVerdict (now (line .entry))) (now (out .entry)) (now (out .exit)) r ⌝ }
 {

@@ -28,7 +28,8 @@ pub struct Session {
     pub len: usize,
 }
 
-// Takes one line's scan into the collection.
+// The collection c after the scan of one line. A bad scan, or a line above 1,024 bytes, changes
+// nothing.
 pub fn scan(line: &[u8], c: &mut [u8])
     ensures { λ _. ⌜ now (c .exit) ≡ scanned (now (c .entry)) (now (line .entry)) ⌝ }
 {
@@ -111,7 +112,7 @@ fn byte(b: u8, s: Session, line: &mut [u8], c: &mut [u8]) -> Session
     push(b, s, line)
 }
 
-// Takes the next bytes of the input, however the input is cut into parts.
+// The session after the next bytes of its input, however the input is cut into parts.
 pub fn feed(part: &[u8], s: Session, line: &mut [u8], c: &mut [u8]) -> Session
     ensures { λ r. ⌜ at r (now (line .exit)) (now (c .exit)) ≡ fed (at s (now (line .entry)) (now (c .entry))) (now (part .entry)) ⌝ }
 {
@@ -124,7 +125,7 @@ pub fn feed(part: &[u8], s: Session, line: &mut [u8], c: &mut [u8]) -> Session
     now
 }
 
-// At the end of the input: the last line may lack its line feed.
+// The session after the end of its input, where the last line may lack its line feed.
 pub fn close(s: Session, line: &[u8], c: &mut [u8]) -> Session
     ensures { λ r. ⌜ at r (now (line .entry)) (now (c .exit)) ≡ closed (at s (now (line .entry)) (now (c .entry))) ⌝ }
 {
@@ -134,7 +135,8 @@ pub fn close(s: Session, line: &[u8], c: &mut [u8]) -> Session
     end_line(s, line, c)
 }
 
-// The one status line, at the front of out.
+// The one status line, or `refused 19` where the session does not collect, at the front of out, and
+// its length; or 11 and nothing changed.
 pub fn report(s: Session, c: &[u8], out: &mut [u8]) -> Wrote
     ensures { λ r. ⌜ Written 0 (done (reported (s .phase) (now (c .entry)))) (now (out .entry)) (now (out .exit)) r ⌝ }
 {

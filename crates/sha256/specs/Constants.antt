@@ -1,9 +1,9 @@
--- FIPS 180-4, sections 4.2.2 and 5.3.3: the constants. Their rule, by roots of primes, is proved in proofs/Roots.antt.
+-- FIPS 180-4, sections 4.2.2 and 5.3.3: the constants.
 use Prim.Native.Nat.{ℕ}
 use mathlib.Core.List.{List, [], _∷_}
 use Rattle.sha256.specs.declared.State.{State}
 
--- the sixty-four words K
+-- the sixty-four words K. Their rule, by roots of primes, is proved in proofs/Roots.antt (R18.3)
 unfoldable pub kWords : List ℕ
 kWords =
     0x428a2f98 ∷ 0x71374491 ∷ 0xb5c0fbcf ∷ 0xe9b5dba5 ∷ 0x3956c25b ∷ 0x59f111f1 ∷ 0x923f82a4 ∷ 0xab1c5ed5 ∷
@@ -15,7 +15,7 @@ kWords =
     0x19a4c116 ∷ 0x1e376c08 ∷ 0x2748774c ∷ 0x34b0bcb5 ∷ 0x391c0cb3 ∷ 0x4ed8aa4a ∷ 0x5b9cca4f ∷ 0x682e6ff3 ∷
     0x748f82ee ∷ 0x78a5636f ∷ 0x84c87814 ∷ 0x8cc70208 ∷ 0x90befffa ∷ 0xa4506ceb ∷ 0xbef9a3f7 ∷ 0xc67178f2 ∷ []
 
--- the initial hash value
+-- the initial hash value, whose rule is there too (R18.3)
 unfoldable pub start : State
 start =
     record { a = 0x6a09e667; b = 0xbb67ae85; c = 0x3c6ef372; d = 0xa54ff53a; e = 0x510e527f; f = 0x9b05688c; g = 0x1f83d9ab; h = 0x5be0cd19 }

@@ -1,4 +1,5 @@
--- FIPS 180-4, sections 5.1.1 and 5.2.1: the message padded, and parsed into blocks of sixteen words.
+-- FIPS 180-4, sections 5.1.1 and 5.2.1: the message padded, and parsed into blocks of sixteen
+-- words.
 use Prim.Native.Nat.{ℕ, _-_, _*_, _%_}
 use mathlib.Core.List.{List, _∷_, _++_}
 use lib.ListN.{length, take, drop, replicate}
@@ -8,7 +9,8 @@ use Rattle.wire.specs.Number.{number, bigEndian}
 unfoldable pub zeros : ℕ → ℕ
 zeros n = (119 - n % 64) % 64
 
--- the message, a bit 1, zeros, and the message's length in bits: the lowest 64 bits of it, where it has more
+-- the message, a bit 1, zeros, and the message's length in bits: the lowest 64 bits of it, where it
+-- has more (R14.5)
 unfoldable pub pad : List ℕ → List ℕ
 pad bs = bs ++ (0x80 ∷ (replicate (zeros (length bs)) 0 ++ bigEndian 8 (length bs * 8)))
 

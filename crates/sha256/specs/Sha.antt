@@ -61,5 +61,6 @@ unfoldable pub joined : List ℕ → List ℕ
 joined [] = []
 joined (x ∷ xs) = bigEndian 4 x ++ joined xs
 
+-- the digest of a file (R14.3)
 unfoldable pub sha256 : List ℕ → List ℕ
 sha256 bs = joined (listed (blocks (length (pad bs) / 64) (pad bs) start))

@@ -1,4 +1,4 @@
-// SHA-256, FIPS 180-4, of any slice of bytes.
+// SHA-256, FIPS 180-4, of any slice of bytes (R14.5).
 ghost use mathlib.Core.Path.{_≡_};
 ghost use Prim.Native.Nat.{_+_, _-_, _*_, _/_, _%_, _^_, _<_, _≤_};
 ghost use lib.ListN.{length, take, drop, getD};
@@ -87,7 +87,7 @@ fn round(s: State, k: u32, w: u32) -> State
     }
 }
 
-// Section 4.2.2. proofs/Roots.antt has its rule.
+// Section 4.2.2. proofs/Roots.antt has its rule (R18.3).
 const K: [u32; 64] = [
     0x428a2f98,
     0x71374491,
@@ -167,7 +167,8 @@ fn rounds(k: &[u32; 64], w: &[u32; 64], s: State) -> State
     x
 }
 
-// A cast is a call, here and in `long`: at an element, the caller is then asked for the index alone.
+// A cast is a call, here and in `long`: at an element, the caller is then asked for the index
+// alone.
 fn wide(x: u8) -> u32
     ensures { λ r. ⌜ (r ≡ x) × (r < 256) ⌝ }
 {
@@ -181,7 +182,8 @@ fn word(b: &[u8], i: usize) -> u32
     ((wide(b[i]) * 256 + wide(b[i + 1])) * 256 + wide(b[i + 2])) * 256 + wide(b[i + 3])
 }
 
-// The schedule of the block that starts at byte `at`, as far as its first sixteen words, which are the block's.
+// The schedule of the block that starts at byte `at`, as far as its first sixteen words, which are
+// the block's.
 fn words(b: &[u8], at: usize) -> [u32; 64]
     requires { ⌜ at + 64 ≤ length (now b) ⌝ }
     ensures { λ r. ⌜ (take 16 r ≡ S.schedule 16 (take 64 (drop at (now (b .entry))))) × (length r ≡ 64) ⌝ }
@@ -271,7 +273,7 @@ fn long(x: u32) -> u64
     x as u64
 }
 
-// Byte i of the padded message. The shift drops what the length in bits has above 64 bits.
+// Byte i of the padded message. The shift drops what the length in bits has above 64 bits (R14.5).
 fn pad_byte(s: &[u8], i: usize) -> u8
     requires { ⌜ i < length (M.pad (now s)) ⌝ }
     ensures { λ r. ⌜ r ≡ getD (M.pad (now (s .entry))) i 0 ⌝ }
@@ -315,6 +317,8 @@ fn digest(s: State) -> [u8; 32]
     d
 }
 
+// The SHA-256 of s, of any length.
+//
 // The whole blocks of s are hashed where they stand, and only the rest is padded in a buffer.
 pub fn sha256(s: &[u8]) -> [u8; 32]
     ensures { λ r. ⌜ r ≡ S.sha256 (now (s .entry)) ⌝ }

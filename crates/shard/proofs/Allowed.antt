@@ -1,4 +1,5 @@
--- The values that document 01 allows a shard, and the writer's tests that say so. Assumes nothing.
+-- The values that R11.2 to R11.6 allow a shard, and the writer's tests that say so.
+-- Assumes nothing.
 use Prim.Native.Nat.{ℕ, _≤_}
 use mathlib.Core.Path.{_≡_, refl, sym, _∙_}
 use mathlib.Core.Logic.{_⊎_, inl, inr, ⊎-elim}
@@ -200,7 +201,8 @@ module _ (hash kind share : List ℕ) (len : ℕ) (q : Quorum) where
   pub rest-unfilled : (r : Bool) → r ≡ eqb (length share) (padded len) → not r ≡ true → Told false
   rest-unfilled r e h = rest-no (λ a. false≢true (sym (said-no r _ e h) ∙ eq-eqb (length share) (padded len) (a .content .whole)))
 
-  -- all that the code asks before its last test: what is at most `share_count` needs no bound of its own above
+  -- all that the code asks before its last test: what is at most `share_count` needs no bound of
+  -- its own above
   pub rest-last : (k f : Bool) → length hash ≡ 32 → k ≡ known kind → not k ≡ false → length share ≤ 224 → 1 ≤ len
       → f ≡ eqb (length share) (padded len) → not f ≡ false
       → 1 ≤ q .threshold → q .threshold ≤ q .count → 1 ≤ q .index → q .index ≤ q .count → Told (leb (q .count) 255)

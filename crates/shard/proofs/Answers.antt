@@ -1,4 +1,5 @@
--- The answer of `read` says no more than 01, and how a chain of items goes on from a shard's parts. Assumes nothing.
+-- The answer of `read` says no more than its number and values do, and how a chain of items goes on
+-- from a shard's parts. Assumes nothing.
 use Prim.Native.Nat.{ℕ}
 use mathlib.Core.Path.{_≡_, refl, ap}
 use Rattle.wire.specs.Answer.{refused, numberOf, then, Got, Answer}
@@ -17,7 +18,7 @@ use Rattle.shard.specs.declared.fields.ContentRead.the-variants as conte
 use Rattle.shard.specs.declared.fields.QuorumRead.{QuorumRead}
 use Rattle.shard.specs.declared.fields.QuorumRead.the-variants as quorum
 
--- the enum says no more than 01's answer does
+-- the enum says no more than its number and values do
 pub shard-injective : (r q : ShardRead) → shardTold r ≡ shardTold q → r ≡ q
 shard-injective (shard.Value a b c d e i) (shard.Value u v w x y j) h =
     let s = got-value h in

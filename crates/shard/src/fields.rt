@@ -1,4 +1,5 @@
-// The fields of a shard behind its claim, from left to right: the first fault decides.
+// The fields of a shard behind its claim, from left to right: the first fault decides (R10.2), and
+// a refusal leaves at once (R18.4).
 ghost use mathlib.Core.Path.{_≡_};
 ghost use Rattle.wire.specs.Answer.{numberOf};
 ghost use Rattle.cbor.specs.Answer.{stringTold};
@@ -25,7 +26,7 @@ pub enum QuorumRead {
     Refused { no: u8 },
 }
 
-// The field `type`. Between the lengths of the two known types lies one that neither has.
+// The field `type`. Between the lengths of the two known types lies one that neither has (R11.4).
 fn kind(s: &[u8], at: usize) -> StringRead
     ensures { λ r. ⌜ stringTold r ≡ kindAt (now (s .entry)) at ⌝ }
 {
@@ -65,7 +66,7 @@ impl ContentRead {
     }
 }
 
-// The fields `type`, `share` and `length`.
+// The fields `type`, `share` and `length` (R11.5).
 pub(super) fn content(s: &[u8], at: usize) -> ContentRead
     ensures { λ r. ⌜ contentTold r ≡ contentAt (now (s .entry)) at ⌝ }
 {
@@ -121,7 +122,7 @@ impl QuorumRead {
     }
 }
 
-// The fields `threshold`, `share_count` and `share_index`.
+// The fields `threshold`, `share_count` and `share_index` (R11.6).
 pub(super) fn quorum(s: &[u8], at: usize) -> QuorumRead
     ensures { λ r. ⌜ quorumTold r ≡ quorumAt (now (s .entry)) at ⌝ }
 {

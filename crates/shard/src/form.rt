@@ -11,8 +11,8 @@ use super::Quorum;
 use cbor::BYTES;
 use cbor::TEXT;
 
-// What stands before `hash`: in the payload the head of the map, `pub` and `sig`; in the signed bytes the domain string, the
-// head of the map and `pub`.
+// What stands before `hash`: in the payload the head of the map, `pub` and `sig`; in the signed
+// bytes the domain string, the head of the map and `pub` (R11.7).
 pub(super) const PAYLOAD_FRONT: usize = 109;
 
 pub(super) const MESSAGE_FRONT: usize = 57;
@@ -24,7 +24,8 @@ fn size(n: u64) -> usize
     cbor::write::size(n)
 }
 
-// How long the form is from `hash` on. All its keys, `hash`, `version` and the head of `type` make 101 bytes.
+// How long the form is from `hash` on. All its keys, `hash`, `version` and the head of `type` make
+// 101 bytes.
 pub(super) fn rest_size(hash: &[u8], kind: &[u8], share: &[u8], len: u64, q: Quorum) -> usize
     requires { ⌜ (length (now hash) ≡ 32) × (length (now kind) ≤ 12) × (length (now share) ≤ mostShare) ⌝ }
     ensures { λ r. ⌜ (r ≡ length (restOf (now (hash .entry)) (now (kind .entry)) (now (share .entry)) len q)) × (r ≤ 400) ⌝ }
@@ -33,7 +34,8 @@ pub(super) fn rest_size(hash: &[u8], kind: &[u8], share: &[u8], len: u64, q: Quo
     101 + kind.len() + size(share.len() as u64) + share.len() + numbers
 }
 
-// The fields `type`, `share` and `length`. Here and below the answer is the index past what is written.
+// The fields `type`, `share` and `length`. Here and below the answer is the index past what is
+// written.
 fn content(out: &mut [u8], at: usize, kind: &[u8], share: &[u8], len: u64) -> usize
     requires { ⌜ at + length (contentOf (now kind) (now share) len) ≤ length (now out) ⌝ }
     ensures { λ r. ⌜ Put at (contentOf (now (kind .entry)) (now (share .entry)) len) (now (out .entry)) (now (out .exit)) r ⌝ }
@@ -92,7 +94,7 @@ pub(super) fn payload(
     rest(out, c, hash, kind, share, len, q);
 }
 
-// The bytes that get signed.
+// The bytes that get signed. The domain and the keys are fixed strings (R18.2).
 pub(super) fn message(
     out: &mut [u8],
     public: &[u8],

@@ -1,4 +1,12 @@
-// The shard payload, read and written, and the bytes that get signed: document 01, "CBOR payloads".
+// The shard payload, read and written, and the bytes that get signed: section 11 of docs/RULES.md.
+//
+// What is written reads back, and what is read is exactly the written form of its value, which the
+// writer accepts (`shard-back`, `shard-only`, `shard-once`: shard, Rounds).
+//
+// A shard never overflows a page (Ticket 11). The payload of values that the rules allow has at
+// most 456 bytes, where a page holds 480 (`shard-most`: shard, Lengths, a law of the encoding: the
+// lengths of its fields added up), and some have 456 (`shard-longest`). So the writer does not look
+// whether its payload fits.
 mod fields;
 mod form;
 mod judge;
@@ -31,7 +39,8 @@ pub struct Quorum {
 }
 
 pub enum ShardRead {
-    // Where pub, sig and hash start, which are 32, 64 and 32 bytes. The payload ends at next, the length of the input.
+    // Where pub, sig and hash start, which are 32, 64 and 32 bytes (R11.2). The payload ends at
+    // next, the length of the input.
     Value {
         public: usize,
         sig: usize,
@@ -40,14 +49,16 @@ pub enum ShardRead {
         quorum: Quorum,
         next: usize,
     },
-    // 01's number of the refusal.
+    // The number of the refusal (R2.2).
     Refused {
         no: u8,
     },
 }
 
 impl ShardRead {
-    // The number of a refusal, for a caller's `else`.
+    // The number of the refusal to read a shard; 0 where one was read.
+    //
+    // For a caller's `else`.
     pub fn no(self) -> u8
         ensures { λ n. ⌜ n ≡ numberOf (shardTold self) ⌝ }
     {
@@ -89,7 +100,7 @@ fn body(s: &[u8], at: usize, public: usize, sig: usize, hash: usize) -> ShardRea
     }
 }
 
-// The payload that s is, all of s.
+// The shard payload that s is, all of s; or the refusal of the first offending item.
 pub fn read(s: &[u8]) -> ShardRead
     ensures { λ r. ⌜ shardTold r ≡ shardAt (now (s .entry)) ⌝ }
 {
@@ -106,7 +117,8 @@ pub fn read(s: &[u8]) -> ShardRead
     body(s, next, public, sig, hash)
 }
 
-// The payload of these values at the front of out; or 19, then 11. It has at most 456 bytes, so it always fits a page and there is no 9.
+// The payload of these values, of at most 456 bytes, at the front of out; or 19, then 11, and
+// nothing changed. No other number is answered: the payload always fits a page, so there is no 9.
 pub fn write(
     public: &[u8],
     sig: &[u8],
@@ -136,7 +148,8 @@ pub fn write(
     Wrote::Done { len }
 }
 
-// The bytes to sign for these values, at the front of out.
+// The bytes that get signed for these values, at the front of out; or 19, then 11, and nothing
+// changed.
 pub fn signed(
     public: &[u8],
     hash: &[u8],

@@ -1,5 +1,10 @@
-// A document as it is printed: document 01, "Frames", the paragraph "Printing". One form is what the small program reads back, the
-// other the text that is typed where no square can be read.
+// A document as it is printed (R15.4). One form is what the small program reads back, the other the
+// text that is typed where no square can be read.
+//
+// A page's text reads back as its frame (`scan-reads`, `typed-reads`: sheet, OneLine), no line has
+// a line feed inside, and with `sheet::ROOM` bytes lent 11 is never the answer (`scan-room`,
+// `typed-room`, `place-room`: sheet, Lengths). The id's line reads back as the document's id
+// (`press-id`: promises, Printed).
 ghost use mathlib.Core.Path.{_≡_};
 ghost use Prim.Native.Nat.{_+_, _*_, _≤_, _<_, min};
 ghost use lib.Dec.{ltb};
@@ -166,21 +171,24 @@ fn one(c: &[u8], k: usize, n: usize, out: &mut [u8]) -> Wrote
     lend::give(&aside[0..len], out)
 }
 
-// What the small program reads: the document id and a scan for each page.
+// The document id and a base64 line for each page of 480 bytes, at the front of out, and their
+// length; or 19, 9, 11, and nothing changed.
 pub fn scans(c: &[u8], out: &mut [u8]) -> Wrote
     ensures { λ r. ⌜ Written 0 (scanVerdict (now (c .entry))) (now (out .entry)) (now (out .exit)) r ⌝ }
 {
     sheet(Form::Square, c, out)
 }
 
-// What is typed: the document id, and for each page its place and its text.
+// The document id, and for each page its place and its z-base-32 text, at the front of out, and
+// their length; or 19, 9, 11, and nothing changed.
 pub fn typed(c: &[u8], out: &mut [u8]) -> Wrote
     ensures { λ r. ⌜ Written 0 (typedVerdict (now (c .entry))) (now (out .entry)) (now (out .exit)) r ⌝ }
 {
     sheet(Form::Below, c, out)
 }
 
-// The same of page k alone, without the id.
+// The place and the z-base-32 text of page k alone, without the id, at the front of out, and their
+// length; or 19, 9, 8, 11, and nothing changed.
 pub fn typed_page(c: &[u8], k: usize, out: &mut [u8]) -> Wrote
     ensures { λ r. ⌜ Written 0 (placeVerdict (now (c .entry)) k) (now (out .entry)) (now (out .exit)) r ⌝ }
 {
@@ -199,7 +207,8 @@ fn at_most_pages(n: usize) -> usize
     wire::MOST_PAGES
 }
 
-// What a word of decimal digits says.
+// The number that a word of decimal digits says, 96 where it is more; or that the word is no
+// number.
 pub fn page_asked(word: &[u8]) -> Asked
     ensures { λ r. ⌜ r ≡ askedOf (now (word .entry)) ⌝ }
 {

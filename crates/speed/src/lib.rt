@@ -1,4 +1,5 @@
-// The checksum, the digests and base64 for a C program to call: what bench/run measures. Nothing of the product stands on this crate.
+// The checksum, the digests and base64 for a C program to call: what bench/run measures. Nothing of
+// the product stands on this crate.
 ghost use mathlib.Core.Path.{_≡_};
 ghost use Rattle.wire.specs.Over.{over};
 ghost use Rattle.wire.specs.Answer.{done, bytesAfter, answerOf};
@@ -10,6 +11,7 @@ ghost use Rattle.blake2b.specs.Blake2b as B;
 ghost use Rattle.speed.specs.Count as N;
 use wire::Wrote;
 
+// What `crc::crc32` answers, for a C program.
 #[no_mangle]
 pub extern "C" fn speed_crc32(s: &[u8]) -> u32
     ensures { λ r. ⌜ r ≡ C.crc32 (now (s .entry)) ⌝ }
@@ -17,6 +19,7 @@ pub extern "C" fn speed_crc32(s: &[u8]) -> u32
     crc::crc32(s)
 }
 
+// The SHA-256 of s at the front of out, for a C program. Nothing changes where out is shorter.
 #[no_mangle]
 pub extern "C" fn speed_sha256(s: &[u8], out: &mut [u8])
     ensures { λ _. ⌜ now (out .exit) ≡ over 0 (S.sha256 (now (s .entry))) (now (out .entry)) ⌝ }
@@ -25,6 +28,7 @@ pub extern "C" fn speed_sha256(s: &[u8], out: &mut [u8])
     lend::copy(out, 0, &digest);
 }
 
+// The BLAKE2b of s at the front of out, for a C program. Nothing changes where out is shorter.
 #[no_mangle]
 pub extern "C" fn speed_blake2b(s: &[u8], out: &mut [u8])
     ensures { λ _. ⌜ now (out .exit) ≡ over 0 (B.blake2b (now (s .entry))) (now (out .entry)) ⌝ }
@@ -43,6 +47,8 @@ fn count(r: Wrote) -> usize
     }
 }
 
+// What `text::base64_read` does, for a C program: the bytes at the front of out, and their number;
+// 0 and nothing changed where the text is refused or does not fit.
 #[no_mangle]
 pub extern "C" fn speed_base64_read(text: &[u8], out: &mut [u8]) -> usize
     ensures { λ r. ⌜ r ≡ N.count (answerOf (writing 0 (now (out .entry)) (readText base64 (now (text .entry))))) ⌝ }
@@ -51,6 +57,8 @@ pub extern "C" fn speed_base64_read(text: &[u8], out: &mut [u8]) -> usize
     count(text::base64_read(text, out))
 }
 
+// What `text::base64_write` does, for a C program: the text at the front of out, and its length; 0
+// and nothing changed where it does not fit.
 #[no_mangle]
 pub extern "C" fn speed_base64_write(s: &[u8], out: &mut [u8]) -> usize
     ensures { λ r. ⌜ r ≡ N.count (answerOf (writing 0 (now (out .entry)) (done (textOf base64 (now (s .entry)))))) ⌝ }

@@ -1,4 +1,4 @@
-// The status line of a collection: document 01, "The collection".
+// The status line of a collection: R9.12 and R9.13.
 ghost use mathlib.Core.Path.{_≡_};
 ghost use Prim.Native.Nat.{_+_, _≤_};
 ghost use lib.ListN.{length};
@@ -55,7 +55,8 @@ fn pages_line(c: &[u8], total: u8, out: &mut [u8]) -> Wrote
     lend::give(&room[0..end], out)
 }
 
-// The status line at the front of out.
+// The status line of c, whatever its bytes are, at the front of out, and its length; or 11 and
+// nothing changed.
 pub fn status(c: &[u8], out: &mut [u8]) -> Wrote
     ensures { λ r. ⌜ Written 0 (done (statusLine (now (c .entry)))) (now (out .entry)) (now (out .exit)) r ⌝ }
 {

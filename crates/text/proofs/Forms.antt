@@ -1,4 +1,5 @@
--- What both forms have in common, each fact by one computed test over its alphabet. Assumes nothing.
+-- What both forms have in common, each fact by one computed test over its alphabet.
+-- Assumes nothing.
 use Prim.Native.Nat.{ℕ, zero, suc, _+_, _*_, _/_, _%_, _^_, _<_}
 use mathlib.Core.Path.{_≡_, refl, sym, ap, _∙_}
 use mathlib.Core.Logic.{_⊎_, inl, inr}
@@ -17,7 +18,7 @@ pub record Lawful (f : Form) : Type 0 where
   -- the inverse rule: a character of the alphabet stands at its own value, and none is skipped
   pub inverse : (v : ℕ) → v < 2 ^ f .width → place (getD (f .alphabet) v 0) (f .alphabet) ≡ v
   pub plain : (v : ℕ) → v < 2 ^ f .width → skipped f (getD (f .alphabet) v 0) ≡ false
-  -- 01's counts that no text has are those at which a whole character would be left over
+  -- the counts that no text has (R5.6) are those at which a whole character would be left over
   pub counts : (n : ℕ) → f .impossible n ≡ leb (f .width) (leftover f n)
 
 -- one entry of an alphabet passes

@@ -1,4 +1,4 @@
--- What was judged of a text, as 01's answer. Assumes nothing.
+-- What was judged of a text, as the answer of R5.5. Assumes nothing.
 use Prim.Native.Nat.{ℕ, _*_, _/_, _%_, _^_, _≤_, _<_}
 use mathlib.Core.Path.{_≡_, refl, sym, ap, _∙_}
 use mathlib.Core.Bool.{Bool, true, false}

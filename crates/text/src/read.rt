@@ -1,4 +1,4 @@
-// A text is gone through twice: once to judge all of it, and only then to write.
+// A text is gone through twice: once to judge all of it (R5.5), and only then to write.
 ghost use mathlib.Core.Path.{_≡_};
 ghost use mathlib.Core.Bool.{true};
 ghost use Prim.Native.Nat.{_+_, _-_, _^_, _≤_, _<_};
@@ -12,8 +12,8 @@ use super::pack;
 use super::tables;
 use wire::Wrote;
 
-// What has been read so far: the bits that are not yet a byte and their number, how many bytes were made, and whether the
-// last character made one, and which.
+// What has been read so far: the bits that are not yet a byte and their number, how many bytes were
+// made, and whether the last character made one, and which.
 pub struct Seen {
     pub bits: u32,
     pub count: u32,
@@ -152,6 +152,7 @@ pub(super) fn read(table: &[u8; 256], w: u32, text: &[u8], out: &mut [u8]) -> Wr
             no: wire::BAD_CHARACTER,
         };
     };
+    // A whole character left over: no bytes fill so many (R5.6).
     if w <= count {
         return Wrote::Refused {
             no: wire::BAD_TEXT_LENGTH,

@@ -1,5 +1,6 @@
-// The alphabets, and what each of the 256 bytes is in a text of either form: its value, or one of the two marks.
-// proofs/Entries.antt shows by one computed test a table that they are the definitions' own.
+// The alphabets (R5.2, R5.3), and what each of the 256 bytes is in a text of either form: its
+// value, or one of the two marks (R18.3). proofs/Entries.antt shows by one computed test a table
+// that they are the definitions' own.
 pub const SKIPPED: u8 = 0xFF;
 
 pub const NOT_ALLOWED: u8 = 0xFE;

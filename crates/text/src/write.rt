@@ -17,7 +17,7 @@ pub struct Source {
     pub next: usize,
 }
 
-// What fills the last character: zeros.
+// What fills the last character: zeros (R5.1).
 fn byte_or_zero(src: &[u8], i: usize) -> u8
     ensures { λ r. ⌜ r ≡ getD (now (src .entry)) i 0 ⌝ }
 {

@@ -1,4 +1,5 @@
-// Unsigned varints: document 01, "Varints and texts". Only the shortest form of a number is read or written.
+// Unsigned varints, seven bits a byte: section 4 of docs/RULES.md. Only the shortest form of a
+// number is read or written.
 use wire::NumberRead;
 use wire::Wrote;
 ghost use mathlib.Core.Path.{_≡_};
@@ -16,7 +17,8 @@ fn wide(x: u8) -> u64
     x as u64
 }
 
-// b is the last byte of a form, at weight w above the n of the bytes before it; next is the position past it.
+// b is the last byte of a form, at weight w above the n of the bytes before it; next is the
+// position past it. A form that ends in 00 could be shorter (R4.3).
 fn read_ending(b: u64, n: u64, w: u64, next: usize) -> NumberRead
     requires { ⌜ n + w * b < 2 ^ 64 ⌝ }
     ensures { λ r. ⌜ numberTold r ≡ onto n w (ending b next) ⌝ }
@@ -32,7 +34,7 @@ fn read_ending(b: u64, n: u64, w: u64, next: usize) -> NumberRead
     }
 }
 
-// The same for a tenth byte, the only one that can take a number to 2^64.
+// The same for a tenth byte, the only one that can take a number to 2^64 (R4.3).
 fn read_tenth(b: u64, n: u64, w: u64, next: usize) -> NumberRead
     requires { ⌜ n + w < 2 ^ 64 ⌝ }
     ensures { λ r. ⌜ numberTold r ≡ onto n w (tenth b next) ⌝ }
@@ -72,7 +74,9 @@ fn read_later(s: &[u8], from: usize, low: u64) -> NumberRead
     }
 }
 
-// The number at position at. Past the end of s the input ends inside it.
+// The number at the position, and the position past it; or 3 or 7. What is written reads back
+// whatever follows (`reads-back`); what is read is the written form (`read-stands`). Past the end
+// of s the answer is 3.
 pub fn read(s: &[u8], at: usize) -> NumberRead
     ensures { λ r. ⌜ numberTold r ≡ varintAt (now (s .entry)) at ⌝ }
 {
@@ -91,13 +95,16 @@ pub fn read(s: &[u8], at: usize) -> NumberRead
     read_later(s, at + 1, first % 128)
 }
 
-// How many bytes a number takes: one for each seven bits up to its highest set bit. 0 has no set bit, and takes one.
+// How many bytes n takes: one for each seven bits up to its highest set bit
+// (`varint-length-from-leading-zeros`). 0 has no set bit, and takes one.
 pub fn size(n: u64) -> usize
     ensures { λ r. ⌜ r ≡ length (varint n) ⌝ }
 {
     if n == 0 {
         return 1;
     }
+    // The length follows from the leading zeros (R18.1): `varint-length-from-leading-zeros` of
+    // proofs/Lengths.antt ties it to the digits.
     let highest = 63 - u64::leading_zeros(n);
     (highest / 7 + 1) as usize
 }
@@ -117,7 +124,7 @@ fn write_fitting(n: u64, out: &mut [u8], at: usize)
     out[i] = m as u8;
 }
 
-// The form of n, from index at of out on.
+// The one form of n in out from the index on, and its length; or 11 and nothing changed.
 pub fn write(n: u64, out: &mut [u8], at: usize) -> Wrote
     ensures { λ r. ⌜ Written at (done (varint n)) (now (out .entry)) (now (out .exit)) r ⌝ }
 {

@@ -1,4 +1,5 @@
--- What a reader answers is fixed by its contract, and how a chain of fields goes on from it. Assumes nothing.
+-- What a reader answers is fixed by its contract, and how a chain of fields goes on from it.
+-- Assumes nothing.
 use Prim.Native.Nat.{ℕ}
 use mathlib.Core.Path.{_≡_, refl, ap}
 use Rattle.wire.specs.Answer.{refused, numberOf, then, Got, Answer}
@@ -10,7 +11,7 @@ use Rattle.wire.specs.declared.NumberRead.the-variants as number
 use Rattle.wire.proofs.Cases.{got-value, got-next}
 use Rattle.wire.proofs.Branch.{branch, go, stop}
 
--- ---- an enum says no more than 01's answer does
+-- ---- an enum says no more than its number and value do
 
 pub step-injective : (r q : StepRead) → stepTold r ≡ stepTold q → r ≡ q
 step-injective (step.Past i) (step.Past j) e = ap step.Past (got-next e)
@@ -24,7 +25,8 @@ number-injective (number.Value m i) (number.Refused n) e = cc
 number-injective (number.Refused m) (number.Value n j) e = cc
 number-injective (number.Refused m) (number.Refused n) e = cc
 
--- ---- for `search`: one field of a chain. g is what a reader's contract says, r what it answered, n the number that the code took from r
+-- ---- for `search`: one field of a chain. g is what a reader's contract says, r what it answered,
+-- n the number that the code took from r
 
 module _ {B : Type 0} (g : Got Unit) (f : Unit × ℕ → Answer B) where
   pub go-step : (r : StepRead) (next : ℕ) (y : Answer B) → stepTold r ≡ g → r ≡ step.Past next → y ≡ f (tt, next) → y ≡ then g f

@@ -1,4 +1,5 @@
--- Laws of a writer's promise: two answers that keep it are equal, and the two ways to keep it. Assumes nothing.
+-- Laws of a writer's promise: two answers that keep it are equal, and the two ways to keep it.
+-- Assumes nothing.
 use mathlib.Core.Path.{_≡_, refl, sym, _∙_}
 use mathlib.Core.Logic.{_⊎_, inl, inr}
 use mathlib.Core.List.{List}
@@ -16,7 +17,7 @@ use Rattle.wire.specs.declared.Wrote.the-variants.{Done, Refused}
 use Rattle.wire.proofs.Cases.{lt-or-le, not-done, done-value}
 use Rattle.wire.proofs.Overs.{over-out}
 
--- the enum says no more than 01's answer does
+-- the enum says no more than its number and value do
 pub told-injective : (r q : Wrote) → told r ≡ told q → r ≡ q
 told-injective (Done m) (Done n) e = cc
 told-injective (Done m) (Refused n) e = cc

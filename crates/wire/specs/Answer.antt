@@ -1,4 +1,4 @@
--- What a call answers: document 01, "Numbers a call may answer".
+-- What a call answers: section 2 of docs/RULES.md.
 use Prim.Native.Nat.{ℕ}
 use mathlib.Core.Path.{_≡_}
 use mathlib.Core.Bool.{Bool, true, false}
@@ -9,26 +9,27 @@ abbrev pub choose : {A : Type 0} → Bool → A → A → A
 choose true a b = a
 choose false a b = b
 
--- done with a value, or refused with a number and a place
+-- done with a value, or refused with a number and a place (R2.1)
 pub data Answer (A : Type 0) : Type 0 where
   done : A → Answer A
   refusedAt : ℕ → ℕ → Answer A
 
--- the place is 0 for every refusal but 15, 16 and 21
+-- the place is 0 for every refusal but 15, 16 and 21 (R2.3)
 abbrev pub refused : {A : Type 0} → ℕ → Answer A
 refused e = refusedAt e 0
 
--- 01's number, which is 0 where the call is done
+-- the number of the answer (R2.2), which is 0 where the call is done (R2.1)
 abbrev pub numberOf : {A : Type 0} → Answer A → ℕ
 numberOf (done a) = 0
 numberOf (refusedAt e place) = e
 
--- For the reader: its place
+-- For the reader: its place (R2.3)
 abbrev pub placeOf : {A : Type 0} → Answer A → ℕ
 placeOf (done a) = 0
 placeOf (refusedAt e place) = place
 
--- one thing after another: the first refusal decides
+-- one thing after another: the first refusal decides (R2.1). In the code this is a `let .. else`
+-- (R18.4)
 abbrev pub then : {A B : Type 0} → Answer A → (A → Answer B) → Answer B
 then (done a) f = f a
 then (refusedAt e place) f = refusedAt e place
@@ -61,16 +62,17 @@ Change A = Answer (List ℕ × A)
 abbrev pub leaves : {A : Type 0} → List ℕ → A → Change A
 leaves bytes a = done (bytes, a)
 
--- every byte of the buffer l after the call: a refusal changes none
+-- every byte of the buffer l after the call: a refusal changes none (R1.2)
 abbrev pub bytesAfter : {A : Type 0} → List ℕ → Change A → List ℕ
 bytesAfter l (done (bytes, a)) = bytes
 bytesAfter l (refusedAt e place) = l
 
--- 01's answer: the value alone
+-- the answer of the call: the value alone
 abbrev pub answerOf : {A : Type 0} → Change A → Answer A
 answerOf d = then d (λ (bytes, a). done a)
 
--- the whole promise of such a call: its answer a, and every byte of what was lent, which was l and is now l'
+-- the whole promise of such a call (R1.2): its answer a, and every byte of what was lent, which was
+-- l and is now l'
 pub record Kept {A : Type 0} (d : Change A) (l l' : List ℕ) (a : Answer A) : Type 0 where
   pub answer : a ≡ answerOf d
   pub bytes : l' ≡ bytesAfter l d

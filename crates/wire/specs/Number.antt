@@ -16,7 +16,7 @@ numberFrom base n (d ∷ ds) = numberFrom base (n * base + d) ds
 abbrev pub number : ℕ → List ℕ → ℕ
 number base ds = numberFrom base 0 ds
 
--- n in k bytes, the highest first
+-- n in k bytes, the highest first: "big-endian" in the rules
 abbrev pub bigEndian : ℕ → ℕ → List ℕ
 bigEndian k n = digits 256 k n
 

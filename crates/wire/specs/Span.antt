@@ -1,4 +1,5 @@
--- Bytes of a buffer by where they start and how many they are: what a reader answers in place of the bytes themselves.
+-- Bytes of a buffer by where they start and how many they are: what a reader answers in place of
+-- the bytes themselves.
 use Prim.Native.Nat.{ℕ}
 use mathlib.Core.List.{List}
 use lib.ListN.{take, drop}

@@ -1,4 +1,5 @@
--- What a call that writes answers, and what it leaves in the lent output: document 01, "Numbers a call may answer".
+-- What a call that writes answers, and what it leaves in the lent output: section 2 of
+-- docs/RULES.md.
 use Prim.Native.Nat.{ℕ, _+_}
 use mathlib.Core.List.{List}
 use lib.Dec.{leb}
@@ -8,7 +9,7 @@ use Rattle.wire.specs.Over.{over}
 use Rattle.wire.specs.declared.Wrote.{Wrote}
 use Rattle.wire.specs.declared.Wrote.the-variants.{Done, Refused}
 
--- the enum's cases: the number of bytes written, or a refusal
+-- the enum's cases (R18.5): the number of bytes written, or a refusal
 abbrev pub told : Wrote → Answer ℕ
 told (Done len) = done len
 told (Refused e) = refused e
@@ -17,10 +18,11 @@ told (Refused e) = refused e
 abbrev pub outcome : Answer (List ℕ) → Answer ℕ
 outcome v = then v (λ bs. done (length bs))
 
--- what was decided, bytes or a refusal, goes into the output from index at on; the output is judged last: 11 where the bytes do not fit
+-- what was decided, bytes or a refusal, goes into the output from index at on; the output is judged
+-- last: 11 where the bytes do not fit (R2.4)
 unfoldable pub writing : ℕ → List ℕ → Answer (List ℕ) → Change ℕ
 writing at out v = then v (λ bs. demand (leb (at + length bs) (length out)) 11 (leaves (over at bs out) (length bs)))
 
--- the whole promise of a writer at index at: its answer, and every byte of its output
+-- the whole promise of a writer at index at (R1.2): its answer, and every byte of its output
 abbrev pub Written : (at : ℕ) (v : Answer (List ℕ)) (out out' : List ℕ) (r : Wrote) → Type 0
 Written at v out out' r = Kept (writing at out v) out out' (told r)

@@ -1,11 +1,11 @@
-// What every crate of Stiltbasket shares: the numbers that a call may answer, the house sizes, the answers of calls that read and write,
-// and where bytes stand.
-// The definitions that contracts cite are in specs/, their laws in proofs/.
+// What every crate of Stiltbasket shares: the numbers that a call may answer (R2.2), the house
+// sizes (section 3 of docs/RULES.md), the answers of calls that read and write, and where bytes
+// stand. The definitions that contracts cite are in specs/, their laws in proofs/.
 ghost use mathlib.Core.Path.{_≡_};
 ghost use Rattle.wire.specs.Answer.{numberOf};
 ghost use Rattle.wire.specs.Reading.{stepTold, numberTold};
 
-// ---- document 01, "Numbers a call may answer", each named here and nowhere else
+// ---- the numbers of R2.2, each named here and nowhere else
 
 // Of texts, frames and outputs.
 pub const DONE: u8 = 0;
@@ -32,7 +32,9 @@ pub const BAD_CHECKSUM: u8 = 10;
 
 pub const NO_ROOM: u8 = 11;
 
-// The answer of a call that writes into lent output: how many bytes it wrote, or the refusal, which wrote none.
+// The answer of a call that writes into lent output (R2.4): how many bytes it wrote, or the
+// refusal, which wrote none. Its cases as a number and a value are `told` of specs/Writing.antt
+// (R18.5).
 pub enum Wrote {
     Done { len: usize },
     Refused { no: u8 },
@@ -66,7 +68,7 @@ pub const BAD_PATH: u8 = 20;
 
 pub const BAD_CONTENTS: u8 = 21;
 
-// ---- document 01, "House sizes", and what follows from them: specs/Sizes.antt has a line on each.
+// ---- the sizes of R3.1 to R3.8: specs/Sizes.antt has a line on each.
 pub const MOST_PAGES: usize = 96;
 
 pub const MOST_DATA: usize = 480;
@@ -91,14 +93,17 @@ pub const COLLECTION_SIZE: usize = (1 + MOST_PAGES) * BLOCK_SIZE;
 
 pub const MOST_CIPHERTEXT: usize = MOST_PAGES * MOST_DATA;
 
-// The answer of a call that reads one thing, and of one that reads a number: the position past it, or the refusal.
+// The answer of a call that reads one thing, and of one that reads a number: the position past it,
+// or the refusal.
 pub enum StepRead {
     Past { next: usize },
     Refused { no: u8 },
 }
 
 impl StepRead {
-    // The number of a refusal, for a caller's `else`.
+    // The number of the refusal to read one thing; 0 where it was read.
+    //
+    // For a caller's `else`.
     pub fn no(self) -> u8
         ensures { λ n. ⌜ n ≡ numberOf (stepTold self) ⌝ }
     {
@@ -115,6 +120,7 @@ pub enum NumberRead {
 }
 
 impl NumberRead {
+    // The number of the refusal to read a number; 0 where one was read.
     pub fn no(self) -> u8
         ensures { λ n. ⌜ n ≡ numberOf (numberTold self) ⌝ }
     {

@@ -1,4 +1,5 @@
--- `text::read::read` meets its contract: what was judged decides, in 01's order. Assumes nothing.
+-- `text::read::read` meets its contract: what was judged decides, in the order of R5.5.
+-- Assumes nothing.
 use borrow.Author.Needs.{needs}
 use Rattle.text.proofs.Verdicts.{read-bad, read-count, read-bits, read-short, read-below, read-fits, read-done}
 use Rattle.text.proofs.read.read.Statement.{statement}
