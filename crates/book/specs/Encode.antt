@@ -30,6 +30,7 @@ pages id k (p ∷ ps) = pageBlock id k p ++ pages id (suc k) ps
 unfoldable pub encode : List ℕ → Book → List ℕ
 encode id b = headBlock (headOf id b) ++ pages id 0 (slotsOf b)
 
--- a buffer with every page absent behind the head; as it was where the id has not 8 bytes, or the pages have no room
+-- a buffer with every page absent behind the head; as it was where the id has not 8 bytes, or the
+-- pages have no room
 unfoldable pub withBlank : List ℕ → List ℕ → List ℕ
 withBlank id out = choose (eqb (length id) idSize) (over blockSize (pages id 0 noPages) out) out

@@ -29,7 +29,8 @@ headBody h = (ascii "IM" ++ (1 ∷ h .state ∷ [])) ++ h .id ++ (h .total ∷ [
 unfoldable pub headBlock : Head → List ℕ
 headBlock h = sealed (headBody h)
 
--- a buffer with this head block in front; as it was where the id has not 8 bytes, or the block has no room
+-- a buffer with this head block in front; as it was where the id has not 8 bytes, or the block has
+-- no room
 unfoldable pub withHead : Head → List ℕ → List ℕ
 withHead h out = choose (eqb (length (h .id)) idSize) (over 0 (headBlock h) out) out
 

@@ -19,7 +19,8 @@ pub data Built : Type 0 where
   offered : List ℕ → Built → Built
   joined : Built → Built → Built
 
--- the bytes that it then has: what the contracts of open, offer and join leave, one call after another
+-- the bytes that it then has: what the contracts of open, offer and join leave, one call after
+-- another
 unfoldable pub bytesOf : List ℕ → Built → List ℕ
 bytesOf id (opened c) = bytesAfter c (opening id c)
 bytesOf id (offered raw h) = bytesAfter (bytesOf id h) (offering (bytesOf id h) raw)

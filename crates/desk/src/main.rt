@@ -40,7 +40,8 @@ const WAITING_MOST: usize = 100_000;
 // The output that waits, with room for one more reply.
 type Waiting = [u8; WAITING_MOST + reply::MOST];
 
-// What is left after all whole lines of the input: where the unfinished line starts, and how much output waits.
+// What is left after all whole lines of the input: where the unfinished line starts, and how much
+// output waits.
 struct Fed {
     rest: usize,
     out: usize,
@@ -216,7 +217,8 @@ fn turn(
     write_out(out, fed.out)
 }
 
-// A proved loop has to end, and nothing says that the input does: it counts down from a number that no run uses up.
+// A proved loop has to end, and nothing says that the input does: it counts down from a number that
+// no run uses up.
 fn serve(input: &mut Input, shelf: &mut Shelf, lens: &mut Lens, out: &mut Waiting) {
     let mut held = 0;
     let mut turns = u64::MAX;

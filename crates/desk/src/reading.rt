@@ -1,4 +1,5 @@
-// The input buffer: the bytes of the unfinished line are at its front, and a read puts more behind them.
+// The input buffer: the bytes of the unfinished line are at its front, and a read puts more behind
+// them.
 ghost use Prim.Native.Nat.{_+_, _≤_};
 ghost use lib.ListN.{length};
 use libc::STDIN_FILENO;
@@ -11,7 +12,8 @@ pub(crate) const CHUNK: usize = 65_536;
 
 pub(crate) type Input = [u8; LINE_MOST + 1 + CHUNK];
 
-// Reads once behind the bytes that are held, and answers how many there are then: as many as before at the end of the input.
+// Reads once behind the bytes that are held, and answers how many there are then: as many as before
+// at the end of the input.
 pub(crate) fn read_more(input: &mut [u8], held: usize) -> usize {
     if input.len() < CHUNK {
         return held;

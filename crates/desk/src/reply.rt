@@ -1,5 +1,5 @@
-// The reply's parts. Each function writes into `out` from index at on, and answers the index after what it wrote; what does
-// not fit is left out. (The longest reply fits.)
+// The reply's parts. Each function writes into `out` from index at on, and answers the index after
+// what it wrote; what does not fit is left out. (The longest reply fits.)
 ghost use mathlib.Core.Path.{_≡_};
 ghost use lib.ListN.{length, replicate};
 ghost use Rattle.lend.specs.Same.{same};
@@ -14,7 +14,8 @@ pub(crate) const MOST: usize = 300_000;
 
 pub(crate) type Reply = [u8; MOST];
 
-// A call gives the array, since a large one that is written out here and lent as a slice takes the prover seconds.
+// A call gives the array, since a large one that is written out here and lent as a slice takes the
+// prover seconds.
 pub(crate) fn blank() -> Reply {
     [0; MOST]
 }

@@ -24,7 +24,8 @@ fn count(line: &[u8], starts: &[usize]) -> usize {
     n as usize
 }
 
-// The forms of the words before the last, which is ROOM: see `fits` of words for the letters. Four words say one file.
+// The forms of the words before the last, which is ROOM: see `fits` of words for the letters. Four
+// words say one file.
 const FORM: [u8; 264] =
     *b"zscmbbntbbntbbntbbntbbntbbntbbntbbntbbntbbntbbntbbntbbntbbntbbntbbntbbntbbntbbntbbntbbntbbntbbntbbntbbntbbntbbntbbntbbntbbntbbntbbntbbntbbntbbntbbntbbntbbntbbntbbntbbntbbntbbntbbntbbntbbntbbntbbntbbntbbntbbntbbntbbntbbntbbntbbntbbntbbntbbntbbntbbntbbntbbntbbntbbnt";
 

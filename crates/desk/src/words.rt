@@ -1,8 +1,9 @@
 // A line's words, and what they stand for.
 //
-// `starts` has where each word starts, and then where a next one would: word k is line[starts[k]..starts[k + 1] - 1].
-// The bytes of a word of hex stand in `pool` at half the word's place in the line: two digits make a byte, so the bytes of
-// two words never meet, and the pool is half as long as the longest line.
+// `starts` has where each word starts, and then where a next one would: word k is
+// line[starts[k]..starts[k + 1] - 1]. The bytes of a word of hex stand in `pool` at half the word's
+// place in the line: two digits make a byte, so the bytes of two words never meet, and the pool is
+// half as long as the longest line.
 
 use crate::parts::part;
 use crate::parts::until;
@@ -144,7 +145,8 @@ fn decode_word(line: &[u8], starts: &[usize], pool: &mut [u8], k: usize) {
     }
 }
 
-// Puts the bytes of every word into the pool. What a word that is no BYTES puts there is never used.
+// Puts the bytes of every word into the pool. What a word that is no BYTES puts there is never
+// used.
 pub(crate) fn decode_all(line: &[u8], starts: &[usize], pool: &mut [u8]) {
     let mut k = 1;
     while k < starts.len() {

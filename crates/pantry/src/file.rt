@@ -7,7 +7,8 @@ use scan::session::Session;
 // One byte more than a collection has, so that a longer file shows and is 13 (R15.7).
 const ENOUGH: usize = wire::COLLECTION_SIZE + 1;
 
-// What a new file's name has behind that of the file: the system puts letters for the X, so that no other file has the name.
+// What a new file's name has behind that of the file: the system puts letters for the X, so that no
+// other file has the name.
 const SUFFIX: usize = 7;
 
 const NAME_MOST: usize = libc::PATH_MAX + SUFFIX;
@@ -90,7 +91,8 @@ fn join(name: &[u8], s: Session, saved: &[u8], c: &mut [u8]) -> u8 {
     save(name, c)
 }
 
-// Joins the file's collection into c, and keeps what that gives there. No file is as an empty collection.
+// Joins the file's collection into c, and keeps what that gives there. No file is as an empty
+// collection.
 pub fn keep(name: &[u8], s: Session, c: &mut [u8]) -> u8 {
     let fd = os::open_read(name);
     if fd < 0 {

@@ -1,5 +1,6 @@
--- A run of the pantry over its whole input: what it prints, what it keeps, and what that is for a SET of good pages. The steps of a run are
--- those of `scan` and `pantry_work`; that the program takes them in this order is tested, since its reading and writing have no contract.
+-- A run of the pantry over its whole input: what it prints, what it keeps, and what that is for a
+-- SET of good pages. The steps of a run are those of `scan` and `pantry_work`; that the program
+-- takes them in this order is tested, since its reading and writing have no contract.
 use mathlib.Core.Path.{_≡_}
 use mathlib.Core.List.{List}
 use Prim.Native.Nat.{ℕ}

@@ -26,7 +26,8 @@ ReadAs {Place = Place} f s v = (a : Answer Place) → f .Reads s a → (p : Plac
 
 -- ---- the pages of a document
 
--- page i of c was asked for, as a frame or as a text of it: out was lent, x was left, a was answered
+-- page i of c was asked for, as a frame or as a text of it: out was lent, x was left, a was
+-- answered
 abbrev pub Printing : Type 1
 Printing = List ℕ → ℕ → ℕ → List ℕ → List ℕ → Answer ℕ → Type 0
 

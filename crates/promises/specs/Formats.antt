@@ -52,7 +52,8 @@ Slice s = Bytes s × (length s < 2 ^ 64)
 
 -- ---- a format
 
--- Place is what the reader answers with 0, places in its input and numbers; Value what they say, as bytes and numbers
+-- Place is what the reader answers with 0, places in its input and numbers; Value what they say, as
+-- bytes and numbers
 pub record Format (Place Value : Type 0) : Type 1 where
   pub says : List ℕ → Place → Value
   -- what counts of the input: all of it, except for what a text's reader skips
@@ -119,7 +120,8 @@ frames = whole frameSays (λ s. valueOf (F.frameOf s))
 abbrev pub textSaid : Answer ℕ → List ℕ → Answer (List ℕ)
 textSaid a x = then a (λ n. done (take n x))
 
--- over the calls of a reader and a writer: (what was given) (what was lent) (what was left) (the answer). A reader is lent as many bytes as the text has
+-- over the calls of a reader and a writer: (what was given) (what was lent) (what was left) (the
+-- answer). A reader is lent as many bytes as the text has
 abbrev pub texts : Form → (Reader Writer : List ℕ → List ℕ → List ℕ → Answer ℕ → Type 0) → Format (List ℕ) (List ℕ)
 texts f Reader Writer = record {
   says = λ s bs. bs;

@@ -35,7 +35,8 @@ use Rattle.promises.specs.Calls.{Call}
 use Rattle.promises.specs.Collecting.{library}
 use Rattle.promises.specs.Demand3.{Left}
 
--- ---- the calls: where a session is (`At`: its phase, the line so far, the collection) before and after
+-- ---- the calls: where a session is (`At`: its phase, the line so far, the collection) before and
+-- after
 
 abbrev pub Feeds : List ℕ → At → At → Type 0
 Feeds part s t =
@@ -52,7 +53,8 @@ Closes s t =
     (k : Call scan-session-close.Kinds.ps scan-session-close.Kinds.r scan-session-close.Reads.Learnt)
     × (at (k .args .0) (now (k .args .1 .0)) (now (k .args .1 .1 .0)) ≡ s) × (at (k .answer) (now (k .args .1 .0)) (k .left .1 .1 .0) ≡ t)
 
--- a session from its first byte to the end of its input, in a line buffer and a buffer for the collection
+-- a session from its first byte to the end of its input, in a line buffer and a buffer for the
+-- collection
 abbrev pub Runs : (parts : List (List ℕ)) (line c : List ℕ) (t : At) → Type 0
 Runs parts line c t = (s : At) × FeedsAll parts (new line c) s × Closes s t
 

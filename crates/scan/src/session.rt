@@ -21,8 +21,8 @@ const LINE_MOST: usize = 1024;
 // As many bytes as a session asks of the line buffer: one more than a line may have.
 pub const LINE_BUFFER: usize = LINE_MOST + 1;
 
-// Where a session is: its phase, and how many bytes of the line buffer are those of the line that has not ended. The line buffer and
-// the collection are lent beside it.
+// Where a session is: its phase, and how many bytes of the line buffer are those of the line that
+// has not ended. The line buffer and the collection are lent beside it.
 pub struct Session {
     pub phase: u8,
     pub len: usize,
