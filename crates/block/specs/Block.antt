@@ -40,7 +40,7 @@ hasBlock id p = eqb (length id) idSize && leb (length (dataOf p)) mostData
 unfoldable pub withPage : (at : ℕ) (id : List ℕ) (i : ℕ) (p : Slot) (out : List ℕ) → List ℕ
 withPage at id i p out = choose (hasBlock id p) (over at (pageBlock id i p) out) out
 
--- a buffer with the checksum of the 508 bytes from index at on behind them; as it was where there
--- is no room for the block
+-- a buffer with the checksum of the 508 bytes from index at on behind them (R8.2); as it was where
+-- there is no room for the block
 unfoldable pub withSum : ℕ → List ℕ → List ℕ
 withSum at out = over (at + summedSize) (bigEndian 4 (crc32 (take summedSize (drop at out)))) out

@@ -29,12 +29,12 @@ headBody h = (ascii "IM" ++ (1 ∷ h .state ∷ [])) ++ h .id ++ (h .total ∷ [
 unfoldable pub headBlock : Head → List ℕ
 headBlock h = sealed (headBody h)
 
--- a buffer with this head block in front; as it was where the id has not 8 bytes, or the block has
--- no room
+-- a buffer with this head block in front (R8.3); as it was where the id has not 8 bytes, or the
+-- block has no room
 unfoldable pub withHead : Head → List ℕ → List ℕ
 withHead h out = choose (eqb (length (h .id)) idSize) (over 0 (headBlock h) out) out
 
--- of any bytes: what the head says
+-- of any bytes: what the head says (R8.3)
 unfoldable pub readHead : List ℕ → Head
 readHead c = headFor (take idSize (drop 4 c)) (getD c 3 0) (getD c 12 0)
 

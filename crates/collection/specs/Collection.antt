@@ -43,7 +43,8 @@ unfoldable pub offering : List ℕ → List ℕ → Change ℕ
 offering c s = then (bookIn c) (λ b. taking (idOf c) b (goodPage (idOf c) s))
 
 -- join: the written collection is judged, then the read one, then whether they are of one document
--- (R9.6); page by page as model's `joinBook` says (R9.7, R9.8)
+-- (R9.6); then the first becomes the union (R1.5), page by page (R9.7), to which an empty one adds
+-- nothing (R9.8)
 unfoldable pub joining : List ℕ → List ℕ → Change Unit
 joining c o =
     then (bookIn c) (λ ours.

@@ -25,7 +25,8 @@ vouched id out v =
     (demand (same (documentId d) id) 17
     (done d)))
 
--- the data to write, or a refusal, whose place is 0 except for 15 and 16 (R2.3)
+-- the data to write (R1.6), or a refusal, in the order 13, 14, 15, 16, 11, 17 (R9.10); its place is
+-- 0 except for 15 and 16 (R2.3)
 unfoldable pub finished : List ℕ → List ℕ → Answer (List ℕ)
 finished c out = vouched (idOf c) out (collected c)
 

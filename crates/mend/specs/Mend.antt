@@ -46,8 +46,8 @@ abbrev pub BadAt : List ℕ → ℕ → Type 0
 BadAt c k = okAt (readHead c) k (pageAt k c) ≡ false
 
 -- of the answer a, and of the bytes x that were c: nothing but the blocks that were bad is changed,
--- and their number is the answer (R9.11). A page that was offered may be forgotten in x, so R1.4
--- says nothing of it
+-- and their number is the answer (R9.11). A page that was offered may be forgotten in x, so nothing
+-- is said here of the set of pages
 pub record Mends (c x : List ℕ) (a : Answer ℕ) : Type 0 where
   pub refuses : hasHead c ≡ false → (a ≡ refused 13) × (x ≡ c)
   pub counts : hasHead c ≡ true → (n : ℕ) × Counted (BadAt c) mostPages n × (a ≡ done n)

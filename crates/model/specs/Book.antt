@@ -4,7 +4,7 @@ use mathlib.Core.List.{List, []}
 use lib.ListN.{replicate}
 use Rattle.wire.specs.Sizes.{mostPages}
 
--- a page: absent, held with its data, or disputed, since it came in two versions (R8.4, R9.4)
+-- a page: absent, held with its data, or disputed, since it came in two versions (R8.4)
 pub data Slot : Type 0 where
   absent : Slot
   held : List ℕ → Slot
@@ -17,7 +17,7 @@ dataOf (held d) = d
 dataOf disputed = []
 
 -- the whole: no page yet; a total, and a slot for each of the 96 indices; totals that disagree
--- (R8.1, R8.3)
+-- (R8.3)
 pub data Book : Type 0 where
   empty : Book
   collecting : ℕ → List Slot → Book

@@ -61,5 +61,6 @@ abbrev pub lineOf : Answer Book → List ℕ
 lineOf (done b) = bookLine b
 lineOf (refusedAt e place) = refusedLine e
 
+-- of any bytes at all (R9.12, R9.13)
 unfoldable pub statusLine : List ℕ → List ℕ
 statusLine c = lineOf (bookIn c)
