@@ -3,10 +3,10 @@
  *                                  them, and writes what the last run left to standard output, and
  *                                  to standard error of how many bytes it made checksums
  *
- * The file is what the small program reads: the document's id in hex, and then one base64 scan to a
- * line. All that comes before and after the runs is the same for every TIMES, so the counts of two
- * TIMES differ by the runs alone. With BENCH_TIME in its environment it says on standard error how
- * long the runs took.
+ * The file is what `pier` reads: the document's id in hex, and then one base64 scan to a line
+ * (R15.1). All that comes before and after the runs is the same for every TIMES, so the counts of
+ * two TIMES differ by the runs alone. With BENCH_TIME in its environment it says on standard error
+ * how long the runs took.
  *
  * PART is `all`, or one of the parts that a job cannot do without: `crc32` computes exactly the
  * checksums that the job computes, `blake2b` its digest, `base64` reads its texts, each with
@@ -23,7 +23,7 @@
 
 enum {
     BLOCK = 512,
-    SUMMED = 508, /* so many bytes of a block come before its checksum */
+    SUMMED = 508, /* so many bytes of a block come before its checksum (R8.2) */
     PAGES = 96,
     LINE_MOST = 1024,
     SCANS_MOST = 256,

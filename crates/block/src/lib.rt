@@ -13,14 +13,15 @@ ghost use Rattle.model.specs.Book.{absent, held, disputed, dataOf};
 ghost use Rattle.block.specs.Block.{stateOf, pageBody, sealed, withPage, withSum};
 ghost use Rattle.block.specs.Read.{blockAt, readSlot, okPage, holding};
 
-// The states of a page.
+// The states of a page (R8.4).
 pub const ABSENT: u8 = 0;
 
 pub const HELD: u8 = 1;
 
 pub const DISPUTED: u8 = 2;
 
-// Where the data begin, and how many bytes stand from there to the checksum: the data and zeros behind them.
+// Where the data begin (R8.4), and how many bytes stand from there to the checksum: the data and
+// zeros behind them (R8.5).
 const DATA_AT: usize = 14;
 
 const DATA_ROOM: usize = wire::SUMMED_SIZE - DATA_AT;
@@ -43,7 +44,7 @@ pub fn seal(out: &mut [u8], at: usize)
     lend::copy(out, end, &sum);
 }
 
-// The four bytes before the id.
+// The four bytes before the id (R8.4).
 fn front(out: &mut [u8], at: usize, index: u8, state: u8)
     requires { ⌜ at + 4 ≤ length (now out) ⌝ }
     ensures { λ _. ⌜ now (out .exit) ≡ over at (0x50 ∷ index ∷ state ∷ 0 ∷ []) (now (out .entry)) ⌝ }
@@ -54,7 +55,7 @@ fn front(out: &mut [u8], at: usize, index: u8, state: u8)
     lend::put(out, at + 3, 0);
 }
 
-// The two bytes of a length.
+// The two bytes of a length, the higher first (R8.4).
 fn put_length(out: &mut [u8], at: usize, n: usize)
     requires { ⌜ (at + 2 ≤ length (now out)) × (n ≤ mostData) ⌝ }
     ensures { λ _. ⌜ now (out .exit) ≡ over at (bigEndian 2 n) (now (out .entry)) ⌝ }
@@ -63,7 +64,7 @@ fn put_length(out: &mut [u8], at: usize, n: usize)
     lend::put(out, at + 1, (n % 256) as u8);
 }
 
-// All before the checksum.
+// All before the checksum (R8.4, R8.5).
 fn body(out: &mut [u8], at: usize, id: &[u8], index: u8, state: u8, bytes: &[u8])
     requires { ⌜ (at + summedSize ≤ length (now out)) × (length (now id) ≡ idSize) × (length (now bytes) ≤ mostData) ⌝ }
     ensures { λ _. ⌜ now (out .exit) ≡ over at (pageBody (now (id .entry)) index state (now (bytes .entry))) (now (out .entry)) ⌝ }

@@ -16,17 +16,17 @@ ghost use Rattle.book.specs.Head.{headFor, headBody, withHead, readHead,
 ghost use Rattle.book.specs.Encode.{withBlank};
 ghost use Rattle.book.specs.Read.{pageAt, okAt, bookIn};
 
-// The pages of a collection, by index.
+// The pages of a collection, by index (R8.1).
 pub const PAGES: u8 = 96;
 
-// The states of a head.
+// The states of a head (R8.3).
 pub const EMPTY: u8 = 0;
 
 pub const COLLECTING: u8 = 1;
 
 pub const DISAGREE: u8 = 2;
 
-// Where the parts of the head stand, behind its magic and its version.
+// Where the parts of the head stand, behind its magic and its version (R8.3).
 const STATE_AT: usize = 3;
 
 const ID_AT: usize = 4;
@@ -44,7 +44,7 @@ pub fn place(k: u8) -> usize
     wire::BLOCK_SIZE + wire::BLOCK_SIZE * (k as usize)
 }
 
-// All of the head block before its checksum.
+// All of the head block before its checksum (R8.3).
 fn head_body(c: &mut [u8], id: &[u8], state: u8, total: u8)
     requires { ⌜ (summedSize ≤ length (now c)) × (length (now id) ≡ idSize) ⌝ }
     ensures { λ _. ⌜ now (c .exit) ≡ over 0 (headBody (headFor (now (id .entry)) state total)) (now (c .entry)) ⌝ }
@@ -70,7 +70,7 @@ pub fn write_head(c: &mut [u8], id: &[u8], state: u8, total: u8)
     block::seal(c, 0);
 }
 
-// Whether a state and a total go together.
+// Whether a state and a total go together (R8.3).
 fn total_ok(state: u8, total: u8) -> bool
     ensures { λ r. ⌜ r ≡ okTotal state total ⌝ }
 {
@@ -135,7 +135,8 @@ pub fn id_copy(c: &[u8]) -> [u8; 8]
 
 // ---- the judge
 
-// Whether c has a collection's size and a well-formed head: it is the head block of what it says.
+// Whether c has a collection's size (R8.1) and a well-formed head: it is the head block of what it
+// says (R8.7).
 fn head_ok(c: &[u8]) -> bool
     ensures { λ r. ⌜ r ≡ hasHead (now (c .entry)) ⌝ }
 {

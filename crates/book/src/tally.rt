@@ -1,4 +1,5 @@
-// The pages of a collection by their state. Each function takes any arguments: an index that has no block is absent.
+// The pages of a collection by their state. Each function takes any arguments: an index that has no
+// block is absent.
 ghost use mathlib.Core.Path.{_≡_};
 ghost use Rattle.model.specs.Finish.{lowest, count};
 ghost use Rattle.book.specs.Read.{readPages};

@@ -1,4 +1,4 @@
--- The answers of open, offer and join say no more than 01. Assumes nothing.
+-- The answers of open, offer and join say no more than a number and its values. Assumes nothing.
 use mathlib.Core.Path.{_≡_, refl}
 use Rattle.collection.specs.Answer.{told, toldKind}
 use Rattle.collection.specs.declared.Answered.{Answered}
@@ -6,7 +6,7 @@ use Rattle.collection.specs.declared.Answered.the-variants as A
 use Rattle.collection.specs.declared.Offered.{Offered}
 use Rattle.collection.specs.declared.Offered.the-variants as O
 
--- the enums say no more than 01's answers do
+-- the enums say no more than that
 pub told-injective : (r q : Answered) → told r ≡ told q → r ≡ q
 told-injective A.Done A.Done e = refl
 told-injective A.Done (A.Refused n) e = cc

@@ -1,5 +1,6 @@
--- The third demand, for open, offer and join: what a collection saves is fixed by the SET of good pages that were offered to it.
--- The words are those of Built.antt and of model's Meaning: no order, no grouping and no count stands in them. Assumes nothing.
+-- R1.4 and R1.5 for open, offer and join: what a collection saves is fixed by the SET of good pages
+-- that were offered to it. The words are those of Built.antt and of model's Meaning: no order, no
+-- grouping and no count stands in them. Assumes nothing.
 use mathlib.Core.Path.{_≡_, refl, sym, ap, _∙_, subst}
 use mathlib.Core.Bool.{true}
 use mathlib.Core.Logic.{_⊎_, inl, inr, ⊎-elim}
@@ -19,7 +20,7 @@ use Rattle.collection.specs.Collection.{goodPage, taking, offering}
 use Rattle.collection.specs.Built.{Built, opened, offered, joined, bytesOf, Says, In, Lent, offeredAll, Among, PageAmong, AllBytes}
 use Rattle.collection.proofs.Replay.{taken, history, offer-encode, run-valid, bytes-run, run-means}
 
--- ---- theorem 1: the bytes are those of document 01's rules for the set of good pages
+-- ---- theorem 1: the bytes are those that the rules give for the set of good pages
 
 module _ (id : List ℕ) (eight : length id ≡ 8) where
   -- some collection is what the offered set says

@@ -1,4 +1,5 @@
--- How a collection came to be, and which good pages were offered on the way: the words of the third demand.
+-- How a collection came to be, and which good pages were offered on the way: the words of R1.4 and
+-- R1.5.
 use mathlib.Core.Path.{_≡_}
 use mathlib.Core.Logic.{_⊎_}
 use mathlib.Core.List.{List, [], _∷_}
@@ -18,17 +19,19 @@ pub data Built : Type 0 where
   offered : List ℕ → Built → Built
   joined : Built → Built → Built
 
--- the bytes that it then has: what the contracts of open, offer and join leave, one call after another
+-- the bytes that it then has: what the contracts of open, offer and join leave, one call after
+-- another
 unfoldable pub bytesOf : List ℕ → Built → List ℕ
 bytesOf id (opened c) = bytesAfter c (opening id c)
 bytesOf id (offered raw h) = bytesAfter (bytesOf id h) (offering (bytesOf id h) raw)
 bytesOf id (joined g h) = bytesAfter (bytesOf id g) (joining (bytesOf id g) (bytesOf id h))
 
--- raw is the good page p of the document
+-- raw is the good page p of the document (R9.2)
 abbrev pub Says : List ℕ → List ℕ → Page → Type 0
 Says id raw p = (next : ℕ) × (goodPage id raw ≡ got p next)
 
--- the set of good pages that were offered, anywhere in it: a bad scan and a stranger's page say no page
+-- the set of good pages that were offered, anywhere in it: a bad scan and a stranger's page say no
+-- page (R1.4), and a join unites two sets (R1.5)
 abbrev pub In : List ℕ → Built → Page → Type 0
 In id (opened c) p = ⊥
 In id (offered raw h) p = In id h p ⊎ Says id raw p

@@ -13,7 +13,7 @@ ghost use Rattle.collection.specs.Collection.{opening, offering, joining
 ghost use Rattle.collection.specs.Answer.{told, toldKind};
 use take::PageRead;
 
-// How a page stands after its offer.
+// How a page stands after its offer (R9.5).
 pub const HELD: u8 = 1;
 
 pub const DISPUTED: u8 = 2;
@@ -23,7 +23,7 @@ pub const DISAGREE: u8 = 3;
 // What open and join answer.
 pub enum Answered {
     Done,
-    // 01's number of the refusal.
+    // The number of the refusal (R2.2).
     Refused { no: u8 },
 }
 
@@ -31,7 +31,7 @@ pub enum Answered {
 pub enum Offered {
     // HELD, DISPUTED or DISAGREE.
     Done { kind: u8 },
-    // 01's number of the refusal.
+    // The number of the refusal (R2.2).
     Refused { no: u8 },
 }
 

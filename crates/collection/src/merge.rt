@@ -1,4 +1,4 @@
-// A well-formed collection joined into another of the same document, page for page.
+// A well-formed collection joined into another of the same document, page for page (R9.7).
 ghost use mathlib.Core.Path.{_≡_};
 ghost use Rattle.model.specs.Take.{joinSlot, joinBook};
 ghost use Rattle.block.specs.Block.{withPage};
@@ -41,7 +41,7 @@ fn pages(c: &mut [u8], id: &[u8], o: &[u8])
     }
 }
 
-// The other has pages. An empty collection takes its total, and two totals annul it.
+// The other has pages. An empty collection takes its total (R9.8), and two totals annul it (R9.7).
 fn collecting(c: &mut [u8], id: &[u8], o: &[u8])
     requires { ⌜ Of (now id) (now c) ⌝ }
     requires { ⌜ Of (now id) (now o) × (readHead (now o) .state ≡ 1) ⌝ }
@@ -64,7 +64,7 @@ fn collecting(c: &mut [u8], id: &[u8], o: &[u8])
     pages(c, id, o);
 }
 
-// An empty collection adds nothing, and totals that disagree annul any other.
+// An empty collection adds nothing (R9.8), and totals that disagree annul any other (R9.7).
 pub(super) fn books(c: &mut [u8], id: &[u8], o: &[u8])
     requires { ⌜ Of (now id) (now c) ⌝ }
     requires { ⌜ Of (now id) (now o) ⌝ }

@@ -1,4 +1,4 @@
-// One page, taken into a well-formed collection.
+// One page, taken into a well-formed collection (R9.4).
 ghost use mathlib.Core.Path.{_≡_};
 ghost use Prim.Native.Nat.{_≤_};
 ghost use lib.ListN.{length};
@@ -18,12 +18,12 @@ use wire::Span;
 pub(super) enum PageRead {
     // Where the data stand in the frame.
     Page { index: u8, total: u8, at: Span },
-    // 01's number of the refusal.
+    // The number of the refusal (R2.2).
     Refused { no: u8 },
 }
 
 impl PageRead {
-    // The number of a refusal, which leaves at once.
+    // The number of a refusal, which leaves at once (R18.4).
     pub(super) fn no(self) -> u8
         ensures { λ n. ⌜ n ≡ pageNo self ⌝ }
     {
@@ -34,7 +34,7 @@ impl PageRead {
     }
 }
 
-// The page of a raw frame, where it is a good page of the document.
+// The page of a raw frame, where it is a good page of the document (R9.2).
 pub(super) fn good_page(id: &[u8], raw: &[u8]) -> PageRead
     ensures { λ r. ⌜ pageTold (now (raw .entry)) r ≡ goodPage (now (id .entry)) (now (raw .entry)) ⌝ }
 {
@@ -65,8 +65,8 @@ pub(super) fn good_page(id: &[u8], raw: &[u8]) -> PageRead
     }
 }
 
-// The data of a page into its block, from index at on. The same data again, or further data for a disputed page,
-// write nothing. No data are data too.
+// The data of a page into its block, from index at on. The same data again, or further data for a
+// disputed page, write nothing (R9.4). No data are data too (R9.9).
 pub(super) fn slot(c: &mut [u8], at: usize, id: &[u8], index: u8, bytes: &[u8]) -> u8
     requires { ⌜ BlockOf (now id) at index (now c) ⌝ }
     requires { ⌜ length (now bytes) ≤ mostData ⌝ }
@@ -97,7 +97,7 @@ fn vacate(c: &mut [u8], at: usize, id: &[u8], index: u8)
     }
 }
 
-// Totals disagree: the head says so, and every page becomes absent.
+// Totals disagree: the head says so, and every page becomes absent (R9.4).
 pub(super) fn annul(c: &mut [u8], id: &[u8])
     requires { ⌜ Of (now id) (now c) ⌝ }
     ensures { λ _. ⌜ now (c .exit) ≡ encode (now (id .entry)) disagree ⌝ }
@@ -110,7 +110,7 @@ pub(super) fn annul(c: &mut [u8], id: &[u8])
     book::write_head(c, id, book::DISAGREE, 0);
 }
 
-// A page of a collection that has pages: another total annuls it.
+// A page of a collection that has pages: another total annuls it (R9.4).
 fn further(c: &mut [u8], id: &[u8], index: u8, total: u8, bytes: &[u8]) -> u8
     requires { ⌜ Of (now id) (now c) × (readHead (now c) .state ≡ 1) ⌝ }
     requires { ⌜ Fits index total (now bytes) ⌝ }
@@ -123,7 +123,7 @@ fn further(c: &mut [u8], id: &[u8], index: u8, total: u8, bytes: &[u8]) -> u8
     slot(c, book::place(index), id, index, bytes)
 }
 
-// The first page fixes the total.
+// The first page fixes the total (R9.4).
 pub(super) fn page(c: &mut [u8], id: &[u8], index: u8, total: u8, bytes: &[u8]) -> u8
     requires { ⌜ Of (now id) (now c) ⌝ }
     requires { ⌜ Fits index total (now bytes) ⌝ }

@@ -3,6 +3,7 @@ use crate::reply;
 use crate::reply::Reply;
 use wire::NumberRead;
 
+// The number, and how many bytes it takes: more may follow (D2.1).
 pub(crate) fn varint_read(s: &[u8], out: &mut Reply) -> usize {
     let answer = varint::read(s, 0);
     match answer {

@@ -14,6 +14,7 @@ use manifest::Seed;
 use wire::Span;
 use wire::StepRead;
 
+// Bytes, or `null` (D2.9).
 fn seed(s: &[u8], v: Seed, out: &mut Reply, at: usize) -> usize {
     match v {
         Seed::Null => reply::put(out, at, b" null"),
@@ -21,6 +22,7 @@ fn seed(s: &[u8], v: Seed, out: &mut Reply, at: usize) -> usize {
     }
 }
 
+// A signed number behind `i`, or a double's 64 bits behind `f` (D2.9).
 fn created(v: Created, out: &mut Reply, at: usize) -> usize {
     match v {
         Created::Integer { negative, n } => {
@@ -34,6 +36,7 @@ fn created(v: Created, out: &mut Reply, at: usize) -> usize {
     }
 }
 
+// A signed number, or `null` (D2.9).
 fn mtime(v: Mtime, out: &mut Reply, at: usize) -> usize {
     match v {
         Mtime::Null => reply::put(out, at, b" null"),
@@ -71,6 +74,7 @@ fn files(s: &[u8], v: [File; 64], count: usize, out: &mut Reply, at: usize) -> u
     next
 }
 
+// What stands before the files, their number, and then four values for each (D2.9).
 fn manifest_values(s: &[u8], v: Manifest, out: &mut Reply) -> usize {
     let from = v.seed;
     let made = v.created;
@@ -93,6 +97,7 @@ pub(crate) fn manifest_read(s: &[u8], out: &mut Reply) -> usize {
     manifest_values(s, value, out)
 }
 
+// The manifest and the payload, as bytes (D2.11).
 pub(crate) fn envelope_read(s: &[u8], out: &mut Reply) -> usize {
     let answer = envelope::read(s);
     match answer {
@@ -105,11 +110,13 @@ pub(crate) fn envelope_read(s: &[u8], out: &mut Reply) -> usize {
     }
 }
 
+// The value is the one that the line says, as reading prints it (D2.10).
 fn manifest_write(v: Manifest, pool: &[u8], room: &mut [u8], out: &mut Reply) -> usize {
     let answer = manifest::write(pool, v, room);
     reply::wrote(out, answer, room)
 }
 
+// Takes the manifest as bytes, so that any can be tried (D2.11).
 fn envelope_write(manifest: &[u8], payload: &[u8], room: &mut [u8], out: &mut Reply) -> usize {
     let answer = envelope::write(manifest, payload, room);
     match answer {

@@ -1,14 +1,16 @@
-// The call desk: each line of standard input names a call of a library, and one line of standard output has its answer.
-// CALLS.md is the protocol. The desk judges nothing: it prints the answers of the libraries.
+// The call desk: each line of standard input names a call of a library, and one line of standard
+// output has its answer. docs/DESK.md is the protocol. The desk judges nothing: it prints the
+// answers of the libraries.
 //
-// A verb is a row of a table (its name and the form of its arguments) and the arm of that number: in `read` where the call
-// only reads, in `writers` or `listings` where it writes into the room, in `registers` where it is about collections. The
-// short function behind it stands with its like.
+// A verb is a row of a table (its name and the form of its arguments) and the arm of that number:
+// in `read` where the call only reads, in `writers` or `listings` where it writes into the room, in
+// `registers` where it is about collections. The short function behind it stands with its like.
 //
-// What lasts from line to line are arrays of `main`: `input` for what was read, `shelf` and `lens` for the registers, and
-// `out` for the replies that are not written out yet. A line has arrays of its own: `pool` for the bytes that its words say
-// in hex, the room, and its reply. They are lent as arrays, whose length is in their type, as far as they are lent whole: a
-// slice that is lent on is asked its length again, and costs the proof twice as much.
+// What lasts from line to line are arrays of `main`: `input` for what was read, `shelf` and `lens`
+// for the registers, and `out` for the replies that are not written out yet. A line has arrays of
+// its own: `pool` for the bytes that its words say in hex, the room, and its reply. They are lent
+// as arrays, whose length is in their type, as far as they are lent whole: a slice that is lent on
+// is asked its length again, and costs the proof twice as much.
 mod forms;
 mod frames;
 mod listings;
@@ -38,7 +40,8 @@ const WAITING_MOST: usize = 100_000;
 // The output that waits, with room for one more reply.
 type Waiting = [u8; WAITING_MOST + reply::MOST];
 
-// What is left after all whole lines of the input: where the unfinished line starts, and how much output waits.
+// What is left after all whole lines of the input: where the unfinished line starts, and how much
+// output waits.
 struct Fed {
     rest: usize,
     out: usize,
@@ -97,8 +100,8 @@ fn call(
     listings::call(line, starts, pool, room, out)
 }
 
-// The reply to a line of these words; 0 where it is of no known form. ROOM is always the last argument, so the room is cut
-// to it here, once for every verb.
+// The reply to a line of these words; 0 where it is of no known form (D1.5). ROOM is always the
+// last argument, so the room is cut to it here, once for every verb (D1.6).
 fn answer_words(
     line: &[u8],
     starts: &[usize],
@@ -131,7 +134,8 @@ fn answer(line: &[u8], shelf: &mut Shelf, lens: &mut Lens, out: &mut Reply) -> u
     answer_words(line, cut, &pool, shelf, lens, out)
 }
 
-// What is printed for a line: nothing for an empty line and for a comment.
+// What is printed for a line: `?` for one that is too long, whatever it begins with (D1.5), nothing
+// for an empty line and for a comment (D1.2).
 fn respond(line: &[u8], shelf: &mut Shelf, lens: &mut Lens, out: &mut Reply) -> usize {
     if line.len() > LINE_MOST {
         return reply::line(out, 0);
@@ -172,7 +176,7 @@ fn respond_behind(
     reply::give(out, at, &said, n)
 }
 
-// Answers each whole line of input, of which the first `held` bytes have no line feed.
+// Answers each whole line of input, of which the first `held` bytes have no line feed (D1.1).
 fn feed(input: &[u8], held: usize, shelf: &mut Shelf, lens: &mut Lens, out: &mut Waiting) -> Fed {
     if held > input.len() {
         return Fed { rest: 0, out: 0 };
@@ -192,8 +196,8 @@ fn feed(input: &[u8], held: usize, shelf: &mut Shelf, lens: &mut Lens, out: &mut
     }
 }
 
-// Reads once and answers each line that has ended, before it reads again. False at the end of the input, where the last
-// line may lack its line feed.
+// Reads once and answers each line that has ended, before it reads again. False at the end of the
+// input, where the last line may lack its line feed (D1.1).
 fn turn(
     held: &mut usize,
     input: &mut Input,
@@ -213,7 +217,8 @@ fn turn(
     write_out(out, fed.out)
 }
 
-// A proved loop has to end, and nothing says that the input does: it counts down from a number that no run uses up.
+// A proved loop has to end, and nothing says that the input does: it counts down from a number that
+// no run uses up.
 fn serve(input: &mut Input, shelf: &mut Shelf, lens: &mut Lens, out: &mut Waiting) {
     let mut held = 0;
     let mut turns = u64::MAX;
@@ -222,6 +227,7 @@ fn serve(input: &mut Input, shelf: &mut Shelf, lens: &mut Lens, out: &mut Waitin
     }
 }
 
+// The registers hold no bytes at first (D3.1).
 fn main() {
     let mut input = [0; LINE_MOST + 1 + CHUNK];
     let mut shelf = [0; registers::REGISTERS * registers::SIZE];

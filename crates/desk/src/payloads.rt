@@ -18,6 +18,7 @@ pub(crate) fn signed_by(
     reply::bytes(out, at, part(s, hash, 32))
 }
 
+// PUB, SIG and HASH (D2.7).
 pub(crate) fn auth_read(s: &[u8], out: &mut Reply) -> usize {
     let answer = auth::read(s);
     match answer {

@@ -1,8 +1,10 @@
-// The input buffer: the bytes of the unfinished line are at its front, and a read puts more behind them.
+// The input buffer: the bytes of the unfinished line are at its front, and a read puts more behind
+// them.
 ghost use Prim.Native.Nat.{_+_, _≤_};
 ghost use lib.ListN.{length};
 use libc::STDIN_FILENO;
 
+// A longer line is not understood (D1.5).
 pub(crate) const LINE_MOST: usize = 262_144;
 
 // How much one read asks for.
@@ -10,7 +12,8 @@ pub(crate) const CHUNK: usize = 65_536;
 
 pub(crate) type Input = [u8; LINE_MOST + 1 + CHUNK];
 
-// Reads once behind the bytes that are held, and answers how many there are then: as many as before at the end of the input.
+// Reads once behind the bytes that are held, and answers how many there are then: as many as before
+// at the end of the input.
 pub(crate) fn read_more(input: &mut [u8], held: usize) -> usize {
     if input.len() < CHUNK {
         return held;
@@ -34,8 +37,8 @@ fn shift(input: &mut [u8], at: usize, n: usize)
     }
 }
 
-// Moves the unfinished line, from index at to end, to the front, and answers how many bytes are held of it. Of a line that
-// is too long one byte too many is held, whatever comes.
+// Moves the unfinished line, from index at to end, to the front, and answers how many bytes are
+// held of it. Of a line that is too long one byte too many is held, whatever comes (D1.5).
 pub(crate) fn keep(input: &mut [u8], at: usize, end: usize) -> usize {
     if end > input.len() {
         return 0;

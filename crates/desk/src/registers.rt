@@ -1,5 +1,6 @@
-// The verbs of collections. A register has its own part of the shelf, of which as many bytes count as `lens` has for it. Before a
-// call that may change a register it is copied, so that the desk can tell what the call changed.
+// The verbs of collections. A register has its own part of the shelf, of which as many bytes count
+// as `lens` has for it. Before a call that may change a register it is copied, so that the desk can
+// tell what the call changed (D3.8).
 use crate::parts::part;
 use crate::reply;
 use crate::reply::Reply;
@@ -10,9 +11,10 @@ use collection::Offered;
 use finish::Finished;
 use mend::Mended;
 
+// `a` to `d` (D3.1).
 pub(crate) const REGISTERS: usize = 4;
 
-// As many bytes as a line of load may bring, and a line of open may ask for.
+// As many bytes as a line of load may bring (D3.2), and a line of open may ask for (D1.6).
 pub(crate) const SIZE: usize = 65_536;
 
 pub(crate) type Shelf = [u8; REGISTERS * SIZE];
@@ -82,6 +84,7 @@ fn answered(answer: Answered) -> Changed {
     }
 }
 
+// KIND is the library's 1, 2 or 3 (D3.4).
 fn offered(answer: Offered) -> Changed {
     match answer {
         Offered::Done { kind } => Changed::Counted { n: kind as u64 },
@@ -89,6 +92,7 @@ fn offered(answer: Offered) -> Changed {
     }
 }
 
+// COUNT is the number of blocks that were mended (D3.6).
 fn mended(answer: Mended) -> Changed {
     match answer {
         Mended::Done { count } => Changed::Counted { n: count as u64 },
@@ -105,7 +109,8 @@ fn change(verb: usize, given: &[u8], book: &mut [u8]) -> Changed {
     }
 }
 
-// The reply of a call that may change a register: where it refused, the register must be what it was before.
+// The reply of a call that may change a register: where it refused, the register must be what it
+// was before (D3.8).
 fn tell(answer: Changed, book: &[u8], before: &[u8], out: &mut Reply) -> usize {
     match answer {
         Changed::Done => reply::done(out),
@@ -150,7 +155,7 @@ fn change_register(
     change_and_tell(verb, given, &mut shelf[at..end], out)
 }
 
-// The second register is read from a copy, so that one register may be joined with itself.
+// The second register is read from a copy, so that one register may be joined with itself (D3.5).
 fn join(r: usize, other: usize, shelf: &mut Shelf, lens: &Lens, out: &mut Reply) -> usize {
     let mut copy = blank();
     lend::copy(&mut copy, 0, held(shelf, lens, other));
@@ -158,11 +163,13 @@ fn join(r: usize, other: usize, shelf: &mut Shelf, lens: &Lens, out: &mut Reply)
     change_register(JOIN, from, r, shelf, lens, out)
 }
 
+// No call is made: the bytes are printed as they are (D3.2).
 fn save(book: &[u8], out: &mut Reply) -> usize {
     let at = reply::done(out);
     reply::bytes(out, at, book)
 }
 
+// The room is lent to finish as to any writer (D3.6).
 fn finish(book: &[u8], room: &mut [u8], out: &mut Reply) -> usize {
     let answer = finish::finish(book, room);
     match answer {
@@ -171,7 +178,8 @@ fn finish(book: &[u8], room: &mut [u8], out: &mut Reply) -> usize {
     }
 }
 
-// The status line has its own line feed, which is the reply's.
+// The status line is the whole answer, without `0` (D3.7). It has its own line feed, which is the
+// reply's.
 fn status(book: &[u8], out: &mut Reply) -> usize {
     let answer = status::status(book, out);
     match answer {
@@ -196,7 +204,8 @@ fn look(verb: usize, book: &[u8], room: &mut [u8], out: &mut Reply) -> usize {
     }
 }
 
-// What load and open make a register hold before all else.
+// What a register is made to hold before all else: by load the bytes of the line (D3.2), by open
+// the room, ROOM bytes of A5 (D3.3).
 fn prepare(verb: usize, bytes: &[u8], room: &[u8], r: usize, shelf: &mut Shelf, lens: &mut Lens) {
     match verb {
         LOAD => hold(bytes, r, shelf, lens),

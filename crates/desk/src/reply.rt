@@ -1,12 +1,12 @@
-// The reply's parts. Each function writes into `out` from index at on, and answers the index after what it wrote; what does
-// not fit is left out. (The longest reply fits.)
+// The reply's parts. Each function writes into `out` from index at on, and answers the index after
+// what it wrote; what does not fit is left out. (The longest reply fits.)
 ghost use mathlib.Core.Path.{_≡_};
 ghost use lib.ListN.{length, replicate};
 ghost use Rattle.lend.specs.Same.{same};
 use crate::parts::part;
 use wire::Wrote;
 
-// What the room holds before a call. A byte that a call may not change holds it afterwards.
+// What the room holds before a call. A byte that a call may not change holds it afterwards (D1.6).
 pub(crate) const UNTOUCHED: u8 = 0xA5;
 
 // No reply is longer.
@@ -14,7 +14,8 @@ pub(crate) const MOST: usize = 300_000;
 
 pub(crate) type Reply = [u8; MOST];
 
-// A call gives the array, since a large one that is written out here and lent as a slice takes the prover seconds.
+// A call gives the array, since a large one that is written out here and lent as a slice takes the
+// prover seconds.
 pub(crate) fn blank() -> Reply {
     [0; MOST]
 }
@@ -53,16 +54,17 @@ pub(crate) fn give(out: &mut [u8], at: usize, said: &Reply, n: usize) -> usize {
     append(out, at, part(said, 0, n))
 }
 
-// An answer of 0, which its values follow.
+// An answer of 0, which its values follow (D1.7).
 pub(crate) fn done(out: &mut Reply) -> usize {
     byte(out, 0, b'0')
 }
 
+// A refusal without a place is its number alone (D1.7).
 pub(crate) fn refused(out: &mut Reply, no: u8) -> usize {
     decimal(out, 0, no as u64)
 }
 
-// A refusal that may have a place: 01 gives one with 15, 16 and 21.
+// A refusal that may have a place: 15, 16 and 21 have one (D1.7).
 pub(crate) fn refused_at(out: &mut Reply, no: u8, place: u64) -> usize {
     let at = refused(out, no);
     match no {
@@ -71,6 +73,7 @@ pub(crate) fn refused_at(out: &mut Reply, no: u8, place: u64) -> usize {
     }
 }
 
+// A space stands before each value (D1.7).
 pub(crate) fn number(out: &mut Reply, at: usize, n: u64) -> usize {
     let next = byte(out, at, b' ');
     decimal(out, next, n)
@@ -115,6 +118,7 @@ pub(crate) fn signed(out: &mut Reply, at: usize, negative: bool, n: u64) -> usiz
     decimal(out, at, n)
 }
 
+// No bytes are `-` (D1.3).
 pub(crate) fn bytes(out: &mut Reply, at: usize, s: &[u8]) -> usize {
     let next = byte(out, at, b' ');
     if s.len() > 0 {
@@ -123,7 +127,8 @@ pub(crate) fn bytes(out: &mut Reply, at: usize, s: &[u8]) -> usize {
     byte(out, next, b'-')
 }
 
-// Nothing that the libraries print shows a wrong answer of this one, so its contract is whole.
+// Whether all of s is as it was lent (D1.6). Nothing that the libraries print shows a wrong answer
+// of this one, so its contract is whole.
 fn is_untouched(s: &[u8]) -> bool
     ensures { λ r. ⌜ r ≡ same (now (s .entry)) (replicate (length (now (s .entry))) 0xA5) ⌝ }
 {
@@ -137,7 +142,7 @@ fn is_untouched(s: &[u8]) -> bool
     true
 }
 
-// Ends a reply: of the room, all but the first len bytes were lent and may not have changed.
+// Ends a reply: of the room, all but the first len bytes were lent and may not have changed (D1.6).
 fn end(out: &mut Reply, at: usize, len: usize, room: &[u8]) -> usize {
     if len <= room.len() {
         if is_untouched(&room[len..]) {
@@ -147,12 +152,14 @@ fn end(out: &mut Reply, at: usize, len: usize, room: &[u8]) -> usize {
     put(out, at, b" spilled")
 }
 
+// A length above ROOM gives no bytes, and has spilled (D1.8).
 pub(crate) fn written(out: &mut Reply, len: usize, room: &[u8]) -> usize {
     let at = done(out);
     let next = bytes(out, at, part(room, 0, len));
     end(out, next, len, room)
 }
 
+// After a refusal no byte of the room may have changed (D1.6).
 pub(crate) fn not_written(out: &mut Reply, no: u8, place: u64, room: &[u8]) -> usize {
     let at = refused_at(out, no, place);
     end(out, at, 0, room)
@@ -166,7 +173,7 @@ pub(crate) fn wrote(out: &mut Reply, answer: Wrote, room: &[u8]) -> usize {
     }
 }
 
-// Ends the reply's line; a reply of no bytes is that of a line which is not understood.
+// Ends the reply's line; a reply of no bytes is that of a line which is not understood: `?` (D1.5).
 pub(crate) fn line(out: &mut Reply, at: usize) -> usize {
     if at > 0 {
         return byte(out, at, b'\n');

@@ -1,4 +1,5 @@
-// The manifest that a line of manifest-write says. Its bytes stand in the pool, where the library takes them from.
+// The manifest that a line of manifest-write says (D2.10). Its bytes stand in the pool, where the
+// library takes them from.
 use crate::parts::part;
 use crate::values;
 use crate::words;
@@ -12,7 +13,7 @@ use wire::Span;
 // The words before the first file, with the verb: SEED, SEALED, CREATED, N.
 const BEFORE_FILES: usize = 5;
 
-// The most files that a line may name: one more than a manifest may have.
+// The most files that a line may name: one more than a manifest may have (D2.10).
 const MOST: usize = 65;
 
 fn count(line: &[u8], starts: &[usize]) -> usize {
@@ -23,11 +24,12 @@ fn count(line: &[u8], starts: &[usize]) -> usize {
     n as usize
 }
 
-// The forms of the words before the last, which is ROOM: see `fits` of words for the letters. Four words say one file.
+// The forms of the words before the last, which is ROOM: see `fits` of words for the letters. Four
+// words say one file.
 const FORM: [u8; 264] =
     *b"zscmbbntbbntbbntbbntbbntbbntbbntbbntbbntbbntbbntbbntbbntbbntbbntbbntbbntbbntbbntbbntbbntbbntbbntbbntbbntbbntbbntbbntbbntbbntbbntbbntbbntbbntbbntbbntbbntbbntbbntbbntbbntbbntbbntbbntbbntbbntbbntbbntbbntbbntbbntbbntbbntbbntbbntbbntbbntbbntbbntbbntbbntbbntbbntbbntbbnt";
 
-// Whether the line is a call of manifest-write, of its form.
+// Whether the line is a call of manifest-write, of its form (D2.10).
 pub(crate) fn asks(line: &[u8], starts: &[usize]) -> bool {
     let n = count(line, starts);
     if n > MOST {

@@ -15,6 +15,7 @@ fn span(s: &[u8], v: Span, out: &mut Reply, at: usize) -> usize {
     reply::bytes(out, at, part(s, v.start, v.len))
 }
 
+// The type as the bytes of its text, the share, and the length of what is shared (D2.8).
 fn content(s: &[u8], v: Content, out: &mut Reply, at: usize) -> usize {
     let at = span(s, v.kind, out, at);
     let at = span(s, v.share, out, at);
@@ -27,6 +28,7 @@ fn quorum(v: Quorum, out: &mut Reply, at: usize) -> usize {
     reply::number(out, at, v.index)
 }
 
+// Nine values (D2.8).
 pub(crate) fn shard_read(s: &[u8], out: &mut Reply) -> usize {
     let answer = shard::read(s);
     match answer {
@@ -57,6 +59,8 @@ fn quorum_said(line: &[u8], starts: &[usize], k: usize) -> Quorum
     }
 }
 
+// Takes the nine values that reading prints; whether the type is known is the library's to say
+// (D2.8).
 pub(crate) fn shard_write(line: &[u8], starts: &[usize], pool: &[u8], room: &mut [u8]) -> Wrote {
     shard::write(
         words::bytes(pool, starts, 1),
@@ -70,6 +74,7 @@ pub(crate) fn shard_write(line: &[u8], starts: &[usize], pool: &[u8], room: &mut
     )
 }
 
+// The same words but SIG (D2.8).
 pub(crate) fn shard_signed(line: &[u8], starts: &[usize], pool: &[u8], room: &mut [u8]) -> Wrote {
     shard::signed(
         words::bytes(pool, starts, 1),

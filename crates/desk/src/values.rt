@@ -1,5 +1,6 @@
-// What one word says: a number in decimal, or bytes in hex.
+// What one word says: a number in decimal (D1.4), or bytes in hex (D1.3).
 
+// Leading zeros are among them (D1.4).
 const DIGITS_MOST: usize = 40;
 
 enum Parsed {
@@ -7,6 +8,7 @@ enum Parsed {
     Not,
 }
 
+// One more digit, where the number stays below 2^64 (D1.4).
 fn longer(n: u64, digit: u8) -> Parsed {
     if digit < b'0' {
         return Parsed::Not;
@@ -24,6 +26,7 @@ fn longer(n: u64, digit: u8) -> Parsed {
     Parsed::Is { n: n * 10 + d }
 }
 
+// A number without a sign: 1 to 40 digits (D1.4).
 fn decimal(word: &[u8]) -> Parsed {
     if word.len() < 1 {
         return Parsed::Not;
@@ -72,6 +75,7 @@ pub(crate) fn behind_first(word: &[u8]) -> &[u8] {
     &word[1..]
 }
 
+// A number that goes beyond 63 bits is passed on all the same: the library refuses it (D1.4).
 pub(crate) fn is_signed(word: &[u8]) -> bool {
     if has_minus(word) {
         return is_at_most(behind_first(word), u64::MAX);
@@ -88,7 +92,7 @@ pub(crate) fn number(word: &[u8]) -> u64 {
     }
 }
 
-// What the word says, where it is such a number. The negative of 0 is 0.
+// What the word says, where it is such a number. The negative of 0 is 0 (D1.4).
 pub(crate) fn signed(word: &[u8]) -> Said {
     if has_minus(word) {
         let n = number(behind_first(word));
@@ -106,7 +110,7 @@ pub(crate) fn signed(word: &[u8]) -> Said {
     }
 }
 
-// Which register the word names; 4 where it names none.
+// Which register the word names; 4 where it names none (D3.1).
 pub(crate) fn register(word: &[u8]) -> usize {
     if word.len() != 1 {
         return 4;
@@ -120,7 +124,7 @@ pub(crate) fn register(word: &[u8]) -> usize {
     }
 }
 
-// An integer behind `i`, or the 16 digits of a double behind `f`.
+// An integer behind `i`, or the 16 digits of a double behind `f` (D2.9).
 pub(crate) fn is_created(word: &[u8]) -> bool {
     if word.len() < 1 {
         return false;
@@ -151,6 +155,7 @@ pub(crate) fn double(word: &[u8]) -> u64 {
     n
 }
 
+// Pairs of lower-case hex digits, or `-` for no bytes (D1.3).
 pub(crate) fn is_bytes(word: &[u8]) -> bool {
     if lend::equal(word, b"-") {
         return true;

@@ -1,8 +1,9 @@
 // A line's words, and what they stand for.
 //
-// `starts` has where each word starts, and then where a next one would: word k is line[starts[k]..starts[k + 1] - 1].
-// The bytes of a word of hex stand in `pool` at half the word's place in the line: two digits make a byte, so the bytes of
-// two words never meet, and the pool is half as long as the longest line.
+// `starts` has where each word starts, and then where a next one would: word k is
+// line[starts[k]..starts[k + 1] - 1]. The bytes of a word of hex stand in `pool` at half the word's
+// place in the line: two digits make a byte, so the bytes of two words never meet, and the pool is
+// half as long as the longest line.
 
 use crate::parts::part;
 use crate::parts::until;
@@ -30,12 +31,13 @@ const TIME_OR_NULL: u8 = b't';
 
 const REGISTER: u8 = b'g';
 
-// As many bytes as a register takes.
+// As many bytes as a register takes (D3.2).
 const LOADED: u8 = b'l';
 
+// The longest output that can be lent (D1.6).
 pub(crate) const ROOM_MOST: u64 = 65_536;
 
-// What a call is lent, of which ROOM says how much.
+// What a call is lent, of which ROOM says how much (D1.6).
 pub(crate) fn room() -> [u8; ROOM_MOST as usize] {
     [UNTOUCHED; ROOM_MOST as usize]
 }
@@ -82,8 +84,8 @@ pub(crate) fn place(starts: &[usize], k: usize) -> Span {
     }
 }
 
-// Word n ends before the space that stands before next. The table's length is the answer for a word that is empty and
-// for one too many, from then on.
+// Word n ends before the space that stands before next. The table's length is the answer for a word
+// that is empty, as between two spaces or at either end (D1.5), and for one too many, from then on.
 fn close(starts: &mut [usize], n: usize, next: usize) -> usize {
     if starts.len() < 1 {
         return 0;
@@ -107,7 +109,8 @@ fn pass(starts: &mut [usize], n: usize, b: u8, next: usize) -> usize {
     n
 }
 
-// How many words the line has: the table's length where a word is empty or there are too many.
+// How many words the line has, with one space between each two (D1.1): the table's length where a
+// word is empty or there are too many (D1.5).
 pub(crate) fn split(line: &[u8], starts: &mut [usize]) -> usize {
     let mut n = 0;
     let mut i = 0;
@@ -142,7 +145,8 @@ fn decode_word(line: &[u8], starts: &[usize], pool: &mut [u8], k: usize) {
     }
 }
 
-// Puts the bytes of every word into the pool. What a word that is no BYTES puts there is never used.
+// Puts the bytes of every word into the pool. What a word that is no BYTES puts there is never
+// used.
 pub(crate) fn decode_all(line: &[u8], starts: &[usize], pool: &mut [u8]) {
     let mut k = 1;
     while k < starts.len() {
@@ -151,6 +155,8 @@ pub(crate) fn decode_all(line: &[u8], starts: &[usize], pool: &mut [u8]) {
     }
 }
 
+// Whether a word is what a letter of a form asks for. N may be one beyond what a manifest has on
+// either side (D2.10), and two digits make a byte of what is loaded (D3.2).
 fn fits(word: &[u8], kind: u8) -> bool {
     match kind {
         BYTES => values::is_bytes(word),
@@ -178,7 +184,8 @@ pub(crate) fn all_fit(line: &[u8], starts: &[usize], form: &[u8]) -> bool {
     true
 }
 
-// Whether the line is the verb `name` with arguments of the given form.
+// Whether the line is the verb `name` with arguments of the given form: no other is answered
+// (D1.5).
 fn asks(line: &[u8], starts: &[usize], name: &[u8], form: &[u8]) -> bool {
     if !lend::equal(word(line, starts, 0), name) {
         return false;
@@ -203,8 +210,8 @@ fn asks_row(line: &[u8], starts: &[usize], row: &[u8]) -> bool {
     }
 }
 
-// Which row of a table of verbs the line is a call of, counted from 1; 0 where it is of none. A row is a verb and its form,
-// and a comma parts two rows.
+// Which row of a table of verbs the line is a call of, counted from 1; 0 where it is of none
+// (D1.5). A row is a verb and its form, and a comma parts two rows.
 pub(crate) fn verb(line: &[u8], starts: &[usize], table: &[u8]) -> usize {
     let mut n = 1;
     let mut at = 0;

@@ -6,7 +6,7 @@ use crate::shards;
 use crate::words;
 use wire::Wrote;
 
-// The verbs of one argument.
+// The verbs of one argument: both texts, read and written (D2.2).
 fn of_one(verb: usize, s: &[u8], room: &mut [u8]) -> Wrote {
     match verb {
         1 => text::base64_read(s, room),
@@ -16,7 +16,7 @@ fn of_one(verb: usize, s: &[u8], room: &mut [u8]) -> Wrote {
     }
 }
 
-// The verbs of two.
+// The verbs of two: key and auth frames (D2.6), and what gets signed of an auth payload (D2.7).
 fn of_two(verb: usize, one: &[u8], two: &[u8], room: &mut [u8]) -> Wrote {
     match verb {
         5 => payload_frame::key(one, two, room),
@@ -25,7 +25,8 @@ fn of_two(verb: usize, one: &[u8], two: &[u8], room: &mut [u8]) -> Wrote {
     }
 }
 
-// The verbs that take numbers, or more.
+// The verbs that take numbers, or more: varints (D2.1), pages (D2.5), auth payloads (D2.7) and
+// shards (D2.8).
 fn of_more(verb: usize, line: &[u8], starts: &[usize], pool: &[u8], room: &mut [u8]) -> Wrote {
     let one = words::bytes(pool, starts, 1);
     match verb {

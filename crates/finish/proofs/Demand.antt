@@ -1,4 +1,5 @@
--- Finish said of the SET of pages: the mission's third demand, last sentence. S is any set of pages that the collection is the meaning of.
+-- Finish said of the SET of pages: R1.6. S is any set of pages that the collection is the meaning
+-- of.
 use mathlib.Core.Path.{_≡_, refl, sym, ap, _∙_, subst}
 use mathlib.Core.Bool.{Bool, true, false}
 use mathlib.Core.Logic.{_⊎_, inl, inr, ⊎-elim, _↔_}
@@ -144,7 +145,7 @@ module _ (S : Page → Type 0) (c out : List ℕ) (ok : okBook c ≡ true) (m : 
       go e (inr (d, p, inr (h, inl (i, q)))) = (d, complete d .0 p, h, i)
       go e (inr (d, p, inr (h, inr (i, q)))) = let z : _≡_ {A = ℕ} 0 1 = cc in absurd (omega arith)
 
--- ---- what the caller gets: 01's answer and the output that were decided
+-- ---- what the caller gets: the answer and the output that were decided
 
 module _ (v : Answer (List ℕ)) (out out' : List ℕ) (a : Answer ℕ)
     (p : a ≡ answerOf (delivering out v)) (o : out' ≡ bytesAfter out (delivering out v)) where

@@ -8,7 +8,7 @@ use Rattle.finish.specs.Finish.{told}
 use Rattle.finish.specs.declared.Finished.{Finished}
 use Rattle.finish.specs.declared.Finished.the-variants.{Done, Refused}
 
--- the enum says no more than 01's answer does
+-- the enum says no more than a number, a place and a length
 finished-injective : (r q : Finished) → told r ≡ told q → r ≡ q
 finished-injective (Done m) (Done n) e = cc
 finished-injective (Done m) (Refused n k) e = cc

@@ -15,18 +15,19 @@ use book::tally;
 pub enum Finished {
     // The number of bytes written.
     Done { len: usize },
-    // 01's number of the refusal, and its place.
+    // The number of the refusal (R2.2), and its place (R2.3).
     Refused { no: u8, place: u8 },
 }
 
-// 01's number of a refusal, with its place: only 15 and 16 have one.
+// A refusal with its place: only 15 and 16 have one (R2.3).
 fn refusal(no: u8, place: u8) -> Finished
     ensures { λ r. ⌜ r ≡ Finished.Refused no place ⌝ }
 {
     Finished::Refused { no, place }
 }
 
-// The data of the first pages, one after another, from the front of out on. Answers how many bytes they are.
+// The data of the first pages, one after another, from the front of out on (R9.10). Answers how
+// many bytes they are.
 fn gather(c: &[u8], total: u8, out: &mut [u8]) -> usize
     requires { ⌜ (total ≤ mostPages) × (length (now out) ≡ mostCiphertext) ⌝ }
     ensures { λ r. ⌜ Gathers (now (c .entry)) total (now (out .entry)) (now (out .exit)) r ⌝ }
@@ -42,7 +43,8 @@ fn gather(c: &[u8], total: u8, out: &mut [u8]) -> usize
     len
 }
 
-// No page is lacking. The data are put together aside, so that a refusal changes nothing of out.
+// No page is lacking. The data are put together aside, so that a refusal changes nothing of out
+// (R1.2).
 fn deliver(c: &[u8], total: u8, out: &mut [u8]) -> Finished
     requires { ⌜ total ≤ mostPages ⌝ }
     ensures { λ r. ⌜ Closed (vouched (idOf (now (c .entry))) (now (out .entry)) (done (joined (readPages 0 total (now (c .entry)))))) (now (out .entry)) (now (out .exit)) r ⌝ }
@@ -60,7 +62,8 @@ fn deliver(c: &[u8], total: u8, out: &mut [u8]) -> Finished
     Finished::Done { len }
 }
 
-// A collection that has pages: the lowest that is disputed is named before the lowest that is missing.
+// A collection that has pages: the lowest that is disputed is named before the lowest that is
+// missing (R9.10).
 fn pages(c: &[u8], total: u8, out: &mut [u8]) -> Finished
     requires { ⌜ total ≤ mostPages ⌝ }
     ensures { λ r. ⌜ Closed (vouched (idOf (now (c .entry))) (now (out .entry)) (finishPages (readPages 0 total (now (c .entry))))) (now (out .entry)) (now (out .exit)) r ⌝ }

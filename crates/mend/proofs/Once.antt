@@ -1,4 +1,4 @@
--- Mend's enum says no more than 01's answer does. Assumes nothing.
+-- Mend's enum says no more than a number and a count. Assumes nothing.
 use mathlib.Core.Path.{_≡_}
 use Rattle.mend.specs.Mend.{told}
 use Rattle.mend.specs.declared.Mended.{Mended}

@@ -17,11 +17,12 @@ ghost use Rattle.mend.specs.Mend.{mendedPages, badPages, mending, told};
 pub enum Mended {
     // How many page blocks became absent.
     Done { count: u8 },
-    // 01's number of the refusal.
+    // The number of the refusal (R2.2).
     Refused { no: u8 },
 }
 
-// Makes the page block of index k absent where it is not well formed under the head. Answers 1 then, else 0.
+// Makes the page block of index k absent where it is not well formed under the head (R9.11).
+// Answers 1 then, else 0.
 fn page(c: &mut [u8], id: &[u8], k: u8) -> u8
     ensures { λ r. ⌜ (r ≡ choose (okAt (readHead (now (c .entry))) k (pageAt k (now (c .entry)))) 0 1) × (now (c .exit) ≡ choose (okAt (readHead (now (c .entry))) k (pageAt k (now (c .entry)))) (now (c .entry)) (withPage (blockSize + blockSize * k) (now (id .entry)) k absent (now (c .entry)))) ⌝ }
 {

@@ -1,4 +1,4 @@
--- What finish answers, said of the SET of pages: the mission's third demand, last sentence.
+-- What finish answers, said of the SET of pages: R1.6.
 use mathlib.Core.Path.{_≡_, refl, sym, ap, _∙_, subst}
 use mathlib.Core.Bool.{Bool, true, false, false≢true}
 use mathlib.Core.Logic.{_⊎_, inl, inr}

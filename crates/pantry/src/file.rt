@@ -1,12 +1,14 @@
-// The file in which the pantry keeps a collection between runs. A function that answers a u8 answers 0 or the number of a refusal: `pantry_work`'s
-// own, or 11 for a file that the system does not let us read or write.
+// The file in which the pantry keeps a collection between runs (R15.7). A function that answers a
+// u8 answers 0 or the number of a refusal: `pantry_work`'s own, or 11 for a file that the system
+// does not let us read or write.
 use collection::Answered;
 use scan::session::Session;
 
-// One byte more than a collection has, so that a longer file shows.
+// One byte more than a collection has, so that a longer file shows and is 13 (R15.7).
 const ENOUGH: usize = wire::COLLECTION_SIZE + 1;
 
-// What a new file's name has behind that of the file: the system puts letters for the X, so that no other file has the name.
+// What a new file's name has behind that of the file: the system puts letters for the X, so that no
+// other file has the name.
 const SUFFIX: usize = 7;
 
 const NAME_MOST: usize = libc::PATH_MAX + SUFFIX;
@@ -49,7 +51,8 @@ fn fill(fd: i32, c: &[u8]) -> bool {
     closed == 0
 }
 
-// A new file is written beside the old one and put in its place once it is whole, so that a crash leaves the one or the other.
+// A new file is written beside the old one and put in its place once it is whole, so that a crash
+// leaves the one or the other, and a refusal the old one (R15.7).
 fn replace(beside: &mut [u8], name: &[u8], c: &[u8]) -> u8 {
     let fd = os::create_temp(beside);
     if fd < 0 {
@@ -88,7 +91,8 @@ fn join(name: &[u8], s: Session, saved: &[u8], c: &mut [u8]) -> u8 {
     save(name, c)
 }
 
-// Joins the file's collection into c, and keeps what that gives there. No file is as an empty collection.
+// Joins the file's collection into c, and keeps what that gives there. No file is as an empty
+// collection.
 pub fn keep(name: &[u8], s: Session, c: &mut [u8]) -> u8 {
     let fd = os::open_read(name);
     if fd < 0 {

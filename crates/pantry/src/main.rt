@@ -1,6 +1,7 @@
-// The pantry: it reads the document id and then scans, a line each, from standard input, and writes the ciphertext once every page is
-// there; until then it prints where the collection stands. With the name of a file as its argument it keeps the collection there between
-// runs. The work is done by `scan` and `pantry_work`; here are only the reading and the writing.
+// The pantry: it reads the document id and then scans, a line each, from standard input, and writes
+// the ciphertext once every page is there; until then it prints where the collection stands
+// (R15.6). With the name of a file as its argument it keeps the collection there between runs
+// (R15.7). The work is done by `scan` and `pantry_work`; here are only the reading and the writing.
 mod file;
 
 use libc::STDIN_FILENO;
@@ -19,7 +20,7 @@ enum Turned {
     Failed,
 }
 
-// The session at the end of the input; none where the input could not be read to its end.
+// The session at the end of the input; none where the input could not be read to its end (R15.8).
 enum Taken {
     Whole { session: Session },
     Failed,
@@ -39,7 +40,8 @@ fn turn(s: Session, input: &mut [u8], line: &mut [u8], c: &mut [u8]) -> Turned {
     Turned::More { session }
 }
 
-// A proved loop has to end, and nothing says that the input does: it counts down from a number that no run uses up.
+// A proved loop has to end, and nothing says that the input does: it counts down from a number that
+// no run uses up.
 fn collect(input: &mut [u8], line: &mut [u8], c: &mut [u8]) -> Taken {
     let mut s = Session {
         phase: session::WAITING,
@@ -59,7 +61,8 @@ fn collect(input: &mut [u8], line: &mut [u8], c: &mut [u8]) -> Taken {
     Taken::Failed
 }
 
-// Reads all of the input, or says that it could not: of a part nothing is printed and nothing kept.
+// Reads all of the input, or says that it could not: of a part nothing is printed and nothing kept
+// (R15.8).
 fn scanned(c: &mut [u8]) -> Taken {
     let mut input = [0u8; CHUNK];
     let mut line = [0u8; session::LINE_BUFFER];
@@ -87,14 +90,15 @@ fn print(s: Session, c: &[u8]) {
     write(r, &out);
 }
 
+// The refusals of the command and of the file have no place, so it is 0 (R15.6).
 fn refuse(no: u8) {
     let mut out = [0u8; 64];
     let r = pantry_work::refused_line(no, 0, &mut out);
     write(r, &out);
 }
 
-// The file is written before anything is printed: a ciphertext that came out is kept. Where the first line was no document id, the
-// file is not looked at.
+// The file is written before anything is printed: a ciphertext that came out is kept (R15.7). Where
+// the first line was no document id, the file is not looked at.
 fn keep(name: &[u8], c: &mut [u8]) {
     let Taken::Whole { session: s } = scanned(c) else {
         return;
@@ -126,6 +130,7 @@ fn main() {
         refuse(wire::OUT_OF_RANGE);
         return;
     }
+    // Judged before the input is read (R15.7).
     if 2 < words {
         refuse(wire::OUT_OF_RANGE);
         return;

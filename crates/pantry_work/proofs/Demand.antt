@@ -1,4 +1,5 @@
--- What is printed and what is taken up, said of the SET of pages: the third demand (collection and finish, Demand) at the pantry. Assumes nothing.
+-- What is printed and what is taken up, said of the SET of pages: R1.4 to R1.6 (collection and
+-- finish, Demand) at the pantry. Assumes nothing.
 use mathlib.Core.Path.{_≡_, refl, ap, _∙_}
 use mathlib.Core.Bool.{true}
 use mathlib.Core.Logic.{_⊎_, inl, inr, _↔_}

@@ -54,7 +54,7 @@ pub fn refused_line(no: u8, place: u8, out: &mut [u8]) -> Wrote
     lend::give(&room[0..end], out)
 }
 
-// What is printed where finish refuses.
+// What is printed where finish refuses: for 14, 15 and 16 the status line (R15.6).
 fn lacking_line(no: u8, place: u8, c: &[u8], out: &mut [u8]) -> Wrote
     ensures { λ r. ⌜ Written 0 (done (shown (now (c .entry)) (refusedAt no place))) (now (out .entry)) (now (out .exit)) r ⌝ }
 {

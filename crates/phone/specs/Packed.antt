@@ -1,23 +1,25 @@
--- The one number that each function for the phone answers. include/stiltbasket.h reads it apart.
+-- The one number that each function for the phone answers: section 16 of docs/RULES.md.
+-- include/stiltbasket.h reads it apart.
 use Prim.Native.Nat.{ℕ, _+_, _*_, _/_, _%_, _^_}
 use lib.Dec.{eqb}
 use Rattle.wire.specs.Answer.{choose, Answer, done, refusedAt}
 
--- the lowest byte is 01's number; the one above it a place, or how the page of an offer stands; all above them a count
+-- the lowest byte is the number of the refusal, or 0; the one above it a place, or how the page of
+-- an offer stands; all above them a count (R16.2)
 abbrev pub packed : ℕ → ℕ → ℕ → ℕ
 packed number place count = number + 256 * place + 2 ^ 16 * count
 
--- open and join
+-- `stilt_open` and `stilt_join`, which are open and join (R16.1): the number alone (R16.2)
 abbrev pub packedAnswer : Answer Unit → ℕ
 packedAnswer (done u) = packed 0 0 0
 packedAnswer (refusedAt e place) = packed e place 0
 
--- offer: how the page stands takes the place of a place
+-- `stilt_offer`, which is offer (R16.1): how the page stands takes the place of a place (R16.2)
 abbrev pub packedKind : Answer ℕ → ℕ
 packedKind (done kind) = packed 0 kind 0
 packedKind (refusedAt e place) = packed e place 0
 
--- finish: the number of bytes written, or a place
+-- `stilt_finish`, which is finish (R16.1): the number of bytes written, or a place (R16.2)
 abbrev pub packedFinish : Answer ℕ → ℕ
 packedFinish (done n) = packed 0 0 n
 packedFinish (refusedAt e place) = packed e place 0

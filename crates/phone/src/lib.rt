@@ -13,7 +13,7 @@ use collection::Answered;
 use collection::Offered;
 use finish::Finished;
 
-// Bits 0 to 7, 8 to 15, and 16 to 63.
+// Bits 0 to 7, 8 to 15, and 16 to 63 (R16.2).
 fn pack(number: u8, place: u8, count: usize) -> u64
     requires { ⌜ count ≤ mostCiphertext ⌝ }
     ensures { λ r. ⌜ r ≡ packed number place count ⌝ }

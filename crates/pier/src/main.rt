@@ -1,5 +1,5 @@
-// The small program of document 01: it reads the document id and then scans, a line each, from standard input, and prints one
-// status line. The work is done by `scan`; here are only the reading and the writing.
+// `pier` reads the document id and then scans, a line each, from standard input, and prints one
+// status line (R15.1). The work is done by `scan`; here are only the reading and the writing.
 use libc::STDIN_FILENO;
 use libc::STDOUT_FILENO;
 use scan::session;
@@ -16,7 +16,7 @@ enum Turned {
     Failed,
 }
 
-// The session at the end of the input; none where the input could not be read to its end.
+// The session at the end of the input; none where the input could not be read to its end (R15.8).
 enum Taken {
     Whole { session: Session },
     Failed,
@@ -36,7 +36,8 @@ fn turn(s: Session, input: &mut [u8], line: &mut [u8], c: &mut [u8]) -> Turned {
     Turned::More { session }
 }
 
-// A proved loop has to end, and nothing says that the input does: it counts down from a number that no run uses up.
+// A proved loop has to end, and nothing says that the input does: it counts down from a number that
+// no run uses up.
 fn collect(input: &mut [u8], line: &mut [u8], c: &mut [u8]) -> Taken {
     let mut s = Session {
         phase: session::WAITING,
@@ -56,7 +57,7 @@ fn collect(input: &mut [u8], line: &mut [u8], c: &mut [u8]) -> Taken {
     Taken::Failed
 }
 
-// Reads all of the input, or says that it could not: of a part nothing is printed and nothing kept.
+// Reads all of the input, or says that it could not: of a part nothing is printed (R15.8).
 fn scanned(c: &mut [u8]) -> Taken {
     let mut input = [0u8; CHUNK];
     let mut line = [0u8; session::LINE_BUFFER];

@@ -1,14 +1,15 @@
-// Prints a document: standard input is the ciphertext, standard output what `pier` reads; or, asked with `typed`, the text to be
-// typed of all pages or of one. The work is done by `sheet`; here are only the words of the command, the reading and the writing.
+// Prints a document: standard input is the ciphertext, standard output what `pier` reads; or, asked
+// with `typed`, the text to be typed of all pages or of one (R15.4). The work is done by `sheet`;
+// here are only the words of the command, the reading and the writing.
 use libc::STDIN_FILENO;
 use libc::STDOUT_FILENO;
 use sheet::Asked;
 use wire::Wrote;
 
-// One byte more than can be printed: so many are enough to know that there are too many.
+// One byte more than can be printed: so many are enough to know that there are too many (R7.4).
 const INPUT: usize = 46_081;
 
-// What the command asks for.
+// What the command asks for (R15.4).
 enum Task {
     Scans,
     Typed,
@@ -16,6 +17,8 @@ enum Task {
     Unknown,
 }
 
+// A word that is not known, and a third one, ask for nothing that there is (R15.5). A word that the
+// buffer has no room for comes back empty, so a K of too many digits is none.
 fn task_of(words: usize, buffer: &mut [u8]) -> Task {
     if words < 2 {
         return Task::Scans;
@@ -60,6 +63,7 @@ fn take_all(input: &mut [u8]) -> Taken {
     Taken { good: true, len }
 }
 
+// An unknown task is 19, whatever the input is (R15.5).
 fn print(task: Task, c: &[u8], out: &mut [u8]) -> Wrote {
     match task {
         Task::Scans => sheet::scans(c, out),
@@ -78,7 +82,8 @@ fn refuse(no: u8, out: &mut [u8]) -> usize {
     }
 }
 
-// What was made, or the line of its refusal, stands in front of out. Answers how many bytes it has.
+// What was made, or the line of its refusal (R15.5), stands in front of out. Answers how many bytes
+// it has.
 fn answer(task: Task, c: &[u8], out: &mut [u8]) -> usize {
     match print(task, c, out) {
         Wrote::Done { len } => len,
@@ -91,7 +96,7 @@ fn main() {
     let task = task_of(os::arg_count(), &mut word);
     let mut input = [0u8; INPUT];
     let taken = take_all(&mut input);
-    // A document of which a part was not read is not printed.
+    // A document of which a part was not read is not printed (R15.8).
     if !taken.good {
         os::fail(b"standard input");
         return;

@@ -1,5 +1,5 @@
--- Every reader can be called on any bytes: there is an answer that its contract allows, whatever its definition gives. So what the second demand says of calls is not said
--- of none. Assumes nothing.
+-- Every reader can be called on any bytes: there is an answer that its contract allows, whatever
+-- its definition gives. So what R1.3 says of calls is not said of none. Assumes nothing.
 use Prim.Native.Nat.{ℕ, _+_, _-_}
 use mathlib.Core.Path.{_≡_, refl, sym, ap}
 use mathlib.Core.Bool.{Bool, true, false}

@@ -1,4 +1,4 @@
--- The second demand holds (specs/Demand2.antt). Assumes nothing.
+-- The second demand, R1.3, holds (specs/Demand2.antt). Assumes nothing.
 use Prim.Native.Nat.{ℕ, _≤_, _<_}
 use mathlib.Core.Path.{_≡_, refl, sym, ap, _∙_, subst}
 use mathlib.Core.Logic.{inl, inr}

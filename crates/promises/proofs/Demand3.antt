@@ -1,4 +1,5 @@
--- The third demand holds (specs/Demand3.antt), for every document id of 8 bytes, of the libraries' functions and of those for C. Assumes nothing.
+-- The third demand, R1.4 to R1.6, holds (specs/Demand3.antt), for every document id of 8 bytes, of
+-- the libraries' functions and of those for C. Assumes nothing.
 use mathlib.Core.Path.{_≡_, sym, ap, ap₂, _∙_, subst}
 use mathlib.Core.Logic.{_⊎_, inl, inr}
 use mathlib.Core.Bool.{true}

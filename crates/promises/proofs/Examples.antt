@@ -1,4 +1,4 @@
--- The table of 01's examples marked P holds: one statement. Assumes nothing.
+-- The table of R17.1 holds: one statement. Assumes nothing.
 use Prim.Native.Nat.{ℕ, _+_}
 use mathlib.Core.Path.{_≡_, refl, _∙_}
 use native.Mathlib.Omega.{arith}

@@ -1,5 +1,6 @@
--- What the second demand says of a format follows from its rules (what is written reads back, and what is read is written) and from what its reader's and its
--- writer's contracts say. Frames are such. Assumes nothing.
+-- What R1.3 says of a format follows from its rules (what is written reads back, and what is read
+-- is written) and from what its reader's and its writer's contracts say. Frames are such. Assumes
+-- nothing.
 use Prim.Native.Nat.{ℕ, _≤_}
 use mathlib.Core.Path.{_≡_, refl, sym, ap, _∙_}
 use mathlib.Core.List.{List, []}

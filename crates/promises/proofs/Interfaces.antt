@@ -1,4 +1,5 @@
--- What both interfaces to a collection keep to: the bytes that 01's definitions give, finish's answer, and that every call can be made. Assumes nothing.
+-- What both interfaces to a collection keep to: the bytes that the definitions give, finish's
+-- answer, and that every call can be made. Assumes nothing.
 use mathlib.Core.Path.{_≡_, refl, sym, ap, _∙_}
 use mathlib.Core.Bool.{true}
 use mathlib.Core.List.{List}

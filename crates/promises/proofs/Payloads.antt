@@ -1,5 +1,5 @@
--- The payloads of document 01 are read and written exactly: the theorems of their crates, and what their contracts say, in the words of specs/Formats.antt.
--- Assumes nothing.
+-- The payloads are read and written exactly: the theorems of their crates, and what their contracts
+-- say, in the words of specs/Formats.antt. Assumes nothing.
 use Prim.Native.Nat.{ℕ, _^_, _≤_, _<_}
 use mathlib.Core.Path.{_≡_, refl, sym, ap, _∙_, subst}
 use mathlib.Core.List.{List, []}

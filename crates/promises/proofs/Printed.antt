@@ -1,4 +1,5 @@
--- The first line that press prints, without its line feed, is read by the small program as exactly the document's id. Assumes nothing.
+-- The first line that press prints, without its line feed, is read by `pier` as exactly the
+-- document's id. Assumes nothing.
 use Prim.Native.Nat.{ℕ}
 use mathlib.Core.Path.{_≡_, _∙_}
 use mathlib.Core.List.{List}

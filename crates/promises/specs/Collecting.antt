@@ -1,5 +1,6 @@
--- The functions that collect, twice: those of the libraries, and those that the phone app calls from C. What a function did is said by a call of it whose
--- contract held (Calls.antt), so a statement over an `Interface` is one about the contracts in the sources, and serves both.
+-- The functions that collect, twice: those of the libraries, and those that the phone app calls
+-- from C (R16.1). What a function did is said by a call of it whose contract held (Calls.antt), so
+-- a statement over an `Interface` is one about the contracts in the sources, and serves both.
 use Prim.Native.Nat.{ℕ}
 use mathlib.Core.Path.{_≡_}
 use mathlib.Core.List.{List}
@@ -46,7 +47,7 @@ library = record {
       × (now (k .args .0) ≡ c) × (now (k .args .1 .0) ≡ out) × (k .left .1 .0 ≡ x) × (finishing.told (k .answer) ≡ a);
 }
 
--- from C the answer is one number, which the header reads apart
+-- from C the answer is one number, which the header reads apart (R16.2)
 abbrev pub phone : Interface
 phone = record {
   Opens = λ id c x.

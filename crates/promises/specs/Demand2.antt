@@ -1,5 +1,6 @@
--- The second demand: pages, both text forms, envelope, manifest, auth and shard payloads are read and written exactly as document 01 defines. What is written reads
--- back equal, and bytes that it does not allow are refused, each with the number and the place that a format's `read` gives (Formats.antt).
+-- The second demand, R1.3: pages, both text forms, envelope, manifest, auth and shard payloads.
+-- What is written reads back equal, and bytes that the rules do not allow are refused, each with
+-- the number and the place that a format's `read` gives (Formats.antt).
 use Prim.Native.Nat.{ℕ, _≤_, _<_}
 use mathlib.Core.Path.{_≡_}
 use mathlib.Core.List.{List}
@@ -25,7 +26,8 @@ ReadAs {Place = Place} f s v = (a : Answer Place) → f .Reads s a → (p : Plac
 
 -- ---- the pages of a document
 
--- page i of c was asked for, as a frame or as a text of it: out was lent, x was left, a was answered
+-- page i of c was asked for, as a frame or as a text of it: out was lent, x was left, a was
+-- answered
 abbrev pub Printing : Type 1
 Printing = List ℕ → ℕ → ℕ → List ℕ → List ℕ → Answer ℕ → Type 0
 
@@ -44,7 +46,7 @@ Scanned = PageCall page-write-base64.Reads.Learnt
 abbrev pub Typed : Printing
 Typed = PageCall page-write-zbase32.Reads.Learnt
 
--- which frame page i is
+-- which frame page i is (R7.3)
 abbrev pub pageOf : List ℕ → ℕ → ℕ → Frame
 pageOf c size i = record { kind = 0x44; id = documentId c; index = i; total = pageCount (length c) size; contents = pageData c size i }
 
@@ -54,7 +56,8 @@ ThroughText Text Reads c size =
     (i : ℕ) → i < pageCount (length c) size → (out x : List ℕ) (m : ℕ) (out' y : List ℕ) (n : ℕ) (a : Answer (List ℕ))
     → Framed c size i out x (done m) → Text c size i out' y (done n) → Reads (take n y) a → a ≡ done (take m x)
 
--- every page of a printed document is written where 500 bytes are lent, and reads back as that page, also through both text forms; and all pages in order are the document
+-- every page of a printed document is written where 500 bytes are lent, and reads back as that
+-- page, also through both text forms; and all pages in order are the document (R1.3)
 pub record Pages (c : List ℕ) (size : ℕ) : Type 0 where
   pub written : (i : ℕ) → i < pageCount (length c) size → (out x : List ℕ) (a : Answer ℕ) → 500 ≤ length out → Framed c size i out x a → (n : ℕ) × (a ≡ done n)
   pub each : (i : ℕ) → i < pageCount (length c) size → (out x : List ℕ) (n : ℕ) → Framed c size i out x (done n) → ReadAs frames (take n x) (pageOf c size i)
@@ -75,18 +78,20 @@ Keyed = PayloadCall payload-frame-key.Reads.Learnt
 abbrev pub Signed : (id contents out x : List ℕ) (a : Answer ℕ) → Type 0
 Signed = PayloadCall payload-frame-auth.Reads.Learnt
 
--- a frame that stands alone: the first of one
+-- a frame that stands alone: the first of one (R7.5)
 abbrev pub payloadSays : ℕ → List ℕ → List ℕ → Frame
 payloadSays kind id contents = record { kind = kind; id = id; index = 0; total = 1; contents = contents }
 
--- no payload that was written is too long for a key or auth frame: under an id of 8 bytes it is taken where 500 bytes are lent. And a key or auth frame that is written reads back, and carries
--- what the payload's reader accepts
+-- no payload that was written is too long for a key or auth frame (R11.9): under an id of 8 bytes
+-- it is taken where 500 bytes are lent. And a key or auth frame that is written reads back (R1.3),
+-- and carries what the payload's reader accepts (R7.5)
 pub record Carries {Place Value : Type 0} (f : Format Place Value) (kind : ℕ) (Writer : List ℕ → List ℕ → List ℕ → List ℕ → Answer ℕ → Type 0) : Type 0 where
   pub taken : (v : Value) (lent y : List ℕ) (m : ℕ) → f .Writes v lent y (done m)
       → (id out x : List ℕ) (a : Answer ℕ) → length id ≡ 8 → 500 ≤ length out → Writer id (take m y) out x a → (n : ℕ) × (a ≡ done n)
   pub back : (id contents out x : List ℕ) (n : ℕ) → Writer id contents out x (done n) → ReadAs frames (take n x) (payloadSays kind id contents)
   pub accepted : (id contents out x : List ℕ) (n : ℕ) → Writer id contents out x (done n) → (a : Answer Place) → f .Reads contents a → (p : Place) × (a ≡ done p)
 
+-- R1.3, for each format that it names
 pub record Demand2 : Type 0 where
   -- pages: any frame; those of a printed document; key and auth frames
   pub pages : Exact frames

@@ -1,10 +1,12 @@
--- The third demand: what a collection saves is fixed by the SET of good pages that were offered to it. Neither their order, nor repeats, nor bad scans, nor pages
--- of other documents can be seen in its bytes; a join is a union; and finish gives the ciphertext exactly when the set is complete, in one version, and
--- the document's own.
+-- The third demand, R1.4 to R1.6: what a collection saves is fixed by the SET of good pages that
+-- were offered to it. Neither their order, nor repeats, nor bad scans, nor pages of other documents
+-- can be seen in its bytes; a join is a union; and finish gives the ciphertext exactly when the set
+-- is complete, in one version, and the document's own.
 --
--- How a collection came to be is a `Built` (collection, Built): opened, any bytes offered, others joined, in any order; `In` is the set of good pages that
--- were offered in it. What a collection is for a SET of pages, without order or count, is `BookIs` (model, Meaning), its bytes are `encode` (book, Encode),
--- and when a set is complete is `Complete` (model, Complete).
+-- How a collection came to be is a `Built` (collection, Built): opened, any bytes offered, others
+-- joined, in any order; `In` is the set of good pages that were offered in it. What a collection is
+-- for a SET of pages, without order or count, is `BookIs` (model, Meaning), its bytes are `encode`
+-- (book, Encode), and when a set is complete is `Complete` (model, Complete).
 use mathlib.Core.Path.{_≡_}
 use mathlib.Core.List.{List, _++_}
 use Prim.Native.Nat.{ℕ, _≤_}
@@ -33,37 +35,42 @@ Left f id (joined g h) x = (c : List ℕ) × (o : List ℕ) × Left f id g c × 
 abbrev pub SamePages : List ℕ → Built → Built → Type 0
 SamePages id g h = ((p : Page) → In id g p → In id h p) × ((p : Page) → In id h p → In id g p)
 
+-- R1.4, R1.5 and R1.6, of the functions of an interface
 pub record Demand3 (f : Interface) (id : List ℕ) : Type 0 where
-  -- nothing below is said of calls that cannot be: each can be made, with any bytes, and so for every history
+  -- nothing below is said of calls that cannot be: each can be made, with any bytes (R1.1), and so
+  -- for every history
   pub happens : (h : Built) → (x : List ℕ) × Left f id h x
   pub finishes : (c out : List ℕ) → (x : List ℕ) × (a : Answer ℕ) × f .Finishes c out x a
-  -- the set says one collection, and the saved bytes are its bytes
+  -- the set says one collection, and the saved bytes are its bytes (R1.4)
   pub meant : (h : Built) → Lent h → (b : Book) × BookIs (In id h) b
   pub saved : (h : Built) (x : List ℕ) → Lent h → Left f id h x → (b : Book) → BookIs (In id h) b → x ≡ encode id b
-  -- order and repeats: only the set counts
+  -- order and repeats: only the set counts (R1.4)
   pub set : (g h : Built) (x y : List ℕ) → Lent g → Lent h → Left f id g x → Left f id h y → SamePages id g h → x ≡ y
-  -- a bad scan, or a page of another document, changes nothing
+  -- a bad scan, or a page of another document, changes nothing (R1.2, R1.4)
   pub strangers : (h : Built) (c raw x : List ℕ) (e : ℕ) → Lent h → Left f id h c → goodPage id raw ≡ refused e → f .Offers c raw x → x ≡ c
-  -- a join is a union: what offering all pages of both to one would have left
+  -- a join is a union: what offering all pages of both to one would have left (R1.5)
   pub unions : (e g h : Built) (x y : List ℕ) → Lent e → Lent g → Lent h → Left f id e x → Left f id (joined g h) y → SamePages id e (joined g h) → x ≡ y
-  -- in any order and any grouping, and any number of times
+  -- in any order and any grouping, and any number of times (R1.5)
   pub order : (g h : Built) (x y : List ℕ) → Lent g → Lent h → Left f id (joined g h) x → Left f id (joined h g) y → x ≡ y
   pub grouping : (e g h : Built) (x y : List ℕ) → Lent e → Lent g → Lent h → Left f id (joined (joined e g) h) x → Left f id (joined e (joined g h)) y → x ≡ y
   pub again : (h : Built) (x y : List ℕ) → Lent h → Left f id h x → Left f id (joined h h) y → x ≡ y
-  -- any list of scans, offered to a collection that was just opened, leaves the bytes that the set of its good pages says
+  -- any list of scans, offered to a collection that was just opened, leaves the bytes that the set
+  -- of its good pages says (R1.4)
   pub list : (c x : List ℕ) (raws : List (List ℕ)) → length c ≡ collectionSize → AllBytes raws → Left f id (offeredAll raws (opened c)) x
       → (b : Book) → BookIs (PageAmong id raws) b → x ≡ encode id b
-  -- and two collections of two lists, joined, have the bytes of one to which both lists were offered
+  -- and two collections of two lists, joined, have the bytes of one to which both lists were
+  -- offered (R1.5)
   pub lists : (c d e x y : List ℕ) (xs ys : List (List ℕ)) → length c ≡ collectionSize → length d ≡ collectionSize → length e ≡ collectionSize → AllBytes xs → AllBytes ys
       → Left f id (joined (offeredAll xs (opened c)) (offeredAll ys (opened d))) x → Left f id (offeredAll (xs ++ ys) (opened e)) y → x ≡ y
-  -- finish: the ciphertext exactly when the set is complete, in one version, and its document id is the one that was opened; each refusal exactly when its
-  -- condition holds; and with room enough never for want of room
+  -- finish: the ciphertext exactly when the set is complete, in one version, and its document id is
+  -- the one that was opened (R1.6); each refusal exactly when its condition holds; and with room
+  -- enough never for want of room
   pub finish : (h : Built) (c out x : List ℕ) (a : Answer ℕ) → Lent h → Left f id h c → f .Finishes c out x a → Answers (In id h) id out x a
 
 -- what is told of a collection, beside the four calls
 pub record Telling (id : List ℕ) : Type 0 where
-  -- the status line of what was offered: 64 bytes are room for any
+  -- the status line of what was offered (R9.12, R9.13): 64 bytes are room for any
   pub status : (h : Built) (c out x : List ℕ) (a : Answer ℕ) → Lent h → Left library id h c → 64 ≤ length out → Tells c out x a
       → (line : List ℕ) × LineIs (In id h) line × (a ≡ done (length line)) × (x ≡ over 0 line out)
-  -- a damaged file: outside the rest, since what mend makes absent may have been offered
+  -- a damaged file (R9.11): outside the rest, since what mend makes absent may have been offered
   pub mend : (c x : List ℕ) (a : Answer ℕ) → Mended c x a → Mends c x a

@@ -1,4 +1,4 @@
--- The examples of document 01 that are marked P, as one table: "Examples on each side".
+-- The examples that are proved, as one table: R17.1.
 use Prim.Native.Nat.{ℕ}
 use mathlib.Core.Path.{_≡_}
 use mathlib.Core.List.{List, [], _∷_}
@@ -32,7 +32,8 @@ abbrev pub All : List Example → Type 0
 All [] = Unit {0}
 All (x ∷ xs) = Holds x × All xs
 
--- P1 to P12. P11 and P12 hold of every frame that the rules allow, so of "frame 0 of 1" and of every page
+-- P1 to P12 (R17.1). P11 and P12 hold of every frame that the rules allow, so of "frame 0 of 1" and
+-- of every page
 abbrev pub table : List Example
 table =
     varintIs 0 (0x00 ∷ [])

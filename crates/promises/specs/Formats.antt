@@ -1,5 +1,7 @@
--- What the second demand says of one format, and the formats of document 01. A reader and a writer are said by calls of the public functions whose contracts held
--- (Calls.antt), so what is said of a format is said of the contracts in the sources. Of a call's parameters `.0` is the first, `.1 .0` the second, and so on.
+-- What R1.3 says of one format, and the formats. A reader and a writer are said by calls of the
+-- public functions whose contracts held (Calls.antt), so what is said of a format is said of the
+-- contracts in the sources. Of a call's parameters `.0` is the first, `.1 .0` the second, and so
+-- on.
 use Prim.Native.Nat.{ℕ, _≤_, _<_, _^_}
 use mathlib.Core.Path.{_≡_}
 use mathlib.Core.List.{List}
@@ -50,32 +52,36 @@ Slice s = Bytes s × (length s < 2 ^ 64)
 
 -- ---- a format
 
--- Place is what the reader answers with 0, places in its input and numbers; Value what they say, as bytes and numbers
+-- Place is what the reader answers with 0, places in its input and numbers; Value what they say, as
+-- bytes and numbers
 pub record Format (Place Value : Type 0) : Type 1 where
   pub says : List ℕ → Place → Value
   -- what counts of the input: all of it, except for what a text's reader skips
   pub counting : List ℕ → List ℕ
-  -- 01's answer for any bytes at all
+  -- the answer that the rules give for any bytes at all
   pub read : List ℕ → Answer Place
   -- Reads s a: a call of the reader on s answered a
   pub Reads : List ℕ → Answer Place → Type 0
   -- Writes v out x a: a call of the writer with the value v, lent out, answered a and left x
   pub Writes : Value → List ℕ → List ℕ → Answer ℕ → Type 0
 
+-- a format is read and written exactly (R1.3)
 pub record Exact {Place Value : Type 0} (f : Format Place Value) : Type 0 where
-  -- nothing below is said of calls that cannot be: the reader can be called on any bytes
+  -- nothing below is said of calls that cannot be: the reader can be called on any bytes (R1.1)
   pub happens : (s : List ℕ) → (a : Answer Place) × f .Reads s a
-  -- whatever is read, the reader's answer is the one that 01 defines: accepted with this value, or refused with this number and place
+  -- whatever is read, the reader's answer is the one that the rules give: accepted with this value,
+  -- or refused with this number and place (R1.2)
   pub reason : (s : List ℕ) (a : Answer Place) → f .Reads s a → a ≡ f .read s
-  -- what is written reads back equal
+  -- what is written reads back equal (R1.3)
   pub back : (v : Value) (out x : List ℕ) (n : ℕ) (a : Answer Place) → f .Writes v out x (done n) → f .Reads (take n x) a
       → (p : Place) × (a ≡ done p) × (f .says (take n x) p ≡ v)
   -- what is read is what the writer writes of the value read, into any output with room for it
+  -- (R1.3), and behind it the output stays (R1.2)
   pub only : (s : List ℕ) (p : Place) → Slice s → f .Reads s (done p) → (out : List ℕ) → length (f .counting s) ≤ length out
       → f .Writes (f .says s p) out (over 0 (f .counting s) out) (done (length (f .counting s)))
   -- one form for each value
   pub form : (v : Value) (out x : List ℕ) (m : ℕ) (out' y : List ℕ) (n : ℕ) → f .Writes v out x (done m) → f .Writes v out' y (done n) → take m x ≡ take n y
-  -- bytes that no value is written as are refused
+  -- bytes that no value is written as are refused (R1.3)
   pub refused : (s : List ℕ) (a : Answer Place) → Slice s
       → ((v : Value) (out x : List ℕ) (n : ℕ) → f .Writes v out x (done n) → take n x ≡ f .counting s → ⊥)
       → f .Reads s a → (n : ℕ) × (place : ℕ) × (a ≡ refusedAt n place)
@@ -114,7 +120,8 @@ frames = whole frameSays (λ s. valueOf (F.frameOf s))
 abbrev pub textSaid : Answer ℕ → List ℕ → Answer (List ℕ)
 textSaid a x = then a (λ n. done (take n x))
 
--- over the calls of a reader and a writer: (what was given) (what was lent) (what was left) (the answer). A reader is lent as many bytes as the text has
+-- over the calls of a reader and a writer: (what was given) (what was lent) (what was left) (the
+-- answer). A reader is lent as many bytes as the text has
 abbrev pub texts : Form → (Reader Writer : List ℕ → List ℕ → List ℕ → Answer ℕ → Type 0) → Format (List ℕ) (List ℕ)
 texts f Reader Writer = record {
   says = λ s bs. bs;

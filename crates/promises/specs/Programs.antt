@@ -1,6 +1,9 @@
--- The third demand for the two programs that collect, `pier` and `pantry`: by the calls that they make of `scan` and `pantry_work`, over their whole input, in whatever parts
--- it was read. What the input says is `documentOf` and `scansOf` (scan, Input): cut at line feeds, the first line the document id, each further line of at most 1,024 bytes a
--- base64 text, those that read the scans. The programs themselves read, print and keep files, which no contract can speak of: that is tested.
+-- R1.4 to R1.6 for the two programs that collect, `pier` and `pantry` (section 15 of
+-- docs/RULES.md): by the calls that they make of `scan` and `pantry_work`, over their whole input,
+-- in whatever parts it was read. What the input says is `documentOf` and `scansOf` (scan, Input):
+-- cut at line feeds, the first line the document id, each further line of at most 1,024 bytes a
+-- base64 text, those that read the scans. The programs themselves read, print and keep files, which
+-- no contract can speak of: that is tested.
 use mathlib.Core.Path.{_≡_}
 use mathlib.Core.Bool.{true, false}
 use mathlib.Core.List.{List, [], _∷_, _++_, flatten}
@@ -32,7 +35,8 @@ use Rattle.promises.specs.Calls.{Call}
 use Rattle.promises.specs.Collecting.{library}
 use Rattle.promises.specs.Demand3.{Left}
 
--- ---- the calls: where a session is (`At`: its phase, the line so far, the collection) before and after
+-- ---- the calls: where a session is (`At`: its phase, the line so far, the collection) before and
+-- after
 
 abbrev pub Feeds : List ℕ → At → At → Type 0
 Feeds part s t =
@@ -49,7 +53,8 @@ Closes s t =
     (k : Call scan-session-close.Kinds.ps scan-session-close.Kinds.r scan-session-close.Reads.Learnt)
     × (at (k .args .0) (now (k .args .1 .0)) (now (k .args .1 .1 .0)) ≡ s) × (at (k .answer) (now (k .args .1 .0)) (k .left .1 .1 .0) ≡ t)
 
--- a session from its first byte to the end of its input, in a line buffer and a buffer for the collection
+-- a session from its first byte to the end of its input, in a line buffer and a buffer for the
+-- collection
 abbrev pub Runs : (parts : List (List ℕ)) (line c : List ℕ) (t : At) → Type 0
 Runs parts line c t = (s : At) × FeedsAll parts (new line c) s × Closes s t
 
@@ -84,27 +89,31 @@ pub record Parts : Type 0 where
 
 -- a session t whose input names the document id and has the scans xs
 pub record Collects (id : List ℕ) (xs : List (List ℕ)) (t : At) : Type 0 where
-  -- it has collected the set of the good pages among its scans
+  -- it has collected the set of the good pages among its scans (R1.4)
   pub collecting : t .phase ≡ 1
   pub saved : (b : Book) → BookIs (PageAmong id xs) b → t .collection ≡ encode id b
-  -- pier's line says that set: 64 bytes are room for any
+  -- pier's line says that set (R15.1): 64 bytes are room for any
   pub pier : (out x : List ℕ) (a : Answer ℕ) → 64 ≤ length out → Reports (t .phase) (t .collection) out x a
       → (line : List ℕ) × LineIs (PageAmong id xs) line × Laid line out x a
-  -- the pantry without a file prints finish, or the status, of that set: so many bytes are room for any
+  -- the pantry without a file prints finish, or the status, of that set (R15.6): so many bytes are
+  -- room for any
   pub pantry : (out x : List ℕ) (a : Answer ℕ) → mostCiphertext ≤ length out → Shows (t .phase) (t .collection) out x a
       → (text : List ℕ) × Prints id (PageAmong id xs) text × Laid text out x a
-  -- with a file that holds what calls with the scans ys left: it keeps the collection of both, and prints that
+  -- with a file that holds what calls with the scans ys left: it keeps the collection of both, and
+  -- prints that (R1.5, R15.7)
   pub keeps : (ys : List (List ℕ)) (d saved y : List ℕ) (r : Answer Unit) → AllBytes ys → length d ≡ collectionSize → Left library id (offeredAll ys (opened d)) saved
       → Resumes (t .phase) (t .collection) saved y r → (r ≡ done tt) × ((b : Book) → BookIs (PageAmong id (xs ++ ys)) b → y ≡ encode id b)
   pub prints : (ys : List (List ℕ)) (d saved y : List ℕ) (r : Answer Unit) (out x : List ℕ) (a : Answer ℕ) → AllBytes ys → length d ≡ collectionSize
       → Left library id (offeredAll ys (opened d)) saved → Resumes (t .phase) (t .collection) saved y r → mostCiphertext ≤ length out → Shows (t .phase) y out x a
       → (text : List ℕ) × Prints id (PageAmong id (xs ++ ys)) text × Laid text out x a
-  -- a file that is no collection is refused with 13, one of another document with 12, and the session's collection stays
+  -- a file that is no collection is refused with 13, one of another document with 12, and the
+  -- session's collection stays (R15.7)
   pub damaged : (saved y : List ℕ) (r : Answer Unit) → okBook saved ≡ false → Resumes (t .phase) (t .collection) saved y r → (r ≡ refused 13) × (y ≡ t .collection)
   pub another : (saved y : List ℕ) (r : Answer Unit) → okBook saved ≡ true → (idOf saved ≡ id → ⊥) → Resumes (t .phase) (t .collection) saved y r
       → (r ≡ refused 12) × (y ≡ t .collection)
 
--- a session whose input names no document: c is as it was lent, both programs refuse with 19, and no file is taken up
+-- a session whose input names no document: c is as it was lent, both programs refuse with 19
+-- (R15.1, R15.6), and no file is taken up
 pub record Waits (c : List ℕ) (t : At) : Type 0 where
   pub unchanged : t .collection ≡ c
   pub pier : (out x : List ℕ) (a : Answer ℕ) → 64 ≤ length out → Reports (t .phase) (t .collection) out x a → Laid (refusedLine 19) out x a

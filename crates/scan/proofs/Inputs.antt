@@ -1,4 +1,5 @@
--- What a session does, said of its whole input: the small program's, and the pantry's up to what was saved. Assumes nothing.
+-- What a session does, said of its whole input: `pier`'s, and the pantry's up to what was saved.
+-- Assumes nothing.
 use mathlib.Core.Path.{_≡_, refl, sym, ap, _∙_}
 use mathlib.Core.Bool.{Bool, true, false}
 use mathlib.Core.Logic.{inl, inr}

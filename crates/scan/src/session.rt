@@ -1,4 +1,4 @@
-// A session of the small program, fed with the bytes of its input in parts of any length.
+// A session of `pier` or `pantry`, fed with the bytes of its input in parts of any length.
 ghost use mathlib.Core.Path.{_≡_};
 ghost use mathlib.Core.List.{[]};
 ghost use Rattle.wire.specs.Answer.{done};
@@ -12,17 +12,17 @@ pub const WAITING: u8 = 0;
 
 pub const COLLECTING: u8 = 1;
 
-// The first line was no document id:
+// The first line was no document id (R15.1):
 pub const REFUSED: u8 = 2;
 
-// A longer line is passed over.
+// A longer line is passed over (R15.2).
 const LINE_MOST: usize = 1024;
 
 // As many bytes as a session asks of the line buffer: one more than a line may have.
 pub const LINE_BUFFER: usize = LINE_MOST + 1;
 
-// Where a session is: its phase, and how many bytes of the line buffer are those of the line that has not ended. The line buffer and
-// the collection are lent beside it.
+// Where a session is: its phase, and how many bytes of the line buffer are those of the line that
+// has not ended. The line buffer and the collection are lent beside it.
 pub struct Session {
     pub phase: u8,
     pub len: usize,
@@ -55,7 +55,7 @@ fn line_of(s: Session, line: &[u8]) -> &[u8]
     &line[0..0]
 }
 
-// The first line opens the collection.
+// The first line opens the collection (R15.1).
 fn start(first: &[u8], s: Session, c: &mut [u8]) -> Session
     ensures { λ r. ⌜ at r [] (now (c .exit)) ≡ started (at s [] (now (c .entry))) (idVerdict (now (first .entry))) ⌝ }
 {
@@ -87,6 +87,7 @@ fn end_line(s: Session, line: &[u8], c: &mut [u8]) -> Session
     Session { phase, len: 0 }
 }
 
+// Of a line that is too long no more is counted than shows that it is (R15.2).
 fn push(b: u8, s: Session, line: &mut [u8]) -> Session
     ensures { λ r. ⌜ at r (now (line .exit)) [] ≡ longer (at s (now (line .entry)) []) b ⌝ }
 {
@@ -101,6 +102,7 @@ fn push(b: u8, s: Session, line: &mut [u8]) -> Session
     s
 }
 
+// A line feed ends the line and is no part of it (R15.3).
 fn byte(b: u8, s: Session, line: &mut [u8], c: &mut [u8]) -> Session
     ensures { λ r. ⌜ at r (now (line .exit)) (now (c .exit)) ≡ next (at s (now (line .entry)) (now (c .entry))) b ⌝ }
 {

@@ -1,4 +1,5 @@
--- What the parts of the code answer, for the contracts of private functions: nothing here is promised to a caller.
+-- What the parts of the code answer, for the contracts of private functions: nothing here is
+-- promised to a caller.
 use Prim.Native.Nat.{ℕ, _+_, _≤_, _<_}
 use mathlib.Core.Path.{_≡_}
 use mathlib.Core.List.{List, _++_}

@@ -1,4 +1,5 @@
--- A document as it is printed: document 01, "Frames", the paragraph "Printing". Every page but the last is as long as a page may be.
+-- A document as it is printed: section 15 of docs/RULES.md. Every page but the last is as long as a
+-- page may be.
 use Prim.Native.Nat.{ℕ}
 use mathlib.Core.List.{List, _++_}
 use lib.Dec.{ltb}
@@ -12,15 +13,15 @@ use Rattle.text.specs.Text.{Form, base64, zbase32, textOf}
 use Rattle.document_id.specs.Id.{documentId}
 use Rattle.page.specs.Page.{pageCount, pageFrame, countOf, joined}
 
--- the line that names the document, as the small program reads it
+-- the line that names the document, as `pier` reads it (R15.1, R15.4)
 unfoldable pub idLine : List ℕ → List ℕ
 idLine c = hexOf (documentId c) ++ lineFeed
 
--- page k through a text form, on one line without spaces
+-- page k through a text form (R7.3), on one line without spaces (R5.4)
 unfoldable pub textLine : Form → List ℕ → ℕ → List ℕ
 textLine f c k = textOf f (pageFrame c mostData k) ++ lineFeed
 
--- a page as the small program reads it
+-- a page as `pier` reads it: base64 (R15.4)
 unfoldable pub scanLine : List ℕ → ℕ → List ℕ
 scanLine c k = textLine base64 c k
 
@@ -31,22 +32,23 @@ pageWord = ascii "page "
 abbrev pub ofWord : List ℕ
 ofWord = ascii " of "
 
--- `page K of N`: the first page is page 0
+-- `page K of N`: the first page is page 0 (R15.4)
 unfoldable pub placeLine : ℕ → ℕ → List ℕ
 placeLine k n = pageWord ++ decimal k ++ ofWord ++ decimal n ++ lineFeed
 
--- the place, and the text to be typed
+-- the place, and the text to be typed, z-base-32 (R15.4)
 unfoldable pub typedLines : List ℕ → ℕ → List ℕ
 typedLines c k = placeLine k (pageCount (length c) mostData) ++ textLine zbase32 c k
 
--- what is printed: the id and every page's line in order
+-- what is printed: the id and every page's line in order (R15.4)
 unfoldable pub scanSheet : List ℕ → List ℕ
 scanSheet c = idLine c ++ joined (pageCount (length c) mostData) (scanLine c)
 
+-- with `typed`: the id and two lines for every page (R15.4)
 unfoldable pub typedSheet : List ℕ → List ℕ
 typedSheet c = idLine c ++ joined (pageCount (length c) mostData) (typedLines c)
 
--- a sheet, where its pages can be counted: 19 for no ciphertext, 9 for too much of it
+-- a sheet, where its pages can be counted: 19 for no ciphertext, 9 for too much of it (R7.4, R15.5)
 abbrev pub printed : List ℕ → Answer ℕ → Answer (List ℕ)
 printed sheet counted = then counted (λ _. done sheet)
 
@@ -56,7 +58,7 @@ scanVerdict c = printed (scanSheet c) (countOf (length c) mostData)
 unfoldable pub typedVerdict : List ℕ → Answer (List ℕ)
 typedVerdict c = printed (typedSheet c) (countOf (length c) mostData)
 
--- of one page, which has to be one of the document's: else 8
+-- of one page, which has to be one of the document's: else 8 (R7.4, R15.5)
 unfoldable pub placeVerdict : List ℕ → ℕ → Answer (List ℕ)
 placeVerdict c k =
     then (countOf (length c) mostData) (λ n.

@@ -36,13 +36,13 @@ pub const ROOM: usize = ID_LINE + wire::MOST_PAGES * PAGE_ROOM;
 
 // What is printed of a page.
 enum Form {
-    // The text of its code square, base64.
+    // The text of its code square, base64 (R15.4).
     Square,
-    // The text that is typed below the square: its place, and z-base-32.
+    // The text that is typed below the square: its place, and z-base-32 (R15.4).
     Below,
 }
 
-// The number of a page, as a word says it.
+// The number of a page, as a word says it (R15.5).
 pub enum Asked {
     // It is the most pages where the word says more: no document has such a page.
     Page { k: usize },
@@ -61,7 +61,7 @@ fn id_line(c: &[u8], out: &mut [u8])
     lend::put(out, ID_LINE - 1, b'\n');
 }
 
-// Answers the index behind the line, as all functions with an index do here.
+// `page K of N` (R15.4). Answers the index behind the line, as all functions with an index do here.
 fn place(out: &mut [u8], at: usize, k: u8, n: u8) -> usize
     requires { ⌜ (k < 100) × (n < 100) × (at + 14 ≤ length (now out)) ⌝ }
     ensures { λ r. ⌜ Laid at 14 (placeLine k n) (now (out .entry)) (now (out .exit)) r ⌝ }
@@ -156,6 +156,7 @@ fn sheet(form: Form, c: &[u8], out: &mut [u8]) -> Wrote
     }
 }
 
+// The lines of page k; 8 where the document has no such page (R7.4).
 fn one(c: &[u8], k: usize, n: usize, out: &mut [u8]) -> Wrote
     requires { ⌜ done n ≡ countOf (length (now c)) mostData ⌝ }
     ensures { λ r. ⌜ Written 0 (demand (ltb k n) 8 (done (typedLines (now (c .entry)) k))) (now (out .entry)) (now (out .exit)) r ⌝ }

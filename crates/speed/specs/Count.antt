@@ -1,4 +1,5 @@
--- The one number that the text functions answer to C: the bytes that stand in the output afterwards.
+-- The one number that the text functions answer to C: the bytes that stand in the output
+-- afterwards.
 use Prim.Native.Nat.{ℕ}
 use Rattle.wire.specs.Answer.{Answer, done, refusedAt}
 

@@ -1,4 +1,5 @@
--- How long a status line can be, and 01's example of one. What it tells of a set of pages is in Sets.antt. Assumes nothing.
+-- How long a status line can be, and the example of R9.12. What it tells of a set of pages is in
+-- Sets.antt. Assumes nothing.
 use mathlib.Core.Path.{_≡_, refl}
 use mathlib.Core.Bool.{Bool, true, false}
 use mathlib.Core.List.{List, [], _∷_, _++_}
@@ -55,7 +56,7 @@ status-most c = go (bookIn c)
     go (done b) = book-most b
     go (refusedAt e place) = refused-most e
 
--- For the reader: 01's own line: total 3 with page 1 lacking
+-- For the reader: the line of R9.12: total 3 with page 1 lacking
 pub status-example : (a b : List ℕ) → pagesLine 3 (held a ∷ absent ∷ held b ∷ [])
     ≡ ascii "pages 3 held 2 missing 1 disputed 0 first 1" ++ lineFeed
 unfolding pagesLine field decimal firstField count lowest isAbsent isHeld isDisputed

@@ -1,5 +1,4 @@
--- The status line: document 01, "The collection". Three pages, of which page 1 is missing, are `pages 3 held 2 missing 1 disputed 0 first 1`;
--- a dash stands for the page where none is missing. A collection without a total has a word or two in its place.
+-- The status line: section 9 of docs/RULES.md.
 use Prim.Native.Nat.{ℕ}
 use mathlib.Core.List.{List, _++_}
 use lib.Dec.{ltb}
@@ -15,7 +14,7 @@ use Rattle.book.specs.Read.{bookIn}
 unfoldable pub field : List ℕ → ℕ → List ℕ
 field name n = name ++ decimal n
 
--- the names, with their spaces
+-- the names, with their spaces (R9.12)
 abbrev pub pagesName : List ℕ
 pagesName = ascii "pages "
 
@@ -34,32 +33,34 @@ firstName = ascii " first "
 abbrev pub noFirst : List ℕ
 noFirst = ascii " first -"
 
--- the lines that have no number
+-- the lines that have no number (R9.13)
 abbrev pub emptyLine : List ℕ
 emptyLine = ascii "empty" ++ lineFeed
 
 abbrev pub disagreeLine : List ℕ
 disagreeLine = ascii "totals disagree" ++ lineFeed
 
--- the lowest index below the total that is missing; `-` where that is none
+-- the lowest index below the total that is missing; `-` where that is none (R9.12)
 unfoldable pub firstField : ℕ → ℕ → List ℕ
 firstField k t = choose (ltb k t) (field firstName k) noFirst
 
--- of the pages below the total, with the total in front
+-- the total, how many pages below it are in each state, and the first that is missing (R9.12)
 unfoldable pub pagesLine : ℕ → List Slot → List ℕ
 pagesLine t ss =
     field pagesName t ++ field heldName (count isHeld ss) ++ field missingName (count isAbsent ss) ++ field disputedName (count isDisputed ss)
     ++ firstField (lowest isAbsent ss) t ++ lineFeed
 
+-- a collection without a total has a word or two in place of numbers (R9.13)
 unfoldable pub bookLine : Book → List ℕ
 bookLine empty = emptyLine
 bookLine (collecting t ss) = pagesLine t (take t ss)
 bookLine disagree = disagreeLine
 
--- of what a file says, or of its refusal
+-- of what a file says, or of its refusal (R9.13)
 abbrev pub lineOf : Answer Book → List ℕ
 lineOf (done b) = bookLine b
 lineOf (refusedAt e place) = refusedLine e
 
+-- of any bytes at all (R9.12, R9.13)
 unfoldable pub statusLine : List ℕ → List ℕ
 statusLine c = lineOf (bookIn c)

@@ -24,7 +24,7 @@ fn named(out: &mut [u8], at: usize, name: &[u8], n: u8) -> usize
     number + digits::decimal(out, number, n)
 }
 
-// The lowest missing page, from index at on. Answers the index behind it.
+// The lowest missing page, or a dash (R9.12), from index at on. Answers the index behind it.
 fn first(out: &mut [u8], at: usize, lowest: u8, total: u8) -> usize
     requires { ⌜ at + 10 ≤ length (now out) ⌝ }
     ensures { λ r. ⌜ (r ≡ at + length (firstField lowest total)) × (r ≤ at + 10) × (now (out .exit) ≡ over at (firstField lowest total) (now (out .entry))) ⌝ }
@@ -36,7 +36,7 @@ fn first(out: &mut [u8], at: usize, lowest: u8, total: u8) -> usize
     at + 8
 }
 
-// The line of a collection that has pages.
+// The line of a collection that has pages (R9.12).
 fn pages_line(c: &[u8], total: u8, out: &mut [u8]) -> Wrote
     ensures { λ r. ⌜ Written 0 (done (pagesLine total (readPages 0 total (now (c .entry))))) (now (out .entry)) (now (out .exit)) r ⌝ }
 {
