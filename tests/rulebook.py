@@ -1,4 +1,5 @@
-"""The numbered rules of docs/RULES.md and docs/DESK.md, and the places in the tree that cite them."""
+"""The numbered rules of docs/RULES.md and docs/DESK.md, and the places in the tree that cite
+them."""
 import os
 import re
 from collections import namedtuple
@@ -13,18 +14,20 @@ NUMBER = re.compile(r"\b[RD]\d+\.\d+\b")
 # what opens a definition, by the kind of file; its first group is the name
 OPENS = {
     ".antt": re.compile(r"(?:(?:pub|abbrev|unfoldable|record|data) )*(\S+)(?= :| \(| \{|$)"),
-    ".rt": re.compile(r'\s*(?:pub(?:\(super\))? )?(?:extern "C" )?(?:fn|const|enum|struct) (\w+)'),
+    ".rt": re.compile(r'\s*(?:pub(?:\((?:super|crate)\))? )?(?:extern "C" )?(?:fn|const|enum|struct) (\w+)'),
     ".py": re.compile(r"\s*(?:def|class) (\w+)"),
 }
 COMMENT = {".antt": "--", ".rt": "//", ".py": "#"}
 # stored runs and the like: bytes that no rule is cited in
 STORED = ".in", ".out", ".args", ".before", ".after", ".csv", ".pyc"
-# a rule is cited by the file at path, there by what is called name (or by the file as a whole, where that is None)
+# a rule is cited by the file at path, there by what is called name (or by the file as a whole,
+# where that is None)
 Citation = namedtuple("Citation", "rule path name")
 
 
 def rules():
-    """Each rule: its number, the anchor before it, the paper that has it, and its first sentence."""
+    """Each rule: its number, the anchor before it, the paper that has it, and its first
+    sentence."""
     for paper in PAPERS:
         text = open(os.path.join(ROOT, "docs", paper), encoding="utf-8").read()
         for found in RULE.finditer(text):
@@ -51,7 +54,8 @@ def kind(path, lines):
 
 
 def owner(lines, number, how):
-    """What the comment at a line speaks of: the definition that begins below it, or else the one around it."""
+    """What the comment at a line speaks of: the definition that begins below it, or else the one
+    around it."""
     opens, mark = OPENS.get(how), COMMENT.get(how)
     if not opens:
         return None
@@ -69,7 +73,8 @@ def owner(lines, number, how):
 
 
 def citations():
-    """Each place that cites a rule, but for the papers themselves and what is made from the others."""
+    """Each place that cites a rule, but for the papers themselves and what is made from the
+    others."""
     for path, lines in prose():
         if path == MADE or os.path.basename(path) in PAPERS:
             continue

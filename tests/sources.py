@@ -10,7 +10,7 @@ OWN_MODULE = re.compile(r"^\s*(?:pub )?mod (\w+)", re.MULTILINE)
 KIT = ("io", "libc", "os")
 PUBLIC = re.compile(r'^\s*pub (?:extern "C" )?fn (\w+)')
 METHODS = re.compile(r"^impl (\w+) \{")
-ANY = re.compile(r'^\s*(?:pub(?:\(super\))? )?(?:extern "C" )?fn (\w+)')
+ANY = re.compile(r'^\s*(?:pub(?:\((?:super|crate)\))? )?(?:extern "C" )?fn (\w+)')
 CALL = re.compile(r"((?:\w+::)*\w+)\(")
 NAMED = re.compile(r"`(\S+?)`")
 

@@ -1,4 +1,5 @@
-"""Prose as lines, and where it stands in a file: all of a page of Markdown, the comments of a source.
+"""Prose as lines, and where it stands in a file: all of a page of Markdown, the comments of a
+source.
 
 A Block is a run of lines that is wrapped by itself. Its first line begins with `first`, and each
 other one with `lead`: what stands behind that is its text. A `box` is a C comment of one line.

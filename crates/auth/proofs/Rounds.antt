@@ -1,4 +1,5 @@
--- What is written reads back, and what is read was written: one payload for each claim. Assumes nothing.
+-- What is written reads back, and what is read was written: one payload for each claim.
+-- Assumes nothing.
 use Prim.Native.Nat.{ℕ, _<_}
 use mathlib.Core.Path.{_≡_, refl, sym, ap, _∙_, subst}
 use mathlib.Core.List.{List, [], _∷_, _++_}

@@ -1,4 +1,5 @@
--- What the two writers do, over plain lists: each judgement, and the run of writes. Assumes nothing.
+-- What the two writers do, over plain lists: each judgement, and the run of writes.
+-- Assumes nothing.
 use Prim.Native.Nat.{ℕ, _+_, _≤_, _<_}
 use mathlib.Core.Path.{_≡_, sym}
 use mathlib.Core.List.{List, [], _∷_}

@@ -1,4 +1,5 @@
--- Words of w bits as FIPS 180-4 (section 3.2) and RFC 7693 (section 2.3) write them, over the width.
+-- Words of w bits as FIPS 180-4 (section 3.2) and RFC 7693 (section 2.3) write them, over the
+-- width.
 use Prim.Native.Nat.{ℕ, _+_, _-_, _*_, _/_, _%_, _^_}
 use lib.Bits.{bitOr}
 

@@ -1,4 +1,5 @@
--- One more step on the work vector, where the vector before it is known; and the vector that F begins with. Assumes nothing.
+-- One more step on the work vector, where the vector before it is known; and the vector that F
+-- begins with. Assumes nothing.
 use mathlib.Core.Bool.{true, false}
 use mathlib.Core.List.{List, _++_}
 use mathlib.Core.Path.{_≡_, sym, ap, _∙_}

@@ -1,5 +1,5 @@
--- Words are read from the part of a message that they stand in, so the padded message's blocks are the message's own but for
--- the last. Assumes nothing.
+-- Words are read from the part of a message that they stand in, so the padded message's blocks are
+-- the message's own but for the last. Assumes nothing.
 use mathlib.Core.Path.{_≡_, refl, sym, ap, _∙_}
 use mathlib.Core.Bool.{true}
 use mathlib.Core.List.{List, _++_, reverse}

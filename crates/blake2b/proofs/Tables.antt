@@ -1,4 +1,5 @@
--- The rule of each of the two tables, by a test that antt computes over the whole table. Assumes nothing.
+-- The rule of each of the two tables, by a test that antt computes over the whole table.
+-- Assumes nothing.
 use mathlib.Core.Path.{_≡_}
 use mathlib.Core.Bool.{Bool}
 use mathlib.Core.List.{List, [], _∷_}
@@ -34,7 +35,8 @@ place : ℕ → List ℕ → ℕ
 place x [] = 0
 place x (y ∷ ys) = choose (eqb y x) 0 (suc (place x ys))
 
--- For the reader: each number below 16 stands somewhere in each row: with `sigma-small`, a row is a permutation of 0 to 15,
+-- For the reader: each number below 16 stands somewhere in each row: with `sigma-small`, a row is a
+-- permutation of 0 to 15,
 pub sigma-has : (r x : ℕ) → r < 12 → x < 16 → (i : ℕ) × (i < 16) × (getD (row r) i 0 ≡ x)
 unfolding sigma place
 sigma-has r x h l = (

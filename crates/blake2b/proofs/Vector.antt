@@ -1,5 +1,5 @@
--- Laws of `vector`: an array that a loop fills from the front, two vectors that agree, and a list as the vector of its elements.
--- Assumes nothing.
+-- Laws of `vector`: an array that a loop fills from the front, two vectors that agree, and a list
+-- as the vector of its elements. Assumes nothing.
 use mathlib.Core.Path.{_≡_, refl, sym, ap, _∙_}
 use mathlib.Core.List.{List, [], _∷_, _++_}
 use Prim.Native.Nat.{ℕ, zero, suc, _+_, _≤_, _<_}

@@ -1,4 +1,5 @@
--- A page block is read back as it was written, so the well-formed blocks are those of slots. Assumes nothing.
+-- A page block is read back as it was written, so the well-formed blocks are those of slots.
+-- Assumes nothing.
 use mathlib.Core.Path.{_≡_, refl, sym, ap, _∙_}
 use mathlib.Core.Bool.{true}
 use mathlib.Core.List.{List, [], _∷_, _++_, append-assoc}

@@ -1,4 +1,5 @@
--- What a state and a comparison say of a slot: for those who read a block and then go by cases. Assumes nothing.
+-- What a state and a comparison say of a slot: for those who read a block and then go by cases.
+-- Assumes nothing.
 use mathlib.Core.Path.{_≡_, refl, ap}
 use mathlib.Core.Bool.{true, false}
 use mathlib.Core.List.{List}

@@ -1,4 +1,5 @@
--- Pages by the number of their state, and by what the number means; the pages below a total. Assumes nothing.
+-- Pages by the number of their state, and by what the number means; the pages below a total.
+-- Assumes nothing.
 use mathlib.Core.Path.{_≡_, refl}
 use mathlib.Core.Bool.{Bool}
 use mathlib.Core.List.{List, [], _∷_}

@@ -1,4 +1,5 @@
--- What the writers leave of a collection's bytes: a slot set, a head changed, all pages gone. Assumes nothing.
+-- What the writers leave of a collection's bytes: a slot set, a head changed, all pages gone.
+-- Assumes nothing.
 use mathlib.Core.Path.{_≡_, refl, sym, ap, _∙_}
 use mathlib.Core.Bool.{true}
 use mathlib.Core.List.{List, _++_}

@@ -1,4 +1,5 @@
--- The head block: its length, the writes that make it, and the tests that judge it. Assumes nothing.
+-- The head block: its length, the writes that make it, and the tests that judge it.
+-- Assumes nothing.
 use mathlib.Core.Path.{_≡_, refl, sym, ap, _∙_}
 use mathlib.Core.Bool.{Bool, true, false, _&&_}
 use mathlib.Core.List.{List, [], _∷_, _++_}

@@ -1,4 +1,5 @@
--- Whether a collection is well formed: one page block, the loop over all, and what the judge answers. Assumes nothing.
+-- Whether a collection is well formed: one page block, the loop over all, and what the judge
+-- answers. Assumes nothing.
 use mathlib.Core.Path.{_≡_, refl, sym, _∙_}
 use mathlib.Core.Bool.{Bool, true, false, _&&_, false≢true}
 use mathlib.Core.List.{List}

@@ -1,5 +1,5 @@
--- The blocks of any 49,664 bytes: what a write into one of them leaves of the others, and that the blocks are all there is.
--- Assumes nothing.
+-- The blocks of any 49,664 bytes: what a write into one of them leaves of the others, and that the
+-- blocks are all there is. Assumes nothing.
 use mathlib.Core.Path.{_≡_, refl, sym, ap, ap₂, _∙_}
 use mathlib.Core.Logic.{⊎-elim}
 use mathlib.Core.List.{List, _++_}

@@ -1,4 +1,5 @@
--- The bytes of a valid collection are well formed and say that collection, so there is one for each. Assumes nothing.
+-- The bytes of a valid collection are well formed and say that collection, so there is one for
+-- each. Assumes nothing.
 use mathlib.Core.Path.{_≡_, refl, sym, ap, ap₂, _∙_}
 use mathlib.Core.Bool.{true}
 use mathlib.Core.Logic.{⊎-elim}

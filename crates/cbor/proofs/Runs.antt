@@ -1,4 +1,5 @@
--- Items written one after the other: one law for each write, and none of them asks for arithmetic. Assumes nothing.
+-- Items written one after the other: one law for each write, and none of them asks for arithmetic.
+-- Assumes nothing.
 use Prim.Native.Nat.{ℕ, _+_, _-_, _≤_, _<_}
 use mathlib.Core.Path.{_≡_, refl, sym, ap, _∙_}
 use mathlib.Core.Logic.{⊎-elim}
@@ -28,7 +29,8 @@ module _ (at : ℕ) (form out : List ℕ) where
   unfolding past
   past-out h = rw (lt-leb (at + length form) (length out) h)
 
-  -- the form is no longer than what is left from at on: past the end that is an empty form, of which nothing is seen
+  -- the form is no longer than what is left from at on: past the end that is an empty form, of
+  -- which nothing is seen
   pub put-done : (out' : List ℕ) (next : ℕ) → length form ≤ length out - at → out' ≡ over at form out → next ≡ at + length form → Put at form out out' next
   put-done out' next h o e =
       ⊎-elim (λ (l : length out < at + length form). record { answer = omega (arith, past-out l); output = o })

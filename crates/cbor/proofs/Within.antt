@@ -1,4 +1,5 @@
--- Bytes are there or the input ends before; and what was read lies within the input and within its range. Assumes nothing.
+-- Bytes are there or the input ends before; and what was read lies within the input and within its
+-- range. Assumes nothing.
 use Prim.Native.Nat.{ℕ, _+_, _-_, _<_, _≤_}
 use mathlib.Core.Path.{_≡_, refl, sym, ap, _∙_}
 use mathlib.Core.Bool.{Bool, true, false}

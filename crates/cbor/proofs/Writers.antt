@@ -1,4 +1,5 @@
--- What each writer does, over plain lists and numbers: r is the room from at on, as it was computed. Assumes nothing.
+-- What each writer does, over plain lists and numbers: r is the room from at on, as it was
+-- computed. Assumes nothing.
 use Prim.Native.Nat.{ℕ, _+_, _-_, _*_, _^_, _≤_, _<_}
 use mathlib.Core.Path.{_≡_, refl, ap, _∙_}
 use mathlib.Core.List.{List, [], _∷_, _++_}

@@ -1,4 +1,5 @@
--- One block of a collection: what it becomes by an offer or a join, and when it stays. Assumes nothing.
+-- One block of a collection: what it becomes by an offer or a join, and when it stays.
+-- Assumes nothing.
 use mathlib.Core.Path.{_≡_, refl, sym, ap, _∙_}
 use mathlib.Core.Bool.{Bool, true, false}
 use mathlib.Core.Logic.{⊎-elim}

@@ -40,7 +40,8 @@ module _ (id : List ℕ) (eight : length id ≡ 8) where
 
   -- ---- theorem 2: only the set counts
 
-  -- two histories with the same set of good pages leave the same bytes: any order, any grouping into joins, any repeats
+  -- two histories with the same set of good pages leave the same bytes: any order, any grouping
+  -- into joins, any repeats
   pub saved-set : (g h : Built) → Lent g → Lent h → ((p : Page) → In id g p → In id h p) → ((p : Page) → In id h p → In id g p) → bytesOf id g ≡ bytesOf id h
   saved-set g h k l f r =
       saved g k (H.run (history id h)) (book-iff (In id h) (In id g) r f (H.run (history id h)) (run-means id eight h l)) ∙ sym (bytes-run id eight h l)
@@ -126,7 +127,8 @@ module _ (id : List ℕ) (eight : length id ≡ 8) where
       let m = meant id eight h (lent-list raws (opened c) y size) in
       (m .0, book-iff (In id h) (PageAmong id raws) (λ p a. ⊎-elim (λ n. absurd n) (λ s. s) (to-list id raws (opened c) p a)) (from-list id raws (opened c)) (m .0) (m .1))
 
-  -- For the reader: two lists with the same good pages, in any order and number, leave the same bytes
+  -- For the reader: two lists with the same good pages, in any order and number, leave the same
+  -- bytes
   pub list-set : (c d : List ℕ) (xs ys : List (List ℕ)) → length c ≡ 49664 → length d ≡ 49664 → AllBytes xs → AllBytes ys
       → ((p : Page) → PageAmong id xs p → PageAmong id ys p) → ((p : Page) → PageAmong id ys p → PageAmong id xs p)
       → bytesOf id (offeredAll xs (opened c)) ≡ bytesOf id (offeredAll ys (opened d))

@@ -1,4 +1,5 @@
--- A call leaves what is well formed well formed, and of its document: also where the collection did not come from open. Assumes nothing.
+-- A call leaves what is well formed well formed, and of its document: also where the collection did
+-- not come from open. Assumes nothing.
 use mathlib.Core.Path.{_≡_, refl, sym, ap, _∙_}
 use mathlib.Core.Bool.{Bool, true, false}
 use mathlib.Core.List.{List}

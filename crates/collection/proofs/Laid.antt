@@ -1,5 +1,5 @@
--- A buffer laid out as a collection, a head block and the blocks of 96 slots: what stands there, and what a write of one block leaves.
--- Assumes nothing.
+-- A buffer laid out as a collection, a head block and the blocks of 96 slots: what stands there,
+-- and what a write of one block leaves. Assumes nothing.
 use mathlib.Core.Path.{_≡_, refl, sym, ap, ap₂, _∙_}
 use mathlib.Core.List.{List, _++_}
 use Prim.Native.Nat.{ℕ, _+_, _*_, _<_}

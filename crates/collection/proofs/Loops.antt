@@ -1,4 +1,5 @@
--- The two loops over the page blocks: every page made absent, and every page joined. Assumes nothing.
+-- The two loops over the page blocks: every page made absent, and every page joined.
+-- Assumes nothing.
 use mathlib.Core.Path.{_≡_, refl, sym, ap, ap₂, _∙_, subst}
 use mathlib.Core.List.{List, [], _∷_}
 use Prim.Native.Nat.{ℕ, zero, suc, _+_, _*_, _≤_, _<_}

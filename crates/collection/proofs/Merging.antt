@@ -1,4 +1,5 @@
--- One collection joined into another, both well formed and of one document, for each way through the code. Assumes nothing.
+-- One collection joined into another, both well formed and of one document, for each way through
+-- the code. Assumes nothing.
 use mathlib.Core.Path.{_≡_, refl, sym, ap, ap₂, _∙_, subst}
 use mathlib.Core.List.{List}
 use Prim.Native.Nat.{ℕ}

@@ -1,4 +1,5 @@
--- Every history of calls on raw frames leaves the bytes of the collection that took its good pages. Assumes nothing.
+-- Every history of calls on raw frames leaves the bytes of the collection that took its good pages.
+-- Assumes nothing.
 use mathlib.Core.Path.{_≡_, refl, sym, ap, ap₂, _∙_}
 use mathlib.Core.Logic.{_⊎_, inl, inr, ⊎-elim}
 use mathlib.Core.List.{List}

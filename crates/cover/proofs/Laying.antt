@@ -1,4 +1,5 @@
--- How long a layout is, and that the writes of its fields in a row are one write of it. Assumes nothing.
+-- How long a layout is, and that the writes of its fields in a row are one write of it.
+-- Assumes nothing.
 use Prim.Native.Nat.{ℕ, _+_, _^_, _<_, _≤_}
 use mathlib.Core.Path.{_≡_, refl}
 use mathlib.Core.List.{List, _++_}

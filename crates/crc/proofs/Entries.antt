@@ -1,4 +1,5 @@
--- The rule of the table, at each of its entries, from one equation that antt computes. Assumes nothing.
+-- The rule of the table, at each of its entries, from one equation that antt computes.
+-- Assumes nothing.
 use mathlib.Core.Path.{_≡_, sym, ap, _∙_}
 use mathlib.Core.List.{List, [], _∷_}
 use Prim.Native.Nat.{ℕ, zero, suc, _+_, _<_}

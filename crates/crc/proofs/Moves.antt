@@ -1,5 +1,5 @@
--- What stands above the bits that leave a register only moves down; so what eight bits make of a register follows from its low byte,
--- and bytes can come in before their turn. Assumes nothing.
+-- What stands above the bits that leave a register only moves down; so what eight bits make of a
+-- register follows from its low byte, and bytes can come in before their turn. Assumes nothing.
 use mathlib.Core.Path.{_≡_, sym, ap, ap₂, _∙_}
 use Prim.Native.Nat.{ℕ, zero, suc, _+_, _*_, _/_, _%_, _^_, _<_}
 use native.Mathlib.Nat.{mul-one, mul-comm, mul-assoc, pow-suc, mod-lt}

@@ -8,7 +8,8 @@ ghost use lib.ListN.{getD};
 ghost use Rattle.wire.specs.Number.{bigEndian};
 ghost use Rattle.crc.specs.Crc as C;
 
-// Eight bits leave the register. The table has what becomes of its low byte; the bits above that only move down.
+// Eight bits leave the register. The table has what becomes of its low byte; the bits above that
+// only move down.
 fn eight_bits(t: &[u32; 256], c: u32) -> u32
     requires { ⌜ ((k : ℕ) → k < 256 → getD (now t) k 0 ≡ C.bits 8 k) ⌝ }
     ensures { λ r. ⌜ r ≡ C.bits 8 c ⌝ }
@@ -16,7 +17,8 @@ fn eight_bits(t: &[u32; 256], c: u32) -> u32
     (c >> 8) ^ t[(c % 256) as usize]
 }
 
-// Four bytes. They come into the register together, the first at its low end: one load and one exclusive or in place of four.
+// Four bytes. They come into the register together, the first at its low end: one load and one
+// exclusive or in place of four.
 fn word(t: &[u32; 256], c: u32, b0: u8, b1: u8, b2: u8, b3: u8) -> u32
     requires { ⌜ ((k : ℕ) → k < 256 → getD (now t) k 0 ≡ C.bits 8 k) ⌝ }
     ensures { λ r. ⌜ r ≡ C.byte (C.byte (C.byte (C.byte c b0) b1) b2) b3 ⌝ }

@@ -13,7 +13,7 @@ pub(crate) const CHUNK: usize = 65_536;
 pub(crate) type Input = [u8; LINE_MOST + 1 + CHUNK];
 
 // Reads once behind the bytes that are held, and answers how many there are then: as many as before
-// at the end of the input.
+// at the end of the input, and where it cannot be read on (D1.9).
 pub(crate) fn read_more(input: &mut [u8], held: usize) -> usize {
     if input.len() < CHUNK {
         return held;

@@ -1,4 +1,5 @@
--- Bytes in hex: as the loops write and read them, and that what is written reads back. Assumes nothing.
+-- Bytes in hex: as the loops write and read them, and that what is written reads back.
+-- Assumes nothing.
 use mathlib.Core.Path.{_≡_, refl, sym, ap, _∙_}
 use mathlib.Core.Logic.{⊎-elim}
 use mathlib.Core.Bool.{Bool, true, false, not, _&&_}

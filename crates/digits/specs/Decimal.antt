@@ -15,7 +15,7 @@ decimal n =
     choose (ltb n 10) (digit n ∷ [])
     (choose (ltb n 100) (digit (n / 10) ∷ digit (n % 10) ∷ []) (digit (n / 100) ∷ digit (n / 10 % 10) ∷ digit (n % 10) ∷ []))
 
--- what ends a line (R9.12)
+-- what ends a line
 abbrev pub lineFeed : List ℕ
 lineFeed = 10 ∷ []
 

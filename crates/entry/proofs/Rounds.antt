@@ -1,4 +1,5 @@
--- What is written reads back, and what is read was written: one form for each entry. Assumes nothing.
+-- What is written reads back, and what is read was written: one form for each entry.
+-- Assumes nothing.
 use Prim.Native.Nat.{ℕ, _+_, _*_, _<_, _≤_}
 use mathlib.Core.Path.{_≡_, refl, sym, ap, ap₂, _∙_, subst}
 use mathlib.Core.Bool.{Bool, true, false}

@@ -1,4 +1,5 @@
--- What the writers do, over plain lists: which files are judged good, and the run of writes. Assumes nothing.
+-- What the writers do, over plain lists: which files are judged good, and the run of writes.
+-- Assumes nothing.
 use Prim.Native.Nat.{ℕ, _+_, _-_, _≤_, _<_}
 use mathlib.Core.Path.{_≡_, refl, sym, ap, _∙_}
 use mathlib.Core.Bool.{Bool, true, false, not, _&&_}

@@ -1,4 +1,5 @@
--- How the judge's steps give its answer: the manifest as it was read, the sum, the digests. Assumes nothing.
+-- How the judge's steps give its answer: the manifest as it was read, the sum, the digests.
+-- Assumes nothing.
 use Prim.Native.Nat.{ℕ, _-_, _≤_}
 use mathlib.Core.Path.{_≡_, refl, sym, ap, ap₂, _∙_}
 use mathlib.Core.Bool.{Bool, true, false, not}

@@ -1,4 +1,5 @@
--- The judge's two loops over a manifest's files: what is done, and the rest of the work from there. Assumes nothing.
+-- The judge's two loops over a manifest's files: what is done, and the rest of the work from there.
+-- Assumes nothing.
 use Prim.Native.Nat.{ℕ, _+_, _-_, _^_, _<_, _≤_}
 use mathlib.Core.Path.{_≡_, refl, sym, ap, _∙_}
 use mathlib.Core.Bool.{Bool, true, false}
@@ -25,7 +26,8 @@ use Rattle.envelope.specs.Envelope.{total, digests}
 pub record Summing (fs : List File) (n left k : ℕ) : Type 0 where
   pub rest : eqb (total fs) n ≡ eqb (total (drop k fs)) left
 
--- i files hold, and what comes after them starts at position at of the payload p: the answer is that of the others
+-- i files hold, and what comes after them starts at position at of the payload p: the answer is
+-- that of the others
 pub record Digesting (m p : List ℕ) (fs : List File) (at i : ℕ) : Type 0 where
   pub rest : digests m fs 0 p ≡ digests m (drop i fs) i (drop at p)
   pub left : at + total (drop i fs) ≡ length p

@@ -68,7 +68,8 @@ module _ (c out x : List ℕ) (t n : ℕ) (g : Gathers c t (replicate 46080 0) x
         closed-as (vouched (idOf c) out (done (joined (readPages 0 t c)))) (done (joined (readPages 0 t c))) out out' (Done n) (rw (room, ← test, w))
         (record { answer = ap done (g .number); bytes = o ∙ rw aside })
 
--- ---- the pages below the total t: k is the lowest that is disputed, and j the lowest that is missing
+-- ---- the pages below the total t: k is the lowest that is disputed, and j the lowest that is
+-- missing
 
 module _ (c out : List ℕ) (t k : ℕ) (a : k ≡ lowest (inState 2) (readPages 0 t c)) where
   abbrev Ended : List ℕ → Finished → Type 0

@@ -1,4 +1,5 @@
--- The data of the pages put one after another: what each turn of the loop comes to know. Assumes nothing.
+-- The data of the pages put one after another: what each turn of the loop comes to know.
+-- Assumes nothing.
 use mathlib.Core.Path.{_≡_, refl, sym, ap, _∙_}
 use mathlib.Core.List.{List, _++_}
 use Prim.Native.Nat.{ℕ, _+_, _*_, _≤_, _<_}

@@ -63,7 +63,8 @@ module _ (kind : ℕ) (id : List ℕ) (index total : ℕ) (contents l : List ℕ
     pub lay-short : length l < 16 + m + length contents → Written 0 (done (layout kind id index total contents)) l l (Refused 11)
     lay-short h = no-room 0 l (layout kind id index total contents) (omega (arith, layout-length kind id index total contents eight))
 
-    -- there is: x is l with all before the CRC, y is x with the CRC, and what is summed is what was written
+    -- there is: x is l with all before the CRC, y is x with the CRC, and what is summed is what was
+    -- written
     pub lay-done : 16 + m + length contents ≤ length l → (x y : List ℕ) (k : ℕ)
         → (k ≡ length (body kind id index total contents)) × (x ≡ over 0 (body kind id index total contents) l)
         → y ≡ over k (bigEndian 4 (crc32 (take k x))) x

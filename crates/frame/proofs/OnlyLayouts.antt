@@ -1,4 +1,5 @@
--- Only layouts are read: a frame that is read is exactly the layout of its parts, which the rules allow. Assumes nothing.
+-- Only layouts are read: a frame that is read is exactly the layout of its parts, which the rules
+-- allow. Assumes nothing.
 use Prim.Native.Nat.{ℕ, _+_, _-_, _≤_}
 use mathlib.Core.Path.{_≡_, refl, sym, ap, _∙_, subst}
 use mathlib.Core.Bool.{true}
@@ -101,7 +102,8 @@ judged-was kind n at end f next h =
 
 -- ---- the frame as a whole
 
--- what is known of a frame that was read: its parts are allowed, the input is their layout, and so where the data stand
+-- what is known of a frame that was read: its parts are allowed, the input is their layout, and so
+-- where the data stand
 pub record Sound (s : List ℕ) (f : Frame) (next : ℕ) : Type 0 where
   pub allowed : Allowed (f .kind) (idOf s) (f .index) (f .total) (dataOf s f)
   pub whole : s ≡ layout (f .kind) (idOf s) (f .index) (f .total) (dataOf s f)

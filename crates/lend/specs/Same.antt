@@ -1,4 +1,5 @@
--- Whether two lists hold the same bytes. That it says so is `same-refl` and `same-eq` of proofs/Sames.antt.
+-- Whether two lists hold the same bytes. That it says so is `same-refl` and `same-eq` of
+-- proofs/Sames.antt.
 use mathlib.Core.Bool.{Bool, true, false, _&&_}
 use mathlib.Core.List.{List, [], _∷_}
 use Prim.Native.Nat.{ℕ}

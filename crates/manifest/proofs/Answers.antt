@@ -1,4 +1,5 @@
--- How a chain of items goes on from each field, and how long the array of files is. Assumes nothing.
+-- How a chain of items goes on from each field, and how long the array of files is.
+-- Assumes nothing.
 use Prim.Native.Nat.{ℕ, _+_, _-_, _≤_}
 use mathlib.Core.Path.{_≡_, refl, sym, ap, _∙_}
 use mathlib.Core.Bool.{Bool, true, false}

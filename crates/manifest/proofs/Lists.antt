@@ -1,4 +1,5 @@
--- What the loop of `files::run` goes by: files that are read one after the other into an array. Assumes nothing.
+-- What the loop of `files::run` goes by: files that are read one after the other into an array.
+-- Assumes nothing.
 use Prim.Native.Nat.{ℕ, suc, _+_, _-_, _<_, _≤_}
 use mathlib.Core.Path.{_≡_, refl, sym, ap, _∙_}
 use mathlib.Core.List.{List, [], _∷_, _++_, append-assoc, append-nil}
@@ -42,7 +43,8 @@ behind-one : (front : List File) (f : File) (g : Got (List File)) → behind fro
 behind-one front f (done (fs, next)) = ap (λ (l : List File). got l next) (sym (append-assoc front (f ∷ []) fs))
 behind-one front f (refusedAt e place) = refl
 
--- after i files: those that are done stand in the array, and the rest of the work is the whole of it
+-- after i files: those that are done stand in the array, and the rest of the work is the whole of
+-- it
 pub record Reading (s : List ℕ) (at count : ℕ) (files : List File) (i p : ℕ) (last : Span) : Type 0 where
   pub most : i ≤ count
   pub front : List File

@@ -1,4 +1,5 @@
--- The manifest: what is written reads back, and what is read was written, one form for each. Assumes nothing.
+-- The manifest: what is written reads back, and what is read was written, one form for each.
+-- Assumes nothing.
 use Prim.Native.Nat.{ℕ, zero, suc, _+_, _<_, _≤_}
 use mathlib.Core.Path.{_≡_, refl, sym, ap, ap₂, _∙_, subst}
 use mathlib.Core.Bool.{Bool, true}
@@ -223,8 +224,8 @@ listed-value v =
     ap (λ (fs : List File). record { seed = v .seed; files = fs; sealed = v .sealed; created = v .created })
     (take-at (v .files) _ (length (v .files)) refl)
 
--- a payload of bytes that is read is the written form, with itself as the pool, of the value read; and the writer accepts that value:
--- what is read and then written is as it was
+-- a payload of bytes that is read is the written form, with itself as the pool, of the value read;
+-- and the writer accepts that value: what is read and then written is as it was
 pub manifest-only : {s : List ℕ} {v : Listing} {next : ℕ} → Bytes s → manifestAt s ≡ got v next
     → (s ≡ manifestOf s v) × (next ≡ length s) × (manifestVerdict s (answerFor (manifestAt s) .value) ≡ done s)
 unfolding manifestOf saidOf saidIn listed

@@ -148,7 +148,8 @@ one-most c k r e = go (okAt (readHead c) k (pageAt k c)) e
 
 -- ---- the loop
 
--- the page blocks before index k are mended, n of them were not well formed, and the rest is as it was
+-- the page blocks before index k are mended, n of them were not well formed, and the rest is as it
+-- was
 pub record Mending (c : List ℕ) (k n : ℕ) (x : List ℕ) : Type 0 where
   pub most : k ≤ 96
   pub few : n ≤ k

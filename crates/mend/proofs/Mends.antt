@@ -1,4 +1,5 @@
--- What mending does: the result is well formed, what was well formed is untouched, and nothing is invented. Assumes nothing.
+-- What mending does: the result is well formed, what was well formed is untouched, and nothing is
+-- invented. Assumes nothing.
 use mathlib.Core.Path.{_≡_, refl, sym, ap, _∙_}
 use mathlib.Core.Bool.{Bool, true, false, _&&_, _||_}
 use mathlib.Core.Logic.{_↔_}

@@ -1,4 +1,5 @@
--- What an offer changes in a collection: at most one slot, or everything at once where totals disagree. For the proofs of code.
+-- What an offer changes in a collection: at most one slot, or everything at once where totals
+-- disagree. For the proofs of code.
 use mathlib.Core.Path.{_≡_, refl, ap, _∙_}
 use mathlib.Core.Bool.{Bool, true, false}
 use mathlib.Core.Logic.{_⊎_, inl, inr}
@@ -88,7 +89,8 @@ pub kind-disagree : (p : Page) → kindOf (p .index) (takePage p disagree) ≡ 3
 unfolding kindOf takePage
 kind-disagree p = refl
 
--- For the reader: a page that was taken is not absent, so the answer is 1, 2 or 3, as include/stiltbasket.h says
+-- For the reader: a page that was taken is not absent, so the answer is 1, 2 or 3, as
+-- include/stiltbasket.h says
 pub kind-taken : (p : Page) (b : Book) → Good p → Valid b → (1 ≤ kindOf (p .index) (takePage p b)) × (kindOf (p .index) (takePage p b) ≤ 3)
 kind-taken p empty g v = omega (arith, kind-first p (good-index p g))
 kind-taken p (collecting t ss) g v = go (eq-or-ne (p .total) t)

@@ -1,4 +1,5 @@
--- The counts of a collection, said of the SET of pages: how many indices below the total are agreed on, missing, or disputed. Assumes nothing.
+-- The counts of a collection, said of the SET of pages: how many indices below the total are agreed
+-- on, missing, or disputed. Assumes nothing.
 use mathlib.Core.Path.{_≡_, refl, sym, ap, _∙_, subst}
 use mathlib.Core.Bool.{Bool, true, false, false≢true}
 use mathlib.Core.List.{List}

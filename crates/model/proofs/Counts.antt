@@ -1,4 +1,5 @@
--- How many slots have a property, which is the lowest, and the data in order: for loops over the slots, and for what finish says.
+-- How many slots have a property, which is the lowest, and the data in order: for loops over the
+-- slots, and for what finish says.
 use mathlib.Core.Path.{_≡_, refl, sym, ap, _∙_}
 use mathlib.Core.Bool.{Bool, true, false}
 use mathlib.Core.List.{List, [], _∷_, _++_, append-assoc, append-nil}

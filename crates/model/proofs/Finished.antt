@@ -1,4 +1,5 @@
--- Finish answers exactly what is so of the set: each of the answers rules out the others, so each "if" of Complete.antt is an "exactly when".
+-- Finish answers exactly what is so of the set: each of the answers rules out the others, so each
+-- "if" of Complete.antt is an "exactly when".
 use mathlib.Core.Path.{_≡_, refl, sym, ap, ap₂, _∙_, subst}
 use mathlib.Core.Logic.{_⊎_, inl, inr, _↔_}
 use mathlib.Core.List.{List, [], append-nil, flatten}
@@ -128,7 +129,8 @@ module _ (S : Page → Type 0) (b : Book) (v : Valid b) (m : BookIs S b) where
       said (inr (inl (e, w))) = w
       said (inr (inr (e, w))) = absurd (omega arith)
 
-  -- 16 with k exactly when there is no page and k is 0, or one total, one version of each page, and k is the lowest index below the total without a page
+  -- 16 with k exactly when there is no page and k is 0, or one total, one version of each page, and
+  -- k is the lowest index below the total without a page
   pub finish-16 : (k : ℕ) → (finishBook b ≡ refusedAt 16 k) ↔ FirstMissing S k
   finish-16 k = ((λ e. said (finish-exact (refusedAt 16 k) .0 e)), λ w. finish-exact (refusedAt 16 k) .1 (inr (inr (refl, w))))
     where
@@ -156,7 +158,8 @@ pub one-page : (d : List ℕ) → finishBook (takePage (record { index = 0; tota
 unfolding finishBook takePage finishPages noPages lowest isDisputed isAbsent joined dataOf
 one-page d = ap done (append-nil d)
 
--- ---- for the proofs of code: finish by its tests, and the sizes of its answers. No set stands here: it holds of a mended collection too
+-- ---- for the proofs of code: finish by its tests, and the sizes of its answers. No set stands
+-- here: it holds of a mended collection too
 
 module _ (ss : List Slot) where
   -- a page is disputed

@@ -1,4 +1,5 @@
--- The first k slots of two lists joined, and the rest of the first as it was: what a loop over the slots has done after k turns.
+-- The first k slots of two lists joined, and the rest of the first as it was: what a loop over the
+-- slots has done after k turns.
 use mathlib.Core.Path.{_≡_, refl, sym, ap, _∙_}
 use mathlib.Core.List.{List, [], _∷_}
 use Prim.Native.Nat.{ℕ, zero, suc, _+_, _<_}

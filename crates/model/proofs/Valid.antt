@@ -1,4 +1,5 @@
--- What every collection of good pages keeps to: its size, its total, the size of its data, and nothing from the total on.
+-- What every collection of good pages keeps to: its size, its total, the size of its data, and
+-- nothing from the total on.
 use mathlib.Core.Path.{_≡_, refl, sym, _∙_, subst}
 use mathlib.Core.Bool.{Bool, true, false}
 use mathlib.Core.List.{List, [], _∷_}

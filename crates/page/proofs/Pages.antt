@@ -1,5 +1,5 @@
--- How a document is cut: only the last page may be short, it too has a byte, and the pages in order are the
--- document. Assumes nothing.
+-- How a document is cut: only the last page may be short, it too has a byte, and the pages in order
+-- are the document. Assumes nothing.
 use Prim.Native.Nat.{ℕ, zero, suc, _+_, _-_, _*_, _/_, _≤_, _<_}
 use mathlib.Core.Path.{_≡_, sym, _∙_}
 use mathlib.Core.List.{List}

@@ -1,5 +1,5 @@
--- Every page of a document reads back as its own index, the document's total, its id and its slice of the ciphertext, also
--- through either text form. Assumes nothing.
+-- Every page of a document reads back as its own index, the document's total, its id and its slice
+-- of the ciphertext, also through either text form. Assumes nothing.
 use Prim.Native.Nat.{ℕ, _*_, _<_}
 use mathlib.Core.Path.{_≡_, refl}
 use mathlib.Core.Logic.{inl}

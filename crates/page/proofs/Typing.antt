@@ -1,4 +1,5 @@
--- A page through a text form: the frame is made in a room of its own, which always suffices. Assumes nothing.
+-- A page through a text form: the frame is made in a room of its own, which always suffices.
+-- Assumes nothing.
 use Prim.Native.Nat.{ℕ, _+_, _-_, _≤_, _<_}
 use mathlib.Core.Path.{_≡_, sym, ap, _∙_}
 use mathlib.Core.Logic.{_⊎_, ⊎-elim}
@@ -38,7 +39,8 @@ frame-short c size number bs e =
         let d = page-length c size (f .1) number in
         omega (arith, f .2, f .4, layout-length-short 0x44 (documentId c) number n (pageData c size number) (id-length c) (omega (arith, f .4)) (omega (arith, f .4)), varint-length-two (length (pageData c size number)) (omega (arith, f .2)))
 
--- for `search`, of both forms: made is what the frame's writer answered, and room' what it left in the room
+-- for `search`, of both forms: made is what the frame's writer answered, and room' what it left in
+-- the room
 module _ (v : Answer (List ℕ)) (room room' : List ℕ) (made : Wrote) (n : ℕ) (w : Written 0 v room room' made) (k : made ≡ Done n) where
   stood : Stood 0 v room room' n
   stood = done-stood 0 v room room' n (rw k at w)

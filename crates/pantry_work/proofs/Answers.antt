@@ -1,4 +1,5 @@
--- Taking up, and the answer at the end of a session, for each way through the code. Assumes nothing.
+-- Taking up, and the answer at the end of a session, for each way through the code.
+-- Assumes nothing.
 use mathlib.Core.Path.{_≡_, refl, sym, ap, _∙_}
 use mathlib.Core.Bool.{Bool, true, false, _&&_}
 use mathlib.Core.List.{List}

@@ -121,7 +121,8 @@ module _ (id : List ℕ) (eight : length id ≡ 8) where
       → bytesAfter (bytesOf id g) (resuming 1 (bytesOf id g) (bytesOf id h)) ≡ encode id b
   resume-union g h k l b m = resume-bytes g h ∙ saved id eight (joined g h) (k, l) b m
 
-  -- a dropped session is resumed: xs scanned now and ys in an earlier run are as if all had been scanned in one
+  -- a dropped session is resumed: xs scanned now and ys in an earlier run are as if all had been
+  -- scanned in one
   pub resume-lists : (c d e : List ℕ) (xs ys : List (List ℕ)) → length c ≡ 49664 → length d ≡ 49664 → length e ≡ 49664 → AllBytes xs → AllBytes ys
       → bytesAfter (bytesOf id (offeredAll xs (opened c))) (resuming 1 (bytesOf id (offeredAll xs (opened c))) (bytesOf id (offeredAll ys (opened d))))
       ≡ bytesOf id (offeredAll (xs ++ ys) (opened e))

@@ -85,7 +85,8 @@ module _ (line c : List ℕ) (room : 1025 ≤ length line) (size : length c ≡ 
   pub alone-prints : Prints id (PageAmong id (scansOf input)) (printedAlone line c input)
   alone-prints = rw (collects .0, collects .1) (scans-print id eight c size (scansOf input) (all-bytes input))
 
-  -- a file of scans ys from earlier runs is taken up, and the collection that this leaves is that of one run with all scans
+  -- a file of scans ys from earlier runs is taken up, and the collection that this leaves is that
+  -- of one run with all scans
   module _ (d : List ℕ) (t : length d ≡ 49664) (ys : List (List ℕ)) (y : AllBytes ys) where
     pub file-joined : (e : List ℕ) → length e ≡ 49664 → takenUp line c input (collectionOf d id ys) ≡ leaves (collectionOf e id (scansOf input ++ ys)) tt
     file-joined e u =

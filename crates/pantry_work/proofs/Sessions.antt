@@ -1,5 +1,6 @@
--- What a session that collects does with what was saved. Its collection is well formed whatever its input was (scan, Sound), so 13 is said
--- of the saved bytes, and 12 of their document. Assumes nothing.
+-- What a session that collects does with what was saved. Its collection is well formed whatever its
+-- input was (scan, Sound), so 13 is said of the saved bytes, and 12 of their document.
+-- Assumes nothing.
 use mathlib.Core.Path.{_≡_}
 use mathlib.Core.Bool.{true, false}
 use mathlib.Core.List.{List}

@@ -1,4 +1,5 @@
--- RFC 3629 read the other way: code points as bytes. Decoding undoes it, and it keeps the order. Assumes nothing.
+-- RFC 3629 read the other way: code points as bytes. Decoding undoes it, and it keeps the order.
+-- Assumes nothing.
 use mathlib.Core.Path.{_≡_, refl, sym, ap, ap₂, _∙_}
 use mathlib.Core.Logic.{_⊎_, inl, inr}
 use mathlib.Core.Bool.{Bool, true, false, _&&_}

@@ -1,4 +1,5 @@
--- A text is its parts joined by slashes; which parts are names; and how a loop over a text's bytes comes to know its parts. Assumes nothing.
+-- A text is its parts joined by slashes; which parts are names; and how a loop over a text's bytes
+-- comes to know its parts. Assumes nothing.
 use mathlib.Core.Path.{_≡_, refl, sym, ap, _∙_}
 use mathlib.Core.Logic.{_⊎_, inl, inr}
 use mathlib.Core.Bool.{Bool, true, false, not, _&&_}
@@ -28,7 +29,8 @@ module _ (p : List ℕ) (b : ℕ) (s : List ℕ) where
   unfolding partsAfter
   part-grows n = rw (ne-eqb b slash n)
 
--- what holds of a text's parts at its end, and before a byte if behind it, holds of every text's parts
+-- what holds of a text's parts at its end, and before a byte if behind it, holds of every text's
+-- parts
 module _ (P : List ℕ → List ℕ → List (List ℕ) → Type 0)
     (done : (p : List ℕ) → P p [] (p ∷ []))
     (ended : (p s : List ℕ) → P [] s (parts s) → P p (slash ∷ s) (p ∷ parts s))
@@ -122,8 +124,9 @@ name-two (a ∷ []) h e = absurd (omega arith)
 name-two (a ∷ b ∷ []) h e = rw (eq-eqb a 0x2E e, and-true (eqb b 0x2E))
 name-two (a ∷ b ∷ c ∷ p) h e = absurd (omega arith)
 
--- ---- a loop over the bytes: the part at hand began at index from, and the bytes before index to were read. `whole` is the answer for the
--- whole text, as the invariant knows it, and r what `is_name` said of the part at hand
+-- ---- a loop over the bytes: the part at hand began at index from, and the bytes before index to
+-- were read. `whole` is the answer for the whole text, as the invariant knows it, and r what
+-- `is_name` said of the part at hand
 
 module _ (s : List ℕ) (from to : ℕ) where
   abbrev at-hand : List ℕ

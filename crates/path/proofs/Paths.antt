@@ -45,7 +45,8 @@ module _ (s : List ℕ) (ok : pathAllowed s ≡ true) where
   pub allowed-names : every isName (parts s) ≡ true
   allowed-names = tests-passed .2
 
-  -- For the reader: taken below any folder, an allowed path stays below it (n is 0), and so below any folder that lies n higher
+  -- For the reader: taken below any folder, an allowed path stays below it (n is 0), and so below
+  -- any folder that lies n higher
   pub allowed-stays-below : (n : ℕ) → staysBelow n (parts s) ≡ true
   allowed-stays-below n = names-stay n (parts s) allowed-names (omega (arith, parts-some [] s))
 
@@ -95,7 +96,8 @@ zero-refused s t =
     let zero = every-fails (λ (c : ℕ). not (eqb c 0)) s 0 t refl in
     search tests
 
--- For the reader: every text of code points below U+0300 is plain, so the rule leaves no such text out
+-- For the reader: every text of code points below U+0300 is plain, so the rule leaves no such text
+-- out
 pub plain-utf8 : (cs : List ℕ) → within 0x300 cs ≡ true → plainText (utf8 cs) ≡ true
 unfolding plainText
 plain-utf8 cs e = ap (within 0x300) (decoded-utf8 cs (within-more 0x300 0x800 (lit≤ tt) cs e)) ∙ e

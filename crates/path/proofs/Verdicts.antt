@@ -1,4 +1,5 @@
--- What the tests of `path::allowed` say of the rule, one law for each return; r, p, n and z are what its calls answered. Assumes nothing.
+-- What the tests of `path::allowed` say of the rule, one law for each return; r, p, n and z are
+-- what its calls answered. Assumes nothing.
 use mathlib.Core.Path.{_≡_}
 use mathlib.Core.Bool.{Bool, true, false, not}
 use mathlib.Core.List.{List}

@@ -42,7 +42,8 @@ module _ (id contents : List ℕ) where
   unfolding payloadFrame
   fault-none i l = rw (eq-eqb (length id) 8 i, le-leb (length contents) 480 l)
 
--- the two rules, s and t, of which the code has the number n: what comes behind them is l where it asks, and z in the end
+-- the two rules, s and t, of which the code has the number n: what comes behind them is l where it
+-- asks, and z in the end
 module _ (s t : Bool) (l : List ℕ) (z : Answer (List ℕ)) where
   rules-broken : (n : ℕ) → n ≡ numberOf (demand s 19 (demand t 9 (done l))) → (n ≡ 0 → ⊥) → demand s 19 (demand t 9 z) ≡ refused n
   rules-broken = go s t

@@ -1,4 +1,5 @@
--- What such a frame carries reads back, and only what the payload's reader accepts is carried; whatever the payload's writer wrote is. Assumes nothing.
+-- What such a frame carries reads back, and only what the payload's reader accepts is carried;
+-- whatever the payload's writer wrote is. Assumes nothing.
 use Prim.Native.Nat.{ℕ, _≤_}
 use mathlib.Core.Path.{_≡_, refl, sym}
 use mathlib.Core.Logic.{inr}

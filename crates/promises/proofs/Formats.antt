@@ -26,7 +26,8 @@ use Rattle.promises.proofs.Links.Frame.{frame-lay-link, frame-read-link
 
 -- ---- what all formats share
 
--- the rules of a format, where `Form v s` says that s is the written form of v; and what its calls say
+-- the rules of a format, where `Form v s` says that s is the written form of v; and what its calls
+-- say
 pub record Ruled {Place Value : Type 0} (f : Format Place Value) (Form : Value → List ℕ → Type 0) : Type 0 where
   pub back : (v : Value) (s : List ℕ) → Form v s → (p : Place) × (f .read s ≡ done p) × (f .says s p ≡ v)
   pub only : (s : List ℕ) (p : Place) → Slice s → f .read s ≡ done p → Form (f .says s p) (f .counting s)

@@ -43,7 +43,8 @@ pub record Lawful (f : Interface) : Type 1 where
   pub opens : (id c x : List ℕ) → f .Opens id c x → x ≡ bytesAfter c (opening id c)
   pub offers : (c raw x : List ℕ) → f .Offers c raw x → x ≡ bytesAfter c (offering c raw)
   pub joins : (c o x : List ℕ) → f .Joins c o x → x ≡ bytesAfter c (joining c o)
-  -- finish's output is fixed for any bytes; its answer is told of a collection that is the meaning of a set
+  -- finish's output is fixed for any bytes; its answer is told of a collection that is the meaning
+  -- of a set
   pub finishes : (S : Page → Type 0) (c out x : List ℕ) (a : Answer ℕ) → okBook c ≡ true → BookIs S (readBook c) → f .Finishes c out x a
       → (a ≡ answerOf (finishing c out)) × (x ≡ bytesAfter out (finishing c out))
   pub can-open : (id c : List ℕ) → (x : List ℕ) × f .Opens id c x

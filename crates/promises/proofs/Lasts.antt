@@ -1,5 +1,6 @@
--- What a call leaves in the buffers that it was lent is a tuple with a place for each parameter: a list where that is a `&mut` slice, and
--- nothing to tell apart elsewhere. Two of them are equal place by place. Assumes nothing.
+-- What a call leaves in the buffers that it was lent is a tuple with a place for each parameter: a
+-- list where that is a `&mut` slice, and nothing to tell apart elsewhere. Two of them are equal
+-- place by place. Assumes nothing.
 use mathlib.Core.Path.{_≡_, refl}
 
 pub both : {A B : Type 0} {x y : A} {u v : B} → x ≡ y → u ≡ v → _≡_ {A = A × B} (x, u) (y, v)

@@ -1,4 +1,5 @@
--- One answer, by each contract itself: lent buffers, digits, numbers, texts, paths and digests. Assumes nothing.
+-- One answer, by each contract itself: lent buffers, digits, numbers, texts, paths and digests.
+-- Assumes nothing.
 use mathlib.Core.Path.{refl, sym, _∙_}
 use Rattle.promises.specs.Once.{Once}
 use Rattle.promises.proofs.Lasts.{here, past}

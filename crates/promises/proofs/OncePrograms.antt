@@ -1,4 +1,5 @@
--- One answer, by each contract itself: what the programs, the phone and the bench call. Assumes nothing.
+-- One answer, by each contract itself: what the programs, the phone and the bench call.
+-- Assumes nothing.
 use mathlib.Core.Path.{_≡_, refl, sym, ap, _∙_}
 use mathlib.Core.List.{List}
 use Prim.Native.Nat.{ℕ}

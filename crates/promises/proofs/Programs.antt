@@ -1,4 +1,5 @@
--- What the calls of `pier` and `pantry` say of their whole input (specs/Programs.antt). Assumes nothing.
+-- What the calls of `pier` and `pantry` say of their whole input (specs/Programs.antt).
+-- Assumes nothing.
 use mathlib.Core.Path.{_≡_, refl, sym, ap, ap₂, _∙_, subst}
 use mathlib.Core.Bool.{Bool, true, false}
 use mathlib.Core.List.{List, [], _∷_, _++_, flatten}

@@ -32,7 +32,8 @@ text-placeless : (f : Form) (s : List ℕ) → Placeless (readText f s)
 unfolding readText readValues
 text-placeless f s = search placeless
 
--- the bytes that were read stand in front of the output, as the text's definition gives them; where it refuses, so does the reader
+-- the bytes that were read stand in front of the output, as the text's definition gives them; where
+-- it refuses, so does the reader
 module _ (f : Form) (law : Lawful f) (s out x : List ℕ) (h : length s ≤ length out) where
   text-said : (a : Answer ℕ) → Kept (writing 0 out (readText f s)) out x a → textSaid a x ≡ readText f s
   text-said (done n) w = let t = wrote-done (readText f s) out x n w in ap done (stands-front (t .2)) ∙ sym (t .1)

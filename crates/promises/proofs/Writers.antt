@@ -45,7 +45,8 @@ written-room s out x a h w = kept-fits 0 s out x (omega arith) w
 pub can-write : (v : Answer (List ℕ)) (s out : List ℕ) → v ≡ done s → length s ≤ length out → Kept (writing 0 out v) out (over 0 s out) (done (length s))
 can-write v s out e h = rw e (written 0 out s (over 0 s out) (length s) (omega arith) refl refl)
 
--- ---- a call of a function of two slices, of which one is lent to be written: what was passed, left and answered, and that its contract holds of that
+-- ---- a call of a function of two slices, of which one is lent to be written: what was passed,
+-- left and answered, and that its contract holds of that
 
 abbrev both : Lfts 2
 both = ([], ([], tt))

@@ -149,7 +149,8 @@ document-eight input id = go (lines input)
     go [] h = absurd (let z : _≡_ {A = ℕ} 0 1 = cc in omega arith)
     go (l ∷ ls) h = id-eight l id h
 
--- a collection of scans is well formed, of its document, and says what the good pages among them say
+-- a collection of scans is well formed, of its document, and says what the good pages among them
+-- say
 module _ (id : List ℕ) (eight : length id ≡ 8) (c : List ℕ) (size : length c ≡ 49664) (raws : List (List ℕ)) (y : AllBytes raws) where
   pub list-says : (okBook (collectionOf c id raws) ≡ true) × (idOf (collectionOf c id raws) ≡ id) × BookIs (PageAmong id raws) (readBook (collectionOf c id raws))
   list-says =
@@ -163,7 +164,8 @@ pub status-says : (S : Page → Type 0) (x : List ℕ) → okBook x ≡ true →
 unfolding statusLine
 status-says S x ok m b w = rw (judged-done x ok) (ap bookLine (book-one S (readBook x) b m w))
 
--- For the reader: what is printed depends on nothing else: whatever was in the lent buffer, and in whatever order and number the scans came
+-- For the reader: what is printed depends on nothing else: whatever was in the lent buffer, and in
+-- whatever order and number the scans came
 pub prints-set : (c input id : List ℕ) → length c ≡ 49664 → documentOf input ≡ done id → (b : Book) → BookIs (PageAmong id (scansOf input)) b
     → printed c input ≡ bookLine b
 unfolding printed

@@ -20,7 +20,8 @@ single-snoc [] b w h (suc i) e = omega arith
 single-snoc (a ∷ bs) b w h zero e = w 0 e
 single-snoc (a ∷ bs) b w h (suc i) e = single-snoc bs b (λ j. w (suc j)) h i e
 
--- what stands in front of the first line feed is the first line, and the lines behind it are those of the rest
+-- what stands in front of the first line feed is the first line, and the lines behind it are those
+-- of the rest
 pub lines-first : (l bs : List ℕ) → Single l → lines (l ++ 10 ∷ bs) ≡ l ∷ lines bs
 unfolding lines
 lines-first [] bs w = refl

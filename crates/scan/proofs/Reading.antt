@@ -1,4 +1,5 @@
--- A session reads lines: what it does byte by byte is what it does with each line in turn. Assumes nothing.
+-- A session reads lines: what it does byte by byte is what it does with each line in turn.
+-- Assumes nothing.
 use mathlib.Core.Path.{_≡_, refl, sym, ap, _∙_}
 use mathlib.Core.Bool.{Bool, true, false}
 use mathlib.Core.Logic.{_⊎_, inl, inr, ⊎-elim}
@@ -44,7 +45,8 @@ linedAll g (l ∷ ls) = linedAll (lined g l) ls
 
 -- ---- the line that has not ended
 
--- the bytes p of it that came: all are in the line buffer, or they are too many, and then only that is known
+-- the bytes p of it that came: all are in the line buffer, or they are too many, and then only that
+-- is known
 abbrev Held : At → List ℕ → Type 0
 Held s p = ((length p ≤ 1024) × (s .len ≡ length p) × (take (s .len) (s .line) ≡ p)) ⊎ ((1024 < length p) × (s .len ≡ 1025))
 
@@ -161,7 +163,8 @@ closed-lined s (b ∷ p) w = rw (ne-eqb (s .len) 0 (go (w .held)), lines-last b 
     go (inl (l, e, t)) z = omega arith
     go (inr (l, e)) z = omega arith
 
--- a session in the middle of its input stands for a line that has begun with p: with the rest xs to come it does what the lines of both do
+-- a session in the middle of its input stands for a line that has begun with p: with the rest xs to
+-- come it does what the lines of both do
 pub reads-lines : (xs : List ℕ) (s : At) (p : List ℕ) → Standing s p → stage (closed (fed s xs)) ≡ linedAll (stage s) (lines (p ++ xs))
 unfolding fed next linedAll longer
 reads-lines [] s p w = rw append-nil (closed-lined s p w)

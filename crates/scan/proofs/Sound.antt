@@ -1,4 +1,5 @@
--- The collection of a session is well formed once it collects, whatever its input and its line buffer were. Assumes nothing.
+-- The collection of a session is well formed once it collects, whatever its input and its line
+-- buffer were. Assumes nothing.
 use mathlib.Core.Path.{_≡_, refl}
 use mathlib.Core.Bool.{Bool, true, false}
 use mathlib.Core.List.{List, [], _∷_}

@@ -1,4 +1,5 @@
--- Arrays that a loop fills from the front, and the pieces of a list that its turns read. Assumes nothing.
+-- Arrays that a loop fills from the front, and the pieces of a list that its turns read.
+-- Assumes nothing.
 use mathlib.Core.Path.{_≡_, sym, ap, _∙_}
 use mathlib.Core.List.{List, _∷_}
 use Prim.Native.Nat.{ℕ, suc, _+_, _-_, _*_, _≤_, _<_}

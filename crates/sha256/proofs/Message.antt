@@ -1,4 +1,5 @@
--- The padded message byte by byte, and the blocks of a message that is read in two parts. Assumes nothing.
+-- The padded message byte by byte, and the blocks of a message that is read in two parts.
+-- Assumes nothing.
 use mathlib.Core.Path.{_≡_, refl, sym, ap, _∙_}
 use mathlib.Core.List.{List, _∷_, _++_}
 use Prim.Native.Nat.{ℕ, zero, suc, _+_, _-_, _*_, _/_, _%_, _^_, _≤_, _<_}
@@ -22,7 +23,8 @@ digit-low n w s k h =
     ∙ ap (λ (x : ℕ). x % 2 ^ w) (field n (k - s - w + w) s)
     ∙ mod-mod-pow (n / 2 ^ s) (k - s - w) w
 
--- ---- section 5.1.1: the zeros are the fewest with which the message, its mark and they leave 8 bytes to a multiple of 64
+-- ---- section 5.1.1: the zeros are the fewest with which the message, its mark and they leave 8
+-- bytes to a multiple of 64
 -- For the reader: so many fill it,
 pub zeros-fill : (n : ℕ) → (n + 1 + zeros n) % 64 ≡ 56
 unfolding zeros
@@ -112,7 +114,8 @@ blocks-add n (suc m) b s =
     let e : n * 64 + m * 64 ≡ (n + m) * 64 = omega arith in
     rw add-suc (cc (blocks-add n m b s, drop-drop (m * 64) (n * 64) b))
 
--- the whole blocks of the message itself, and then those of a buffer t that starts with the rest of the padded message
+-- the whole blocks of the message itself, and then those of a buffer t that starts with the rest of
+-- the padded message
 whole : (bs t : List ℕ) (s : State) (len : ℕ) → len ≡ length bs % 64 + 9 + zeros (length bs)
     → take len t ≡ drop (length bs / 64 * 64) (pad bs) → len ≤ length t
     → blocks (length (pad bs) / 64) (pad bs) s ≡ blocks (len / 64) t (blocks (length bs / 64) bs s)

@@ -1,5 +1,6 @@
--- The rule of the constants, FIPS 180-4, sections 4.2.2 and 5.3.3: the first 32 bits of the fractional parts of the cube roots
--- of the first sixty-four primes, and of the square roots of the first eight. Each table is one computed test. Assumes nothing.
+-- The rule of the constants, FIPS 180-4, sections 4.2.2 and 5.3.3: the first 32 bits of the
+-- fractional parts of the cube roots of the first sixty-four primes, and of the square roots of the
+-- first eight. Each table is one computed test. Assumes nothing.
 use mathlib.Core.Path.{_≡_, refl}
 use mathlib.Core.Bool.{Bool, true, false}
 use mathlib.Core.List.{List, [], _∷_}
@@ -37,7 +38,8 @@ sieve (suc k) (p ∷ ns) = p ∷ sieve k (without p ns)
 pub primes-sieved : primes ≡ sieve 64 (from 2 310)
 primes-sieved = refl
 
--- x is the first 32 bits of the fractional part of the root of degree e of p: whole and x together, as a number of 2^32ths, are that root rounded down
+-- x is the first 32 bits of the fractional part of the root of degree e of p: whole and x together,
+-- as a number of 2^32ths, are that root rounded down
 pub record Root (e p x : ℕ) : Type 0 where
   pub whole : ℕ
   pub small : x < 2 ^ 32

@@ -1,4 +1,5 @@
--- Worked examples of the order of refusals in `type` and of the rule over `share` and `length`. Each is computed. Assumes nothing.
+-- Worked examples of the order of refusals in `type` and of the rule over `share` and `length`.
+-- Each is computed. Assumes nothing.
 use mathlib.Core.Path.{_≡_, refl}
 use mathlib.Core.List.{[], _∷_, _++_}
 use Rattle.wire.specs.Answer.{refused, got}
@@ -9,7 +10,8 @@ use Rattle.cbor.specs.Item.{oneAt, bigEndianAt, argumentAt, kindOf, headAt, num
 use Rattle.wire.specs.Ascii.{ascii}
 use Rattle.shard.specs.Shard.{passphrase, signingSeed, known, padded, kindAt}
 
--- For the reader: a length other than 10 and 12 is 19 though the contents are missing; then a cut is 3, and other contents are 19
+-- For the reader: a length other than 10 and 12 is 19 though the contents are missing; then a cut
+-- is 3, and other contents are 19
 kinds : (kindAt (stringOf 3 (ascii "type") ++ (0x6B ∷ [])) 0 ≡ refused 19)
     × (kindAt (stringOf 3 (ascii "type") ++ (0x69 ∷ [])) 0 ≡ refused 19)
     × (kindAt (stringOf 3 (ascii "type") ++ (0x78 ∷ 0x0C ∷ [])) 0 ≡ refused 18)

@@ -1,4 +1,5 @@
--- How long the payload and the signed bytes are: a payload of allowed values has at most 456 bytes, and some have that many. Assumes nothing.
+-- How long the payload and the signed bytes are: a payload of allowed values has at most 456 bytes,
+-- and some have that many. Assumes nothing.
 use Prim.Native.Nat.{ℕ, _+_, _≤_, _<_}
 use mathlib.Core.Path.{_≡_}
 use mathlib.Core.Logic.{⊎-elim}

@@ -1,4 +1,5 @@
--- What is written reads back, and what is read was written: one payload for each shard. Assumes nothing.
+-- What is written reads back, and what is read was written: one payload for each shard.
+-- Assumes nothing.
 use Prim.Native.Nat.{ℕ, _≤_}
 use mathlib.Core.Path.{_≡_, refl, sym, ap, _∙_, subst}
 use mathlib.Core.Logic.{⊎-elim}
@@ -287,7 +288,8 @@ shard-again {s} {v} y e =
     let r = shard-only y e in
     shard-accepted (hashIn s (v .claim)) (kindIn s v) (shareIn s v) (v .content .length) (v .quorum) (publicIn s (v .claim)) (sigIn s (v .claim)) (r .2) ∙ ap done (sym (r .0))
 
--- For the reader: so what is read is no longer than what is written, and from 457 bytes on the reader refuses
+-- For the reader: so what is read is no longer than what is written, and from 457 bytes on the
+-- reader refuses
 pub shard-read-most : (s : List ℕ) {v : Shard} {next : ℕ} → Bytes s → shardAt s ≡ got v next → length s ≤ 456
 shard-read-most s {v} y e =
     shard-written-most (hashIn s (v .claim)) (kindIn s v) (shareIn s v) (v .content .length) (v .quorum) (publicIn s (v .claim)) (sigIn s (v .claim)) (shard-again y e)

@@ -1,4 +1,5 @@
--- The contents of `type`, as the code takes them out of the input: from where they start to the position past them. Assumes nothing.
+-- The contents of `type`, as the code takes them out of the input: from where they start to the
+-- position past them. Assumes nothing.
 use Prim.Native.Nat.{ℕ, _+_, _-_, _≤_}
 use mathlib.Core.Path.{_≡_, sym, ap, _∙_}
 use mathlib.Core.Bool.{Bool}

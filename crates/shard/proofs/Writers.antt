@@ -1,4 +1,5 @@
--- What the two writers do, over plain lists: each judgement in turn, then the write. Assumes nothing.
+-- What the two writers do, over plain lists: each judgement in turn, then the write.
+-- Assumes nothing.
 use Prim.Native.Nat.{ℕ, _+_, _≤_, _<_}
 use mathlib.Core.Path.{_≡_, sym}
 use mathlib.Core.Bool.{Bool, true, false, not}

@@ -1,4 +1,5 @@
--- How long a sheet is at most, so that the room that the program lends always suffices: 11 is never its answer. Assumes nothing.
+-- How long a sheet is at most, so that the room that the program lends always suffices: 11 is never
+-- its answer. Assumes nothing.
 use mathlib.Core.Path.{_≡_, sym, ap}
 use mathlib.Core.List.{List}
 use Prim.Native.Nat.{ℕ, zero, suc, _*_, _≤_, _<_}

@@ -1,4 +1,5 @@
--- What is read back: each line of a sheet is one line, and a scan's text is its page's frame. Assumes nothing.
+-- What is read back: each line of a sheet is one line, and a scan's text is its page's frame.
+-- Assumes nothing.
 use mathlib.Core.Path.{_≡_, refl, sym, ap, _∙_}
 use mathlib.Core.Bool.{Bool, true, false}
 use mathlib.Core.List.{List, [], _∷_, _++_, map}

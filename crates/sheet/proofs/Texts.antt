@@ -1,4 +1,5 @@
--- A page's text: there is one for each page below the total, of at most 800 characters. Assumes nothing.
+-- A page's text: there is one for each page below the total, of at most 800 characters.
+-- Assumes nothing.
 use mathlib.Core.Path.{_≡_, refl, sym, ap, _∙_}
 use mathlib.Core.Logic.{_⊎_, inl, inr, ⊎-elim}
 use mathlib.Core.List.{List}

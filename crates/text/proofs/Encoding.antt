@@ -1,4 +1,5 @@
--- Writing character by character: what has been written of bytes, and one character more. Assumes nothing.
+-- Writing character by character: what has been written of bytes, and one character more.
+-- Assumes nothing.
 use Prim.Native.Nat.{ℕ, zero, suc, _+_, _-_, _*_, _/_, _%_, _^_, _≤_, _<_}
 use mathlib.Core.Path.{_≡_, refl, sym, ap, _∙_}
 use mathlib.Core.Logic.{_⊎_, ⊎-elim}

@@ -1,4 +1,5 @@
--- The table that a form's definition gives: the sort of each byte. The code's table is held to it by computing both. Assumes nothing.
+-- The table that a form's definition gives: the sort of each byte. The code's table is held to it
+-- by computing both. Assumes nothing.
 use Prim.Native.Nat.{ℕ, zero, suc, _+_, _<_}
 use mathlib.Core.Path.{_≡_, sym, ap, _∙_}
 use mathlib.Core.List.{List, [], _∷_}

@@ -1,5 +1,5 @@
--- Bits go in as digits of a bits and come out as digits of b bits, first bits first: the one law of packing, for both forms
--- and both directions. Assumes nothing.
+-- Bits go in as digits of a bits and come out as digits of b bits, first bits first: the one law of
+-- packing, for both forms and both directions. Assumes nothing.
 use Prim.Native.Nat.{ℕ, _+_, _-_, _*_, _/_, _%_, _^_, _≤_, _<_}
 use mathlib.Core.Path.{_≡_, refl, sym, ap, _∙_}
 use mathlib.Core.List.{List, [], _∷_, _++_}

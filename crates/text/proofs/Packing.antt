@@ -1,4 +1,5 @@
--- Shifts that lose nothing, at the few bits that pass from characters to bytes and back. Assumes nothing.
+-- Shifts that lose nothing, at the few bits that pass from characters to bytes and back.
+-- Assumes nothing.
 use Prim.Native.Nat.{ℕ, _+_, _-_, _*_, _/_, _%_, _^_, _≤_, _<_}
 use mathlib.Core.Path.{_≡_, _∙_}
 use native.Mathlib.Nat.{one-mul, suc-mul, mul-le-mul-right, lt-of-lt-of-le}

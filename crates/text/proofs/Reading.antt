@@ -1,4 +1,5 @@
--- Reading character by character: what has been read of a text, and one character more. Assumes nothing.
+-- Reading character by character: what has been read of a text, and one character more.
+-- Assumes nothing.
 use Prim.Native.Nat.{ℕ, suc, _+_, _-_, _*_, _/_, _^_, _≤_, _<_}
 use mathlib.Core.Path.{_≡_, refl, sym, ap, _∙_}
 use mathlib.Core.Bool.{Bool, true, false}

@@ -27,7 +27,8 @@ size : (w : ℕ) → Narrow w → 2 ^ w ≤ 64
 size w (inl e) = rw e (omega arith)
 size w (inr e) = rw e (omega arith)
 
--- t is whether the character is skipped, u whether it is allowed, x its value and v the table's entry
+-- t is whether the character is skipped, u whether it is allowed, x its value and v the table's
+-- entry
 module _ (t u : Bool) (x v : ℕ) (small : u ≡ true → x < 64) (entry : v ≡ choose t 255 (choose u x 254)) where
   entry-skipped : v ≡ 255 → t ≡ true
   entry-skipped e = go t u small entry

@@ -1,4 +1,5 @@
--- What is written reads back, and what is read was written: one form for each number. Assumes nothing.
+-- What is written reads back, and what is read was written: one form for each number.
+-- Assumes nothing.
 use Prim.Native.Nat.{ℕ, zero, suc, _+_, _-_, _*_, _/_, _%_, _^_, _<_, _≤_}
 use mathlib.Core.Path.{_≡_, refl, sym, ap, ap₂, _∙_}
 use mathlib.Core.Logic.{⊎-elim}

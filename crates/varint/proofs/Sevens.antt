@@ -19,7 +19,8 @@ pub sevens-more : (p n : ℕ) → 128 ≤ n → sevens (suc p) n ≡ (n % 128 + 
 unfolding sevens
 sevens-more p n h = rw (le-ltb n 128 h)
 
--- what holds of a last byte, of a byte that no other may follow, and of a byte before the rest's, holds of every number's bytes
+-- what holds of a last byte, of a byte that no other may follow, and of a byte before the rest's,
+-- holds of every number's bytes
 pub sevens-ind : (P : ℕ → ℕ → List ℕ → Type 0)
     → ((p n : ℕ) → n < 128 → P p n (n ∷ []))
     → ((n : ℕ) → 128 ≤ n → P zero n (n ∷ []))

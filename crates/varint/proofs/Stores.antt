@@ -1,4 +1,5 @@
--- One byte more of a number that is being written: what the loop of `write_fitting` goes by. Assumes nothing.
+-- One byte more of a number that is being written: what the loop of `write_fitting` goes by.
+-- Assumes nothing.
 use Prim.Native.Nat.{ℕ, zero, suc, _+_, _*_, _/_, _%_, _^_, _<_, _≤_}
 use mathlib.Core.Path.{_≡_, refl, sym, ap, _∙_}
 use mathlib.Core.List.{List, [], _∷_}
@@ -14,7 +15,8 @@ use Rattle.varint.proofs.Sevens.{sevens-last, sevens-more}
 over-cons : (i b : ℕ) (bs l : List ℕ) → i + 1 + length bs ≤ length l → over (i + 1) bs (set l i b) ≡ over i (b ∷ bs) l
 over-cons i b bs l h = ap (over (i + 1) bs) (set-over l i b (omega arith)) ∙ over-append i (b ∷ []) bs l (i + 1) refl h
 
--- m is what is left of the number, to be written from index i on in at most `most` + 1 bytes; then the output is as it has to be
+-- m is what is left of the number, to be written from index i on in at most `most` + 1 bytes; then
+-- the output is as it has to be
 pub record Storing (whole out₀ out : List ℕ) (m i : ℕ) : Type 0 where
   pub most : ℕ
   pub bound : m < 2 * 128 ^ most

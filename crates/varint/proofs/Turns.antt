@@ -1,4 +1,5 @@
--- One byte more of a number that is being read: what `read` and the loop of `read_later` go by. Assumes nothing.
+-- One byte more of a number that is being read: what `read` and the loop of `read_later` go by.
+-- Assumes nothing.
 use Prim.Native.Nat.{ℕ, suc, _+_, _-_, _*_, _%_, _^_, _<_, _≤_}
 use mathlib.Core.Path.{_≡_, refl, sym, ap, _∙_}
 use mathlib.Core.List.{List}

@@ -1,4 +1,5 @@
--- Two tests at once, from each of them; the ruleset `tests` lets `search` pick the case of a definition. Assumes nothing.
+-- Two tests at once, from each of them; the ruleset `tests` lets `search` pick the case of a
+-- definition. Assumes nothing.
 use mathlib.Core.Path.{_≡_, refl}
 use mathlib.Core.Bool.{Bool, true, false, _&&_}
 use borrow.Author.Tests.{lt-ltb, le-ltb, le-leb, lt-leb, eq-eqb, ne-eqb}

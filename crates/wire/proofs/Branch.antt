@@ -1,4 +1,5 @@
--- For `search`: a test whose answer is known picks its case of `choose`, also under `then`, and an answer that is known its step of a chain. Assumes nothing.
+-- For `search`: a test whose answer is known picks its case of `choose`, also under `then`, and an
+-- answer that is known its step of a chain. Assumes nothing.
 use Prim.Native.Nat.{ℕ}
 use mathlib.Core.Path.{_≡_}
 use mathlib.Core.Bool.{Bool, true, false, _&&_, _||_}
@@ -35,7 +36,8 @@ or-off t u r e h = rw e h
 
 pub ruleset tests = (and-on, and-off, or-on, or-off, flag, not-true, not-false, le-leb, lt-leb, eq-eqb, ne-eqb)
 
--- one step of a chain, for every answer enum E: told reads it, g is what a call's contract says, r what it answered, n the number that the code took from r
+-- one step of a chain, for every answer enum E: told reads it, g is what a call's contract says, r
+-- what it answered, n the number that the code took from r
 module _ {A B E : Type 0} (told : E → Answer A) (g : Answer A) (f : A → Answer B) where
   -- it is done, and the chain goes on
   pub go : (r x : E) (y : Answer B) → told r ≡ g → r ≡ x → y ≡ then (told x) f → y ≡ then g f

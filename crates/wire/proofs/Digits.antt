@@ -1,4 +1,5 @@
--- Laws of digits: how many there are, that they say the number, and that there is one way to say it. Assumes nothing.
+-- Laws of digits: how many there are, that they say the number, and that there is one way to say
+-- it. Assumes nothing.
 use mathlib.Core.Path.{_≡_, refl, sym, ap, _∙_}
 use mathlib.Core.List.{List, [], _∷_, _++_}
 use mathlib.Core.Logic.{_⊎_, inl, inr, ⊎-elim}

@@ -95,11 +95,13 @@ over-next at s l i h f =
     over-snoc at (take i s) l (at + i) (getD s i 0) (omega arith) (omega arith)
     ∙ ap (λ (r : List ℕ). over at r l) (sym (take-suc s i 0 h) ∙ ap (λ (k : ℕ). take k s) (sym (add-one i)))
 
--- one more write in a run of writes: x is l with `done` written from at on, and y is x with bs written where that ended
+-- one more write in a run of writes: x is l with `done` written from at on, and y is x with bs
+-- written where that ended
 pub over-then : (at n : ℕ) (done bs l x y : List ℕ) → y ≡ over n bs x → x ≡ over at done l → n ≡ at + length done → n + length bs ≤ length l → y ≡ over at (done ++ bs) l
 over-then at n done bs l x y e f g h = e ∙ ap (over n bs) f ∙ over-append at done bs l n g h
 
--- a run of writes, with how much is written so far: the lengths go along, so that nothing has to be rewritten by `length-append`
+-- a run of writes, with how much is written so far: the lengths go along, so that nothing has to be
+-- rewritten by `length-append`
 pub over-run : (at m n k : ℕ) (done bs l x y : List ℕ) → y ≡ over m bs x → (x ≡ over at done l) × (length done ≡ n) → length bs ≡ k → m ≡ at + n → m + k ≤ length l
     → (y ≡ over at (done ++ bs) l) × (length (done ++ bs) ≡ n + k)
 over-run at m n k done bs l x y e (f, g) b h t =

@@ -1,4 +1,5 @@
--- Which refusals have no place: one that a rule makes without naming one, and so a chain of such rules. For `search`. Assumes nothing.
+-- Which refusals have no place: one that a rule makes without naming one, and so a chain of such
+-- rules. For `search`. Assumes nothing.
 use Prim.Native.Nat.{ℕ}
 use mathlib.Core.Path.{_≡_, refl, sym, ap₂}
 use mathlib.Core.Bool.{Bool, true, false}

@@ -1,4 +1,5 @@
--- A form stands at a position of the input: how such facts are had, joined and taken apart. Assumes nothing.
+-- A form stands at a position of the input: how such facts are had, joined and taken apart.
+-- Assumes nothing.
 use Prim.Native.Nat.{ℕ, suc, _+_, _-_, _≤_, _<_}
 use mathlib.Core.Path.{_≡_, refl, sym, ap, _∙_}
 use mathlib.Core.List.{List, [], _∷_, _++_, append-assoc, append-nil}

@@ -1,4 +1,5 @@
--- `auth::claim` meets its contract: the map's head and three fields, one after the other. Assumes nothing.
+-- `auth::claim` meets its contract: the map's head and three fields, one after the other.
+-- Assumes nothing.
 use Rattle.auth.specs.Auth.{claimAt}
 use Rattle.cbor.proofs.Answers.{chain}
 use borrow.Author.Needs.{needs}

@@ -1,4 +1,5 @@
--- `blake2b::blake2b` meets its contract. The message's own blocks but the last, and then the padded one, are those of the padded message. Assumes nothing.
+-- `blake2b::blake2b` meets its contract. The message's own blocks but the last, and then the padded
+-- one, are those of the padded message. Assumes nothing.
 use mathlib.Core.Bool.{true}
 use mathlib.Core.List.{List}
 use mathlib.Core.Path.{ap, ap₂, _∙_}

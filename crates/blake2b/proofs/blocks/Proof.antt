@@ -1,4 +1,5 @@
--- `blake2b::blocks` meets its contract. The loop's invariant: the state is that after the first k blocks. Assumes nothing.
+-- `blake2b::blocks` meets its contract. The loop's invariant: the state is that after the first k
+-- blocks. Assumes nothing.
 use mathlib.Core.Path.{_≡_, refl}
 use Prim.Native.Nat.{_≤_, _-_}
 use native.Mathlib.Numerals.{add-one}

@@ -1,4 +1,5 @@
--- `blake2b::compress` meets its contract. The code's table is the table of the definition. Assumes nothing.
+-- `blake2b::compress` meets its contract. The code's table is the table of the definition.
+-- Assumes nothing.
 use mathlib.Core.Path.{refl}
 use borrow.Author.Needs.{needs}
 use Rattle.blake2b.specs.Blake2b.{sigma, F}

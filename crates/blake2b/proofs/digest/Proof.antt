@@ -1,4 +1,5 @@
--- `blake2b::digest` meets its contract. The loop's invariant: the first i bytes are those of the words, the lowest first. Assumes nothing.
+-- `blake2b::digest` meets its contract. The loop's invariant: the first i bytes are those of the
+-- words, the lowest first. Assumes nothing.
 use mathlib.Core.Path.{_≡_, refl, sym, _∙_}
 use Prim.Native.Nat.{_≤_, _-_}
 use native.Mathlib.Omega.{arith}

@@ -1,4 +1,5 @@
--- `blake2b::fold` meets its contract. The loop's invariant: the first i words are those of the definition. Assumes nothing.
+-- `blake2b::fold` meets its contract. The loop's invariant: the first i words are those of the
+-- definition. Assumes nothing.
 use mathlib.Core.List.{List}
 use mathlib.Core.Path.{_≡_, refl}
 use Prim.Native.Nat.{ℕ, _≤_, _+_, _-_}

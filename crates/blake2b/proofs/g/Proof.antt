@@ -1,4 +1,5 @@
--- `blake2b::g` meets its contract. Each of the eight lines is a step on the vector that the line before it left. Assumes nothing.
+-- `blake2b::g` meets its contract. Each of the eight lines is a step on the vector that the line
+-- before it left. Assumes nothing.
 use mathlib.Core.Path.{refl}
 use borrow.Author.Needs.{needs}
 use Rattle.blake2b.specs.Blake2b.{G}

@@ -1,4 +1,5 @@
--- `blake2b::join` meets its contract. A list of eight is the vector of its elements. Assumes nothing.
+-- `blake2b::join` meets its contract. A list of eight is the vector of its elements.
+-- Assumes nothing.
 use mathlib.Core.List.{_++_}
 use mathlib.Core.Path.{sym, ap₂}
 use mir.Syntax.{w64}

@@ -1,4 +1,5 @@
--- `blake2b::le64` meets its contract. A word is the sum of its eight bytes, each at its weight. Assumes nothing.
+-- `blake2b::le64` meets its contract. A word is the sum of its eight bytes, each at its weight.
+-- Assumes nothing.
 use borrow.Author.Needs.{needs}
 use Rattle.blake2b.proofs.Reading.{word-sum}
 use Rattle.blake2b.proofs.le64.Statement.{statement}

@@ -1,4 +1,5 @@
--- `blake2b::plus` meets its contract. The sum wraps as the standard library's does. Assumes nothing.
+-- `blake2b::plus` meets its contract. The sum wraps as the standard library's does.
+-- Assumes nothing.
 use borrow.Author.Needs.{needs}
 use Rattle.bits.specs.Word.{plus}
 use Rattle.blake2b.proofs.plus.Statement.{statement}

@@ -1,4 +1,5 @@
--- `blake2b::round` meets its contract. Each of the eight lines is a G on the vector that the line before it left. Assumes nothing.
+-- `blake2b::round` meets its contract. Each of the eight lines is a G on the vector that the line
+-- before it left. Assumes nothing.
 use mathlib.Core.List.{List}
 use mathlib.Core.Path.{refl}
 use Prim.Native.Nat.{ℕ}

@@ -1,4 +1,5 @@
--- `blake2b::rounds` meets its contract. The loop's invariant: the vector is that after the first r rounds. Assumes nothing.
+-- `blake2b::rounds` meets its contract. The loop's invariant: the vector is that after the first r
+-- rounds. Assumes nothing.
 use mathlib.Core.Path.{_≡_, refl}
 use Prim.Native.Nat.{_≤_, _-_}
 use native.Mathlib.Numerals.{add-one}

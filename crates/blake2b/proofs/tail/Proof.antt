@@ -1,4 +1,5 @@
--- `blake2b::tail` meets its contract. The loop's invariant: the first j bytes are copied, and zeros stand behind them. Assumes nothing.
+-- `blake2b::tail` meets its contract. The loop's invariant: the first j bytes are copied, and zeros
+-- stand behind them. Assumes nothing.
 use mathlib.Core.List.{List, _++_}
 use mathlib.Core.Path.{_≡_, refl, sym, ap, _∙_}
 use Prim.Native.Nat.{ℕ, _≤_, _<_, _+_, _-_}

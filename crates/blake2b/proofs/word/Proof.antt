@@ -1,4 +1,5 @@
--- `blake2b::word` meets its contract. Every entry of the table is below 16, by the table's rule. Assumes nothing.
+-- `blake2b::word` meets its contract. Every entry of the table is below 16, by the table's rule.
+-- Assumes nothing.
 use mathlib.Core.List.{List, []}
 use mathlib.Core.Path.{_≡_}
 use Prim.Native.Nat.{ℕ, _<_}

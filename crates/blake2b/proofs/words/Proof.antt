@@ -1,4 +1,5 @@
--- `blake2b::words` meets its contract. The loop's invariant: the first i words are those of the definition. Assumes nothing.
+-- `blake2b::words` meets its contract. The loop's invariant: the first i words are those of the
+-- definition. Assumes nothing.
 use mathlib.Core.Path.{_≡_, refl}
 use Prim.Native.Nat.{_≤_, _+_, _*_, _-_}
 use native.Mathlib.Omega.{arith}

@@ -1,4 +1,5 @@
--- `block::contents` meets its contract: what the length says of the 480 bytes of data, where the state is 1. Assumes nothing.
+-- `block::contents` meets its contract: what the length says of the 480 bytes of data, where the
+-- state is 1. Assumes nothing.
 use borrow.Author.Needs.{needs}
 use Rattle.block.proofs.Reading.{data-none, data-other, data-cut, data-whole}
 use Rattle.block.proofs.contents.Statement.{statement}

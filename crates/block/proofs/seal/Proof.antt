@@ -1,4 +1,5 @@
--- `block::seal` meets its contract: the sum of what stands there is put behind it; without room for the block nothing changes. Assumes nothing.
+-- `block::seal` meets its contract: the sum of what stands there is put behind it; without room for
+-- the block nothing changes. Assumes nothing.
 use native.Mathlib.Omega.{arith}
 use borrow.Author.Needs.{needs}
 use Rattle.block.proofs.Writing.{sum-out, sum-laid}

@@ -1,4 +1,5 @@
--- `block::well_formed` meets its contract: the block is written anew from what it says, and compared. Assumes nothing.
+-- `block::well_formed` meets its contract: the block is written anew from what it says, and
+-- compared. Assumes nothing.
 use borrow.Author.Needs.{needs}
 use Rattle.block.proofs.Reading.{ok-id, ok-again}
 use Rattle.block.proofs.well_formed.Statement.{statement}

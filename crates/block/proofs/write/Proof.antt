@@ -1,4 +1,5 @@
--- `block::write` meets its contract: all before the sum, then the sum; nothing where there is no such block or no room. Assumes nothing.
+-- `block::write` meets its contract: all before the sum, then the sum; nothing where there is no
+-- such block or no room. Assumes nothing.
 use borrow.Author.Needs.{needs}
 use Rattle.block.proofs.Writing.{write-id, write-long, write-short, write-far, write-done}
 use Rattle.block.proofs.write.Statement.{statement}

@@ -1,4 +1,5 @@
--- `book::blank` meets its contract. The loop's invariant: the pages passed are absent, and nothing else has changed. Assumes nothing.
+-- `book::blank` meets its contract. The loop's invariant: the pages passed are absent, and nothing
+-- else has changed. Assumes nothing.
 use Prim.Native.Nat.{_-_}
 use native.Mathlib.Omega.{arith}
 use borrow.Author.Needs.{needs}

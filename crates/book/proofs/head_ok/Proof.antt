@@ -1,4 +1,5 @@
--- `book::head_ok` meets its contract: the head is written anew from what it says, and compared. Assumes nothing.
+-- `book::head_ok` meets its contract: the head is written anew from what it says, and compared.
+-- Assumes nothing.
 use borrow.Author.Needs.{needs}
 use native.Mathlib.Omega.{arith}
 use borrow.Author.Tests.{not-true, not-false}

@@ -1,4 +1,5 @@
--- `book::judge` meets its contract. The loop's invariant: the blocks passed are well formed, and the rest decides. Assumes nothing.
+-- `book::judge` meets its contract. The loop's invariant: the blocks passed are well formed, and
+-- the rest decides. Assumes nothing.
 use Prim.Native.Nat.{_-_}
 use native.Mathlib.Omega.{arith}
 use borrow.Author.Tests.{not-true, not-false}

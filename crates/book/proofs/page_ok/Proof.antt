@@ -1,4 +1,5 @@
--- `book::page_ok` meets its contract: from the total on a page must be absent, and any block well formed. Assumes nothing.
+-- `book::page_ok` meets its contract: from the total on a page must be absent, and any block well
+-- formed. Assumes nothing.
 use borrow.Author.Needs.{needs}
 use mathlib.Core.Logic.{⊎-elim}
 use Rattle.book.proofs.Judging.{at-past, at-absent, at-within}

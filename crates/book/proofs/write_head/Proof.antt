@@ -1,4 +1,5 @@
--- `book::write_head` meets its contract: all before the sum, then the sum; nothing where the id or the room does not suffice. Assumes nothing.
+-- `book::write_head` meets its contract: all before the sum, then the sum; nothing where the id or
+-- the room does not suffice. Assumes nothing.
 use borrow.Author.Needs.{needs}
 use Rattle.book.proofs.Heads.{head-id, head-short, head-done}
 use Rattle.book.proofs.write_head.Statement.{statement}

@@ -1,4 +1,5 @@
--- `collection::join` meets its contract: each is judged, then 12, then the two are joined. Assumes nothing.
+-- `collection::join` meets its contract: each is judged, then 12, then the two are joined.
+-- Assumes nothing.
 use borrow.Author.Needs.{needs}
 use borrow.Author.Tests.{not-true, not-false}
 use Rattle.collection.proofs.Calls.{passed-of, same-id, join-bad, join-other-bad, join-two, join-done}

@@ -1,4 +1,5 @@
--- `collection::offer` meets its contract: the collection is judged, then the frame, then the page is taken. Assumes nothing.
+-- `collection::offer` meets its contract: the collection is judged, then the frame, then the page
+-- is taken. Assumes nothing.
 use borrow.Author.Needs.{needs}
 use native.Mathlib.Omega.{arith}
 use Rattle.collection.proofs.Calls.{passed-of, offer-bad, offer-refused, offer-done}

@@ -1,4 +1,5 @@
--- `collection::open` meets its contract: the id, the size, then the empty collection. Assumes nothing.
+-- `collection::open` meets its contract: the id, the size, then the empty collection.
+-- Assumes nothing.
 use borrow.Author.Needs.{needs}
 use Rattle.collection.proofs.Calls.{open-id, open-size, open-done}
 use Rattle.collection.proofs.open.Statement.{statement}

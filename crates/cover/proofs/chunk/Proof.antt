@@ -1,4 +1,5 @@
--- `cover::chunk` meets its contract: what the varint reader answered picks its case, and then what is left of the input. Assumes nothing.
+-- `cover::chunk` meets its contract: what the varint reader answered picks its case, and then what
+-- is left of the input. Assumes nothing.
 use native.Mathlib.Omega.{arith}
 use Rattle.cover.specs.Cover.{chunkAt}
 use Rattle.cover.proofs.Chain.{chain, length-within, chunk-cut, chunk-stands}

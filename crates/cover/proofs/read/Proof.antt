@@ -1,4 +1,5 @@
--- `cover::read` meets its contract: what each field answered picks its case of the chain. Assumes nothing.
+-- `cover::read` meets its contract: what each field answered picks its case of the chain.
+-- Assumes nothing.
 use native.Mathlib.Omega.{arith}
 use Rattle.cover.specs.Cover.{coverAt}
 use Rattle.cover.proofs.Chain.{chain, chunk-within}

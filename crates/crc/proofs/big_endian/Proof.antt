@@ -1,4 +1,5 @@
--- `crc::big_endian` meets its contract: shifts and remainders are the digits of base 256. Assumes nothing.
+-- `crc::big_endian` meets its contract: shifts and remainders are the digits of base 256.
+-- Assumes nothing.
 use borrow.Author.Needs.{needs}
 use Rattle.crc.proofs.Bytes.{four-bytes}
 use Rattle.crc.proofs.big_endian.Statement.{statement}

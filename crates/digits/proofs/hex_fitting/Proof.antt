@@ -1,4 +1,5 @@
--- `digits::hex_fitting` meets its contract. The loop's invariant: the digits of the bytes passed stand in out. Assumes nothing.
+-- `digits::hex_fitting` meets its contract. The loop's invariant: the digits of the bytes passed
+-- stand in out. Assumes nothing.
 use Prim.Native.Nat.{_-_}
 use lib.ListN.{length}
 use borrow.Author.Needs.{needs}

@@ -1,4 +1,5 @@
--- `digits::hex_read` meets its contract: the length, the digits, the room, and then the bytes. Assumes nothing.
+-- `digits::hex_read` meets its contract: the length, the digits, the room, and then the bytes.
+-- Assumes nothing.
 use borrow.Author.Needs.{needs}
 use Rattle.digits.proofs.Hexes.{digits-all, read-odd, read-other, read-short, read-done}
 use Rattle.digits.proofs.hex_read.Statement.{statement}

@@ -1,4 +1,5 @@
--- `digits::read_fitting` meets its contract. The loop's invariant: the bytes of the digits passed stand in front. Assumes nothing.
+-- `digits::read_fitting` meets its contract. The loop's invariant: the bytes of the digits passed
+-- stand in front. Assumes nothing.
 use Prim.Native.Nat.{_-_, _/_}
 use lib.ListN.{length}
 use borrow.Author.Needs.{needs}

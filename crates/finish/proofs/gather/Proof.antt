@@ -1,4 +1,5 @@
--- `finish::gather` meets its contract. The loop's invariant: the data of the pages passed stand in front. Assumes nothing.
+-- `finish::gather` meets its contract. The loop's invariant: the data of the pages passed stand in
+-- front. Assumes nothing.
 use Prim.Native.Nat.{_-_}
 use native.Mathlib.Omega.{arith}
 use borrow.Author.Needs.{needs}

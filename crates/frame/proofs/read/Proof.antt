@@ -1,4 +1,5 @@
--- `frame::read` meets its contract: what each field answered picks its case of the chain. Assumes nothing.
+-- `frame::read` meets its contract: what each field answered picks its case of the chain.
+-- Assumes nothing.
 use borrow.Author.Needs.{needs}
 use Rattle.frame.specs.Frame.{frameOf}
 use Rattle.frame.proofs.Within.{go-data, numbers-within}

@@ -1,4 +1,5 @@
--- `lend::copy_fitting` meets its contract. The loop's invariant: the first i bytes of src stand in out. Assumes nothing.
+-- `lend::copy_fitting` meets its contract. The loop's invariant: the first i bytes of src stand in
+-- out. Assumes nothing.
 use Prim.Native.Nat.{ℕ, _≤_, _-_, _+_}
 use native.Mathlib.Omega.{arith}
 use mathlib.Core.Path.{_≡_, refl, sym, ap, _∙_}

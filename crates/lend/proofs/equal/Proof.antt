@@ -1,4 +1,5 @@
--- `lend::equal` meets its contract. The loop's invariant: the answer is that of what was seen and of what is left. Assumes nothing.
+-- `lend::equal` meets its contract. The loop's invariant: the answer is that of what was seen and
+-- of what is left. Assumes nothing.
 use Prim.Native.Nat.{_≤_, _-_}
 use native.Mathlib.Omega.{arith}
 use mathlib.Core.Path.{_≡_, refl, sym}

@@ -1,4 +1,5 @@
--- `lend::fill_fitting` meets its contract. The loop's invariant: b stands in out i times. Assumes nothing.
+-- `lend::fill_fitting` meets its contract. The loop's invariant: b stands in out i times.
+-- Assumes nothing.
 use Prim.Native.Nat.{ℕ, _≤_, _-_, _+_}
 use native.Mathlib.Omega.{arith}
 use mathlib.Core.Path.{_≡_, refl, sym, ap, _∙_}

@@ -1,4 +1,5 @@
--- `manifest::read` meets its contract: the size, the head, the seed, the files, the rest. Assumes nothing.
+-- `manifest::read` meets its contract: the size, the head, the seed, the files, the rest.
+-- Assumes nothing.
 use Rattle.manifest.specs.Manifest.{manifestAt}
 use Rattle.manifest.proofs.Answers.{answers}
 use borrow.Author.Needs.{needs}

@@ -1,4 +1,5 @@
--- `manifest::write` meets its contract: the judgement, the room, the write. That the array has 64 files is what owning the parameter tells. Assumes nothing.
+-- `manifest::write` meets its contract: the judgement, the room, the write. That the array has 64
+-- files is what owning the parameter tells. Assumes nothing.
 use lib.ListN.{length-map}
 use Rattle.manifest.proofs.Laying.{write-refused, write-short, write-ready, write-done}
 use borrow.Author.Needs.{needs}

@@ -1,4 +1,5 @@
--- `mark::read` meets its contract: the first two bytes are compared once they are there. Assumes nothing.
+-- `mark::read` meets its contract: the first two bytes are compared once they are there.
+-- Assumes nothing.
 use mathlib.Core.Path.{sym}
 use native.Mathlib.Omega.{arith}
 use lib.ListN.{length}

@@ -1,4 +1,5 @@
--- `mark::version` meets its contract: what the varint reader answered picks its case. Assumes nothing.
+-- `mark::version` meets its contract: what the varint reader answered picks its case.
+-- Assumes nothing.
 use Rattle.mark.specs.Mark.{versionAt}
 use Rattle.wire.proofs.Answers.{reads}
 use borrow.Author.Needs.{needs}

@@ -1,4 +1,5 @@
--- `mend::pages` meets its contract. The loop's invariant: the page blocks passed are mended and counted. Assumes nothing.
+-- `mend::pages` meets its contract. The loop's invariant: the page blocks passed are mended and
+-- counted. Assumes nothing.
 use Prim.Native.Nat.{_-_}
 use mathlib.Core.Path.{sym, _∙_}
 use native.Mathlib.Omega.{arith}

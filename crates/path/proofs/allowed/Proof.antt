@@ -1,4 +1,5 @@
--- `path::allowed` meets its contract: one law of proofs/Verdicts.antt for each return. Assumes nothing.
+-- `path::allowed` meets its contract: one law of proofs/Verdicts.antt for each return.
+-- Assumes nothing.
 use native.Mathlib.Omega.{arith}
 use borrow.Author.Needs.{needs}
 use Rattle.path.proofs.Verdicts.{too-long, not-plain, not-names, zero-decides}

@@ -1,4 +1,5 @@
--- `path::are_names` meets its contract. The loop's invariant: the answer is that of the part at hand and of what is left. Assumes nothing.
+-- `path::are_names` meets its contract. The loop's invariant: the answer is that of the part at
+-- hand and of what is left. Assumes nothing.
 use mathlib.Core.Path.{_≡_, refl}
 use mathlib.Core.Logic.{⊎-elim}
 use Prim.Native.Nat.{_≤_, _-_}

@@ -1,4 +1,5 @@
--- `path::is_name` meets its contract: one law of proofs/Names.antt for each return. Assumes nothing.
+-- `path::is_name` meets its contract: one law of proofs/Names.antt for each return.
+-- Assumes nothing.
 use mathlib.Core.Path.{sym}
 use native.Mathlib.Omega.{arith}
 use borrow.Author.Needs.{needs}

@@ -1,4 +1,5 @@
--- `path::lacks` meets its contract. The loop's invariant: the answer is that of what is left. Assumes nothing.
+-- `path::lacks` meets its contract. The loop's invariant: the answer is that of what is left.
+-- Assumes nothing.
 use mathlib.Core.Path.{_≡_, refl, sym, ap, _∙_}
 use mathlib.Core.Bool.{not}
 use Prim.Native.Nat.{_≤_, _-_}

@@ -1,4 +1,5 @@
--- `path::two_bytes` meets its contract: each test that fails is one that the definition has. Assumes nothing.
+-- `path::two_bytes` meets its contract: each test that fails is one that the definition has.
+-- Assumes nothing.
 use native.Mathlib.Omega.{arith}
 use borrow.Author.Needs.{needs}
 use Rattle.path.specs.Utf8.{outside, leads, follows, joined, twoBytes}

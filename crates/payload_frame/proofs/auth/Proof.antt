@@ -1,4 +1,5 @@
--- `payload_frame::auth` meets its contract: the id and the length, the payload, and then the frame. Assumes nothing.
+-- `payload_frame::auth` meets its contract: the id and the length, the payload, and then the frame.
+-- Assumes nothing.
 use borrow.Author.Needs.{needs}
 use Rattle.payload_frame.proofs.Judging.{faulty, fit-id, no-auth, an-auth}
 use Rattle.payload_frame.proofs.auth.Statement.{statement}

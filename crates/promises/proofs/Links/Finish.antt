@@ -1,4 +1,5 @@
--- From the contracts of `finish` and `mend` in the source to the definitions that the demands cite. Assumes nothing.
+-- From the contracts of `finish` and `mend` in the source to the definitions that the demands cite.
+-- Assumes nothing.
 use denote.Ref.{now}
 use Rattle.wire.specs.Answer.{Kept}
 use Rattle.finish.specs.Finish as finishing

@@ -1,4 +1,5 @@
--- From the contracts of `status` in the source to the definitions that the demands cite. Assumes nothing.
+-- From the contracts of `status` in the source to the definitions that the demands cite.
+-- Assumes nothing.
 use denote.Ref.{now}
 use Rattle.wire.specs.Answer.{done}
 use Rattle.wire.specs.Writing.{Written}

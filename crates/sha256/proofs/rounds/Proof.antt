@@ -1,4 +1,5 @@
--- `sha256::rounds` meets its contract: the first t rounds are done, and a turn does the next. The table that is lent is the standard's.
+-- `sha256::rounds` meets its contract: the first t rounds are done, and a turn does the next. The
+-- table that is lent is the standard's.
 use mathlib.Core.Path.{_≡_, refl}
 use Prim.Native.Nat.{_≤_, _-_}
 use native.Mathlib.Numerals.{add-one}

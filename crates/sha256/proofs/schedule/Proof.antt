@@ -1,4 +1,5 @@
--- `sha256::schedule` meets its contract: the schedule's first t words stand, and a turn adds the next.
+-- `sha256::schedule` meets its contract: the schedule's first t words stand, and a turn adds the
+-- next.
 use mathlib.Core.Path.{_≡_, sym, _∙_}
 use Prim.Native.Nat.{_≤_, _-_}
 use native.Mathlib.Omega.{arith}

@@ -1,4 +1,5 @@
--- `sha256::sha256` meets its contract: the blocks of the message where it stands, then those of the padded rest.
+-- `sha256::sha256` meets its contract: the blocks of the message where it stands, then those of the
+-- padded rest.
 use borrow.Author.Needs.{needs}
 use native.Mathlib.Omega.{arith}
 use lib.ListN.{length}

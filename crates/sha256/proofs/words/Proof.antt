@@ -1,4 +1,5 @@
--- `sha256::words` meets its contract: the schedule's first t words stand, and a turn adds the block's word t.
+-- `sha256::words` meets its contract: the schedule's first t words stand, and a turn adds the
+-- block's word t.
 use mathlib.Core.Path.{_≡_, refl}
 use Prim.Native.Nat.{_≤_, _-_}
 use native.Mathlib.Omega.{arith}

@@ -1,4 +1,5 @@
--- `sheet::lay` meets its contract. The loop's invariant: the lines of the pages passed stand behind the id. Assumes nothing.
+-- `sheet::lay` meets its contract. The loop's invariant: the lines of the pages passed stand behind
+-- the id. Assumes nothing.
 use Prim.Native.Nat.{_-_}
 use borrow.Author.Needs.{needs}
 use Rattle.sheet.proofs.Sheets.{Stacked, stacked-none, stacked-room, stacked-on, stacked-end}

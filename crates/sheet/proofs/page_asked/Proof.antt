@@ -1,4 +1,5 @@
--- `sheet::page_asked` meets its contract. The loop's invariant: the whole answer is what the rest of the word says from here. Assumes nothing.
+-- `sheet::page_asked` meets its contract. The loop's invariant: the whole answer is what the rest
+-- of the word says from here. Assumes nothing.
 use Prim.Native.Nat.{_-_}
 use borrow.Author.Needs.{needs}
 use lib.ListN.{length}

@@ -1,4 +1,5 @@
--- `text::base64_read` meets its contract: its table is the definition's, by computing both. Assumes nothing.
+-- `text::base64_read` meets its contract: its table is the definition's, by computing both.
+-- Assumes nothing.
 use mathlib.Core.Path.{refl}
 use mathlib.Core.Logic.{inr}
 use borrow.Author.Needs.{needs}

@@ -1,4 +1,5 @@
--- `text::zbase32_read` meets its contract: its table is the definition's, by computing both. Assumes nothing.
+-- `text::zbase32_read` meets its contract: its table is the definition's, by computing both.
+-- Assumes nothing.
 use mathlib.Core.Path.{refl}
 use mathlib.Core.Logic.{inl}
 use borrow.Author.Needs.{needs}

@@ -1,4 +1,5 @@
--- `varint::read_later` meets its contract. The loop's invariant: the whole answer is what the bytes from i on add to n. Assumes nothing.
+-- `varint::read_later` meets its contract. The loop's invariant: the whole answer is what the bytes
+-- from i on add to n. Assumes nothing.
 use Prim.Native.Nat.{_-_}
 use borrow.Author.Needs.{needs}
 use lib.ListN.{length, drop}

@@ -1,4 +1,5 @@
--- `varint::size` meets its contract: the leading zeros give the length that sevens have. Assumes nothing.
+-- `varint::size` meets its contract: the leading zeros give the length that sevens have.
+-- Assumes nothing.
 use mathlib.Core.Path.{sym}
 use native.Mathlib.Omega.{arith}
 use borrow.Author.Needs.{needs}

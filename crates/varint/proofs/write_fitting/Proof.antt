@@ -1,4 +1,5 @@
--- `varint::write_fitting` meets its contract. The loop's invariant: with the bytes of m from i on the output is as it has to be. Assumes nothing.
+-- `varint::write_fitting` meets its contract. The loop's invariant: with the bytes of m from i on
+-- the output is as it has to be. Assumes nothing.
 use borrow.Author.Needs.{needs}
 use Rattle.wire.specs.Over.{over}
 use Rattle.varint.specs.Varint.{varint}

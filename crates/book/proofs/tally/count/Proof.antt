@@ -1,4 +1,5 @@
--- `book::tally::count` meets its contract. The loop's invariant: so many of the pages passed are in the state. Assumes nothing.
+-- `book::tally::count` meets its contract. The loop's invariant: so many of the pages passed are in
+-- the state. Assumes nothing.
 use Prim.Native.Nat.{_-_}
 use native.Mathlib.Omega.{arith}
 use borrow.Author.Needs.{needs}

@@ -1,4 +1,5 @@
--- `book::tally::lowest` meets its contract. The loop's invariant: no page passed is in the state. Assumes nothing.
+-- `book::tally::lowest` meets its contract. The loop's invariant: no page passed is in the state.
+-- Assumes nothing.
 use Prim.Native.Nat.{_-_}
 use native.Mathlib.Omega.{arith}
 use borrow.Author.Needs.{needs}

@@ -1,4 +1,5 @@
--- `cbor::read::big_endian` meets its contract. The loop's invariant: n is the number in the first i bytes. Assumes nothing.
+-- `cbor::read::big_endian` meets its contract. The loop's invariant: n is the number in the first i
+-- bytes. Assumes nothing.
 use borrow.Author.Needs.{needs}
 use Prim.Native.Nat.{_-_}
 use Rattle.cbor.proofs.Counting.{Counting, count-none, count-more, product-fits, sum-fits, count-all}

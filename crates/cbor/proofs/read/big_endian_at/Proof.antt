@@ -1,4 +1,5 @@
--- `cbor::read::big_endian_at` meets its contract: the bytes are there, or the input ends before. Assumes nothing.
+-- `cbor::read::big_endian_at` meets its contract: the bytes are there, or the input ends before.
+-- Assumes nothing.
 use native.Mathlib.Omega.{arith}
 use Rattle.cbor.proofs.Within.{number-there, number-cut}
 use borrow.Author.Needs.{needs}

@@ -1,4 +1,5 @@
--- `cbor::read::contents` meets its contract: the bytes are there, or the input ends before. Assumes nothing.
+-- `cbor::read::contents` meets its contract: the bytes are there, or the input ends before.
+-- Assumes nothing.
 use native.Mathlib.Omega.{arith}
 use Rattle.cbor.proofs.Within.{contents-there, contents-cut}
 use borrow.Author.Needs.{needs}

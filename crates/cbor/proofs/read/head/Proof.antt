@@ -1,4 +1,5 @@
--- `cbor::read::head` meets its contract: each return is where its tests and its calls led. Assumes nothing.
+-- `cbor::read::head` meets its contract: each return is where its tests and its calls led.
+-- Assumes nothing.
 use Rattle.cbor.proofs.Answers.{chain, answered, differed}
 use Rattle.cbor.specs.Item.{headAt}
 use borrow.Author.Needs.{needs}

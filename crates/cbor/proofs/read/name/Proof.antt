@@ -1,4 +1,5 @@
--- `cbor::read::name` meets its contract: the bytes are there and the same, or there and others, or the input ends before. Assumes nothing.
+-- `cbor::read::name` meets its contract: the bytes are there and the same, or there and others, or
+-- the input ends before. Assumes nothing.
 use native.Mathlib.Omega.{arith}
 use Rattle.cbor.proofs.Within.{name-cut, name-there, name-other}
 use borrow.Author.Needs.{needs}

@@ -1,4 +1,5 @@
--- `cbor::read::number` meets its contract: each return is where its tests and its call led. Assumes nothing.
+-- `cbor::read::number` meets its contract: each return is where its tests and its call led.
+-- Assumes nothing.
 use Rattle.cbor.specs.Item.{numberAt}
 use Rattle.cbor.proofs.Answers.{chain}
 use borrow.Author.Needs.{needs}

@@ -1,4 +1,5 @@
--- `cbor::write::big_endian` meets its contract. The loop's invariant: the first i bytes stand in out. Assumes nothing.
+-- `cbor::write::big_endian` meets its contract. The loop's invariant: the first i bytes stand in
+-- out. Assumes nothing.
 use borrow.Author.Needs.{needs}
 use Prim.Native.Nat.{_-_}
 use Rattle.cbor.proofs.Storing.{Storing, store-none, store-more, store-all}

@@ -1,4 +1,5 @@
--- `merge::collecting` meets its contract, for the states of the head that is written. Assumes nothing.
+-- `merge::collecting` meets its contract, for the states of the head that is written.
+-- Assumes nothing.
 use borrow.Author.Needs.{needs}
 use Rattle.collection.proofs.Merging.{ours-disagree, totalled-of, totalled-one, totalled-merged, both-two}
 use Rattle.collection.proofs.Taking.{of-state}

@@ -1,4 +1,5 @@
--- `merge::pages` meets its contract. The loop's invariant: the first k pages are joined, and the rest is as it was. Assumes nothing.
+-- `merge::pages` meets its contract. The loop's invariant: the first k pages are joined, and the
+-- rest is as it was. Assumes nothing.
 use Prim.Native.Nat.{_-_}
 use native.Mathlib.Omega.{arith}
 use borrow.Author.Needs.{needs}

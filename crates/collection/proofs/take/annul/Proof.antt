@@ -1,4 +1,5 @@
--- `take::annul` meets its contract. The loop's invariant: the first k pages are absent, and the rest is as it was. Assumes nothing.
+-- `take::annul` meets its contract. The loop's invariant: the first k pages are absent, and the
+-- rest is as it was. Assumes nothing.
 use Prim.Native.Nat.{_-_}
 use native.Mathlib.Omega.{arith}
 use borrow.Author.Needs.{needs}

@@ -1,4 +1,5 @@
--- `take::good_page` meets its contract: the frame's own refusal, then the type and the id. A frame that is read fits the casts. Assumes nothing.
+-- `take::good_page` meets its contract: the frame's own refusal, then the type and the id. A frame
+-- that is read fits the casts. Assumes nothing.
 use native.Mathlib.Omega.{arith}
 use borrow.Author.Tests.{not-true, not-false}
 use borrow.Author.Needs.{needs}

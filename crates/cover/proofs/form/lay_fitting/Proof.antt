@@ -1,4 +1,5 @@
--- `cover::form::lay_fitting` meets its contract: each part starts where the one before it ended. Assumes nothing.
+-- `cover::form::lay_fitting` meets its contract: each part starts where the one before it ended.
+-- Assumes nothing.
 use native.Mathlib.Omega.{arith}
 use Rattle.cover.proofs.Laying.{cover-length, cover-laid}
 use borrow.Author.Needs.{needs}

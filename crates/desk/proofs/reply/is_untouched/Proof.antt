@@ -1,4 +1,5 @@
--- The answer is that of the bytes that are left: `lend`'s laws of `same`, at a list of one repeated byte. Assumes nothing.
+-- The answer is that of the bytes that are left: `lend`'s laws of `same`, at a list of one repeated
+-- byte. Assumes nothing.
 use mathlib.Core.Path.{_≡_, refl, sym, _∙_}
 use mathlib.Core.Bool.{true, false}
 use mathlib.Core.List.{List}

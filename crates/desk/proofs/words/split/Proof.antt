@@ -1,4 +1,5 @@
--- Safe and ending: the index stays within the line, what is left of it falls, and the table keeps its length.
+-- Safe and ending: the index stays within the line, what is left of it falls, and the table keeps
+-- its length.
 use mathlib.Core.Path.{_≡_}
 use Prim.Native.Nat.{_≤_, _-_}
 use borrow.Author.Needs.{needs}

@@ -1,4 +1,5 @@
--- Safe and ending: each row ends at or behind its start, so what is left of the table falls; there are no more rows than bytes.
+-- Safe and ending: each row ends at or behind its start, so what is left of the table falls; there
+-- are no more rows than bytes.
 use Prim.Native.Nat.{_≤_, _-_, _+_}
 use borrow.Author.Needs.{needs}
 use lib.ListN.{length}

@@ -1,4 +1,5 @@
--- `entry::read::path_field` meets its contract: the key and the text, the rule, the order. Assumes nothing.
+-- `entry::read::path_field` meets its contract: the key and the text, the rule, the order.
+-- Assumes nothing.
 use Rattle.entry.proofs.Reading.{path-bad, path-low, path-good}
 use Rattle.entry.specs.File.{pathAt}
 use Rattle.cbor.proofs.Answers.{chain}

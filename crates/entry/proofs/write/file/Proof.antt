@@ -1,4 +1,5 @@
--- `entry::write::file` meets its contract: what is refused or does not fit is not written. Assumes nothing.
+-- `entry::write::file` meets its contract: what is refused or does not fit is not written.
+-- Assumes nothing.
 use Rattle.entry.proofs.Writers.{put-refused, put-outside, put-short, file-room, file-put}
 use borrow.Author.Needs.{needs}
 use Rattle.entry.proofs.write.file.Statement.{statement}

@@ -1,4 +1,5 @@
--- `entry::write::judge` meets its contract: each judgement in the order of the keys. Assumes nothing.
+-- `entry::write::judge` meets its contract: each judgement in the order of the keys.
+-- Assumes nothing.
 use Rattle.entry.specs.Writing.{fileVerdict}
 use Rattle.entry.proofs.Verdicts.{verdicts}
 use Rattle.entry.proofs.Writers.{judged-path, judge-done}

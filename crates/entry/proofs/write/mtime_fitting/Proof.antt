@@ -1,4 +1,5 @@
--- `entry::write::mtime_fitting` meets its contract: the key and the value are one write. Assumes nothing.
+-- `entry::write::mtime_fitting` meets its contract: the key and the value are one write.
+-- Assumes nothing.
 use Rattle.entry.proofs.Writers.{null-run, integer-run}
 use borrow.Author.Needs.{needs}
 use Rattle.entry.proofs.write.mtime_fitting.Statement.{statement}

@@ -1,4 +1,5 @@
--- `entry::write::part` meets its contract: all of the place, what is left of it, or nothing. Assumes nothing.
+-- `entry::write::part` meets its contract: all of the place, what is left of it, or nothing.
+-- Assumes nothing.
 use Rattle.entry.proofs.Writers.{part-none, part-rest, part-whole}
 use borrow.Author.Needs.{needs}
 use Rattle.entry.proofs.write.part.Statement.{statement}

@@ -1,4 +1,5 @@
--- `envelope::judge::adds_up` meets its contract. The loop's invariant: the answer is that of the files that are left. Assumes nothing.
+-- `envelope::judge::adds_up` meets its contract. The loop's invariant: the answer is that of the
+-- files that are left. Assumes nothing.
 use Prim.Native.Nat.{_≤_, _-_}
 use lib.ListN.{take}
 use Rattle.envelope.proofs.Loops.{Summing, past-end, summing-none, summing-stop, summing-on, summing-end}

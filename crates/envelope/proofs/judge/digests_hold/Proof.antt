@@ -1,4 +1,5 @@
--- `envelope::judge::digests_hold` meets its contract. The loop's invariant: the answer is that of the files that are left. Assumes nothing.
+-- `envelope::judge::digests_hold` meets its contract. The loop's invariant: the answer is that of
+-- the files that are left. Assumes nothing.
 use Prim.Native.Nat.{_≤_, _-_}
 use lib.ListN.{take}
 use Rattle.envelope.proofs.Loops.{Digesting, past-end, digesting-none, contents-within, within-fits, digesting-stop, digesting-on, digesting-end}

@@ -1,4 +1,5 @@
--- `envelope::judge::parts` meets its contract: the manifest's reader, then the sum, then the digests. Assumes nothing.
+-- `envelope::judge::parts` meets its contract: the manifest's reader, then the sum, then the
+-- digests. Assumes nothing.
 use borrow.Author.Tests.{not-true, not-false}
 use Rattle.envelope.proofs.Judging.{told-listed, judge-refused, count-fits, judge-sum, sum-holds, judge-digests}
 use borrow.Author.Needs.{needs}

@@ -1,4 +1,5 @@
--- `frame::fields::data_and_sum` meets its contract: what is left is the length and four bytes more, and then the sum decides. Assumes nothing.
+-- `frame::fields::data_and_sum` meets its contract: what is left is the length and four bytes more,
+-- and then the sum decides. Assumes nothing.
 use native.Mathlib.Omega.{arith}
 use borrow.Author.Needs.{needs}
 use Rattle.wire.proofs.Cases.{flag}

@@ -1,4 +1,5 @@
--- `frame::fields::numbers` meets its contract: what each varint answered picks its case of the chain. Assumes nothing.
+-- `frame::fields::numbers` meets its contract: what each varint answered picks its case of the
+-- chain. Assumes nothing.
 use borrow.Author.Needs.{needs}
 use Rattle.frame.specs.Frame.{numbersAt}
 use Rattle.frame.proofs.Chain.{chain}

@@ -1,4 +1,5 @@
--- `frame::fields::start` meets its contract: what each field answered picks its case of the chain. Assumes nothing.
+-- `frame::fields::start` meets its contract: what each field answered picks its case of the chain.
+-- Assumes nothing.
 use Rattle.frame.specs.Frame.{startOf}
 use Rattle.frame.proofs.Within.{kind-within}
 use Rattle.frame.proofs.Chain.{chain}

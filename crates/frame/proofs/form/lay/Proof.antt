@@ -1,4 +1,5 @@
--- `frame::form::lay` meets its contract: the room is judged first, and what is summed is what was written. Assumes nothing.
+-- `frame::form::lay` meets its contract: the room is judged first, and what is summed is what was
+-- written. Assumes nothing.
 use native.Mathlib.Omega.{arith}
 use borrow.Author.Needs.{needs}
 use lib.ListN.{length}

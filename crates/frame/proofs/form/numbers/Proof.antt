@@ -1,4 +1,5 @@
--- `frame::form::numbers` meets its contract: each varint starts where the one before it ended. Assumes nothing.
+-- `frame::form::numbers` meets its contract: each varint starts where the one before it ended.
+-- Assumes nothing.
 use native.Mathlib.Omega.{arith}
 use borrow.Author.Needs.{needs}
 use Rattle.frame.proofs.Laying.{numbers-laid}

@@ -1,4 +1,5 @@
--- `frame::form::numbers_size` meets its contract: no varint has more than ten bytes. Assumes nothing.
+-- `frame::form::numbers_size` meets its contract: no varint has more than ten bytes.
+-- Assumes nothing.
 use native.Mathlib.Omega.{arith}
 use borrow.Author.Needs.{needs}
 use Rattle.varint.proofs.Lengths.{varint-length}

@@ -1,4 +1,5 @@
--- `manifest::fields::created_field` meets its contract: the key, then a double or an integer. Assumes nothing.
+-- `manifest::fields::created_field` meets its contract: the key, then a double or an integer.
+-- Assumes nothing.
 use Rattle.manifest.specs.Manifest.{createdAt}
 use Rattle.cbor.proofs.Answers.{chain}
 use borrow.Author.Needs.{needs}

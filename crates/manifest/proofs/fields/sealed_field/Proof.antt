@@ -1,4 +1,5 @@
--- `manifest::fields::sealed_field` meets its contract: the key, the byte, and that it agrees with the seed. Assumes nothing.
+-- `manifest::fields::sealed_field` meets its contract: the key, the byte, and that it agrees with
+-- the seed. Assumes nothing.
 use Rattle.wire.proofs.Cases.{said-no, said-yes}
 use Rattle.manifest.specs.Manifest.{sealedAt}
 use Rattle.cbor.proofs.Answers.{chain}

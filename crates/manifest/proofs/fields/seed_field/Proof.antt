@@ -1,4 +1,5 @@
--- `manifest::fields::seed_field` meets its contract: the key, then null or 32 bytes. Assumes nothing.
+-- `manifest::fields::seed_field` meets its contract: the key, then null or 32 bytes.
+-- Assumes nothing.
 use Rattle.manifest.specs.Manifest.{seedAt}
 use Rattle.cbor.proofs.Answers.{chain}
 use Rattle.cbor.proofs.Only.{any-field-next}

@@ -1,4 +1,5 @@
--- `manifest::files::run` meets its contract. The invariant: the files that are done stand in the array, and the rest of the work is the whole of it. Assumes nothing.
+-- `manifest::files::run` meets its contract. The invariant: the files that are done stand in the
+-- array, and the rest of the work is the whole of it. Assumes nothing.
 use Prim.Native.Nat.{_-_}
 use borrow.Author.Needs.{needs}
 use Rattle.manifest.proofs.Lists.{Reading, read-none, read-no, read-more, read-end}

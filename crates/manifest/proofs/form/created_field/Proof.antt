@@ -1,4 +1,5 @@
--- `manifest::form::created_field` meets its contract: the key and the value are one write. Assumes nothing.
+-- `manifest::form::created_field` meets its contract: the key and the value are one write.
+-- Assumes nothing.
 use Rattle.manifest.proofs.Laying.{integer-run, double-run}
 use borrow.Author.Needs.{needs}
 use Rattle.manifest.proofs.form.created_field.Statement.{statement}

@@ -1,4 +1,5 @@
--- `manifest::form::list` meets its contract. The invariant: the files that are left are judged, and still to be written. Assumes nothing.
+-- `manifest::form::list` meets its contract. The invariant: the files that are left are judged, and
+-- still to be written. Assumes nothing.
 use Prim.Native.Nat.{_-_}
 use borrow.Author.Needs.{needs}
 use Rattle.manifest.proofs.Laying.{Laying, lay-none, lay-more, lay-same, lay-end}

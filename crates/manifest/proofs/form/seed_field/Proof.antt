@@ -1,4 +1,5 @@
--- `manifest::form::seed_field` meets its contract: the key and the value are one write. Assumes nothing.
+-- `manifest::form::seed_field` meets its contract: the key and the value are one write.
+-- Assumes nothing.
 use Rattle.manifest.proofs.Laying.{null-run, bytes-run}
 use borrow.Author.Needs.{needs}
 use Rattle.manifest.proofs.form.seed_field.Statement.{statement}

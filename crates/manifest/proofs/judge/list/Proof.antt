@@ -1,4 +1,5 @@
--- `manifest::judge::list` meets its contract. The invariant: the rest of the judgement is the whole of it. Assumes nothing.
+-- `manifest::judge::list` meets its contract. The invariant: the rest of the judgement is the whole
+-- of it. Assumes nothing.
 use Prim.Native.Nat.{_-_}
 use borrow.Author.Needs.{needs}
 use Rattle.manifest.proofs.Judging.{Judging, judge-none, judge-no, sum-fits, judge-more, judge-end}

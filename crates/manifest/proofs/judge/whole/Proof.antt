@@ -1,4 +1,5 @@
--- `manifest::judge::whole` meets its contract: each judgement in the order of the keys, then the size. Assumes nothing.
+-- `manifest::judge::whole` meets its contract: each judgement in the order of the keys, then the
+-- size. Assumes nothing.
 use Rattle.manifest.specs.Writing.{listed, manifestVerdict}
 use Rattle.entry.proofs.Verdicts.{verdicts}
 use Rattle.wire.proofs.Both.{hold-both, first-fails, second-fails}

@@ -1,4 +1,5 @@
--- `feed` meets its contract. The loop's invariant: what is left of the part is left to do. Assumes nothing.
+-- `feed` meets its contract. The loop's invariant: what is left of the part is left to do.
+-- Assumes nothing.
 use Prim.Native.Nat.{_-_}
 use native.Mathlib.Omega.{arith}
 use lib.ListN.{length}

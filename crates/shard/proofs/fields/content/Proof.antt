@@ -1,4 +1,5 @@
--- `shard::fields::content` meets its contract: three fields, one after the other, and the rule over the last two. Assumes nothing.
+-- `shard::fields::content` meets its contract: three fields, one after the other, and the rule over
+-- the last two. Assumes nothing.
 use borrow.Author.Tests.{not-true, not-false}
 use Rattle.wire.proofs.Cases.{flag}
 use Rattle.cbor.proofs.Answers.{chain}

@@ -1,4 +1,5 @@
--- `shard::fields::kind` meets its contract: key, length and contents, one after the other. Assumes nothing.
+-- `shard::fields::kind` meets its contract: key, length and contents, one after the other.
+-- Assumes nothing.
 use Rattle.cbor.proofs.Answers.{chain}
 use Rattle.shard.proofs.Spans.{span-start, span-end, span-said}
 use Rattle.shard.specs.Shard.{kindAt}

@@ -1,4 +1,5 @@
--- `shard::fields::quorum` meets its contract: three fields, one after the other, and the rules over them. Assumes nothing.
+-- `shard::fields::quorum` meets its contract: three fields, one after the other, and the rules over
+-- them. Assumes nothing.
 use Rattle.cbor.proofs.Answers.{chain}
 use Rattle.shard.specs.Shard.{quorumAt}
 use borrow.Author.Needs.{needs}

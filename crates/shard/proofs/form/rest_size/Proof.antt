@@ -1,4 +1,5 @@
--- `shard::form::rest_size` meets its contract: the lengths of the fields, added up. Assumes nothing.
+-- `shard::form::rest_size` meets its contract: the lengths of the fields, added up.
+-- Assumes nothing.
 use Rattle.shard.proofs.Lengths.{rest-size-at}
 use borrow.Author.Needs.{needs}
 use Rattle.shard.proofs.form.rest_size.Statement.{statement}

@@ -1,4 +1,5 @@
--- `shard::judge::fills` meets its contract: less than the whole, a block too many, or whole blocks or not. Assumes nothing.
+-- `shard::judge::fills` meets its contract: less than the whole, a block too many, or whole blocks
+-- or not. Assumes nothing.
 use Rattle.shard.proofs.Tests.{fills-less, fills-more, fills-whole}
 use Rattle.shard.proofs.judge.fills.Statement.{statement}
 use Rattle.shard.proofs.judge.fills.Tie as tie

@@ -1,4 +1,5 @@
--- `shard::judge::rest_fits` meets its contract: the rule that a test breaks, and all of them at the end. Assumes nothing.
+-- `shard::judge::rest_fits` meets its contract: the rule that a test breaks, and all of them at the
+-- end. Assumes nothing.
 use native.Mathlib.Omega.{arith}
 use Rattle.shard.proofs.Allowed.{rest-no, rest-unknown, rest-unfilled, rest-last}
 use borrow.Author.Needs.{needs}

@@ -1,4 +1,5 @@
--- `text::read::decode` meets its contract. The loop's invariant: the bytes of the first i characters stand in out. Assumes nothing.
+-- `text::read::decode` meets its contract. The loop's invariant: the bytes of the first i
+-- characters stand in out. Assumes nothing.
 use mathlib.Core.Path.{_≡_, sym, ap, _∙_}
 use mathlib.Core.Bool.{true, false, false≢true}
 use mathlib.Core.List.{List, [], _++_}

@@ -1,4 +1,5 @@
--- `text::read::judge` meets its contract. The loop's invariant: the first i characters are read. Assumes nothing.
+-- `text::read::judge` meets its contract. The loop's invariant: the first i characters are read.
+-- Assumes nothing.
 use mathlib.Core.Path.{sym, _∙_}
 use mathlib.Core.List.{List, [], _++_}
 use Prim.Native.Nat.{ℕ, _≤_, _-_}

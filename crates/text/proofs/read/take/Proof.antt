@@ -1,4 +1,5 @@
--- `text::read::take` meets its contract: the table's entry says what the character is. Assumes nothing.
+-- `text::read::take` meets its contract: the table's entry says what the character is.
+-- Assumes nothing.
 use mathlib.Core.Path.{ap, _∙_}
 use native.Mathlib.Omega.{arith}
 use borrow.Author.Needs.{needs}

@@ -1,4 +1,5 @@
--- `text::write::encode` meets its contract. The loop's invariant: j characters stand in out. Assumes nothing.
+-- `text::write::encode` meets its contract. The loop's invariant: j characters stand in out.
+-- Assumes nothing.
 use mathlib.Core.Path.{_≡_, sym, ap, _∙_}
 use mathlib.Core.Logic.{inl, inr}
 use mathlib.Core.List.{List, [], _∷_, _++_, map, map-append}
