@@ -1,4 +1,4 @@
--- The judge's two loops over a manifest's files: what is done, and the rest of the work from there.
+-- The judge's two loops over a manifest's files: after each turn, what is judged and what is left.
 -- Assumes nothing.
 use Prim.Native.Nat.{ℕ, _+_, _-_, _^_, _<_, _≤_}
 use mathlib.Core.Path.{_≡_, refl, sym, ap, _∙_}
