@@ -9,6 +9,7 @@ from definitions import ROOT
 PAPERS = "RULES.md", "DESK.md"
 MADE = os.path.join("docs", "WHERE.md")
 RULE = re.compile(r'^- <a id="(\S+)"></a>\*\*([RD]\d+\.\d+)\*\*', re.MULTILINE)
+SECTION = re.compile(r"^## (\d+) (.+)$", re.MULTILINE)
 SENTENCE = re.compile(r".*?(?:(?<!\.)\.(?= |$)|$)")
 NUMBER = re.compile(r"\b[RD]\d+\.\d+\b")
 # what opens a definition, by the kind of file; its first group is the name
@@ -25,11 +26,22 @@ STORED = ".in", ".out", ".args", ".before", ".after", ".csv", ".pyc"
 Citation = namedtuple("Citation", "rule path name")
 
 
+def written(paper):
+    """The text of a paper."""
+    with open(os.path.join(ROOT, "docs", paper), encoding="utf-8") as file:
+        return file.read()
+
+
+def headings():
+    """The heading of each section, by what the numbers of its rules begin with: `R6.` or `D1.`."""
+    return {f"{paper[0]}{number}.": title for paper in PAPERS for number, title in SECTION.findall(written(paper))}
+
+
 def rules():
     """Each rule: its number, the anchor before it, the paper that has it, and its first
     sentence."""
     for paper in PAPERS:
-        text = open(os.path.join(ROOT, "docs", paper), encoding="utf-8").read()
+        text = written(paper)
         for found in RULE.finditer(text):
             words = " ".join(re.split(r"\n *- |\n#", text[found.end():])[0].split())
             yield found[2], found[1], paper, SENTENCE.match(words)[0]
