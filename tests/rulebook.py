@@ -5,6 +5,7 @@ import re
 from collections import namedtuple
 
 from definitions import ROOT
+from sources import written_files
 
 PAPERS = "RULES.md", "DESK.md"
 MADE = os.path.join("docs", "WHERE.md")
@@ -20,7 +21,7 @@ OPENS = {
 }
 COMMENT = {".antt": "--", ".rt": "//", ".py": "#"}
 # stored runs and the like: bytes that no rule is cited in
-STORED = ".in", ".out", ".args", ".before", ".after", ".csv", ".pyc"
+STORED = ".in", ".out", ".args", ".before", ".after", ".csv"
 # a rule is cited by the file at path, there by what is called name (or by the file as a whole,
 # where that is None)
 Citation = namedtuple("Citation", "rule path name")
@@ -34,7 +35,8 @@ def written(paper):
 
 def headings():
     """The heading of each section, by what the numbers of its rules begin with: `R6.` or `D1.`."""
-    return {f"{paper[0]}{number}.": title for paper in PAPERS for number, title in SECTION.findall(written(paper))}
+    return {f"{paper[0]}{number}.": title
+            for paper in PAPERS for number, title in SECTION.findall(written(paper))}
 
 
 def rules():
@@ -48,16 +50,10 @@ def rules():
 
 
 def prose():
-    """Every text file of the tree that a person wrote, as its path from the root and its lines."""
-    for folder, folders, files in os.walk(ROOT):
-        folders[:] = sorted(name for name in folders if name not in ("target", ".git", "__pycache__", ".library"))
-        for file in sorted(files):
-            path = os.path.join(folder, file)
-            if not file.endswith(STORED) and os.path.islink(path) is False:
-                try:
-                    yield os.path.relpath(path, ROOT), open(path, encoding="utf-8").read().split("\n")
-                except UnicodeDecodeError:
-                    continue
+    """Every text file that a person wrote, as its path from the root and its lines."""
+    for path, text in written_files(ROOT):
+        if not path.endswith(STORED):
+            yield os.path.relpath(path, ROOT), text.split("\n")
 
 
 def kind(path, lines):
@@ -74,8 +70,9 @@ def owner(lines, number, how):
     below = number
     while below < len(lines) and lines[below].lstrip().startswith(mark):
         below += 1
-    if below > number and below < len(lines) and opens.match(lines[below]) and not lines[below].startswith("use "):
-        return opens.match(lines[below])[1]
+    found = opens.match(lines[below]) if number < below < len(lines) else None
+    if found and not lines[below].startswith("use "):
+        return found[1]
     depth = len(lines[number]) - len(lines[number].lstrip())
     for line in reversed(lines[:number]):
         found = opens.match(line) if line and len(line) - len(line.lstrip()) < depth else None

@@ -8,11 +8,24 @@ IN_RATTLE = re.compile(r"(?<![\w:])(\w+)::")
 IN_ANTT = re.compile(r"Rattle·(\w+)\.")
 OWN_MODULE = re.compile(r"^\s*(?:pub )?mod (\w+)", re.MULTILINE)
 KIT = ("io", "libc", "os")
+NOT_OURS = {".git", "target", "__pycache__"}
 PUBLIC = re.compile(r'^\s*pub (?:extern "C" )?fn (\w+)')
 METHODS = re.compile(r"^impl (\w+) \{")
 ANY = re.compile(r'^\s*(?:pub(?:\((?:super|crate)\))? )?(?:extern "C" )?fn (\w+)')
 CALL = re.compile(r"((?:\w+::)*\w+)\(")
 NAMED = re.compile(r"`(\S+?)`")
+
+
+def written_files(root):
+    """Every file of the tree that is text and is not built: its path, and its text."""
+    for folder, folders, names in os.walk(root):
+        folders[:] = sorted(set(folders) - NOT_OURS)
+        for path in (os.path.join(folder, name) for name in sorted(names)):
+            try:
+                with open(path, encoding="utf-8") as file:
+                    yield path, file.read()
+            except (UnicodeDecodeError, OSError):
+                continue
 
 
 def lines_of_crates(root):

@@ -1,4 +1,4 @@
-"""Standard input that cannot be read to its end: nothing is printed but an error (R15.8)."""
+"""Standard input that cannot be read to its end (R15.8, D1.9)."""
 
 import os
 import socket

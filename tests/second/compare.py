@@ -3,8 +3,10 @@
 import subprocess
 from collections import Counter
 
+from unreadable import unreadable
+
 from . import cases
-from .desk import Desk
+from .desk import Desk, answers
 from .verbs import ALL, GIVES
 
 CHUNK_LINES = 2000
@@ -12,6 +14,7 @@ CHUNK_BYTES = 8_000_000
 MOST_SHOWN = 20
 WIDTH = 160
 SECONDS = 1200
+READ = b"varint-write 300 10\ncrc 313233\n"
 
 
 def chunks(blocks):
@@ -127,6 +130,16 @@ def compare_blocks(command, blocks, count, verbs, tell=print, keep=None, called=
     for text in lacking(comparison.counts, called):
         comparison.fault(text, b"")
     return verdict(comparison, count, tell, keep)
+
+
+def unread(command, verbs):
+    """What the desk does otherwise than it must where its input cannot be read on (D1.9). Of these
+    inputs only one gives anything before it fails, and that is answered."""
+    for kind, given in unreadable(READ):
+        done = subprocess.run(command, stdout=subprocess.PIPE, check=False, timeout=SECONDS, **given)
+        due = answers(READ, verbs) if kind == "a reset connection" else b""
+        if done.returncode != 0 or done.stdout != due:
+            yield f"{kind}: the desk ended with {done.returncode}, and printed {done.stdout[:100]!r}"
 
 
 def lacking(counts, called):

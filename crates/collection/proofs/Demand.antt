@@ -112,7 +112,7 @@ among-second [] ys raw a = a
 among-second (x ∷ xs) ys raw a = inr (among-second xs ys raw a)
 
 module _ (id : List ℕ) (eight : length id ≡ 8) where
-  -- any list of byte strings, offered to an empty collection of the document
+  -- whatever raw frames are offered one after another, the first to an empty collection
   pub list-saved : (c : List ℕ) (raws : List (List ℕ)) → length c ≡ 49664 → AllBytes raws → (b : Book) → BookIs (PageAmong id raws) b
       → bytesOf id (offeredAll raws (opened c)) ≡ encode id b
   list-saved c raws size y b m =
@@ -137,7 +137,7 @@ module _ (id : List ℕ) (eight : length id ≡ 8) where
       (λ p a. ⊎-elim (λ n. absurd n) (λ m. from-list id ys (opened d) p (f p m)) (to-list id xs (opened c) p a))
       (λ p a. ⊎-elim (λ n. absurd n) (λ m. from-list id xs (opened c) p (r p m)) (to-list id ys (opened d) p a))
 
-  -- joining two collections built so gives exactly the bytes of one collection of both lists
+  -- to join two such collections is to offer both lists to one
   pub list-joined : (c d e : List ℕ) (xs ys : List (List ℕ)) → length c ≡ 49664 → length d ≡ 49664 → length e ≡ 49664 → AllBytes xs → AllBytes ys
       → bytesOf id (joined (offeredAll xs (opened c)) (offeredAll ys (opened d))) ≡ bytesOf id (offeredAll (xs ++ ys) (opened e))
   list-joined c d e xs ys s t u x y =

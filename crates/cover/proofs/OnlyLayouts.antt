@@ -1,4 +1,4 @@
--- Only layouts are read: what is read is exactly the layout of its parts. Assumes nothing.
+-- The reader accepts no bytes but layouts. Assumes nothing.
 use Prim.Native.Nat.{ℕ, _+_}
 use mathlib.Core.Path.{_≡_, sym, ap, _∙_, subst}
 use mathlib.Core.List.{List, _++_, append-nil}

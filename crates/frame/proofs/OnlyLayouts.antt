@@ -1,5 +1,4 @@
--- Only layouts are read: a frame that is read is exactly the layout of its parts, which the rules
--- allow. Assumes nothing.
+-- The reader accepts no bytes but layouts of parts that the rules allow. Assumes nothing.
 use Prim.Native.Nat.{ℕ, _+_, _-_, _≤_}
 use mathlib.Core.Path.{_≡_, refl, sym, ap, _∙_, subst}
 use mathlib.Core.Bool.{true}

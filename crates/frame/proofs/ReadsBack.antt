@@ -134,7 +134,7 @@ pub record ReadsAs (s : List ℕ) (kind : ℕ) (id : List ℕ) (index total : �
   pub id-is : idOf s ≡ id
   pub data-is : dataOf s frame ≡ contents
 
--- a laid-out frame reads back as its parts, for all parts that the rules allow
+-- from a layout the reader gets the parts back, whichever the rules allow
 pub reads-back : (kind : ℕ) (id : List ℕ) (index total : ℕ) (contents : List ℕ) → Allowed kind id index total contents
     → ReadsAs (layout kind id index total contents) kind id index total contents
 reads-back kind id index total contents a =

@@ -52,6 +52,6 @@ module _ (c : List ℕ) (size : ℕ) (z : 0 < size) where
   joined-front zero = rw (zero-mul size)
   joined-front (suc k) = rw (joined-front k, suc-mul k size) (sym (take-add (k * size) size c))
 
-  -- the pages' data in index order is the ciphertext
+  -- one behind the other, the data of all pages are what was printed
   pub pages-join : joined (pageCount (length c) size) (pageData c size) ≡ c
   pages-join = joined-front (pageCount (length c) size) ∙ take-all (pageCount (length c) size * size) c (count-holds (length c) size z)

@@ -1,5 +1,5 @@
--- Every page of a document reads back as its own index, the document's total, its id and its slice
--- of the ciphertext, also through either text form. Assumes nothing.
+-- What the reader of frames finds in a printed page: its place, how many there are, the id, and the
+-- bytes that the page was given. Either text in between changes nothing. Assumes nothing.
 use Prim.Native.Nat.{ℕ, _*_, _<_}
 use mathlib.Core.Path.{_≡_, refl}
 use mathlib.Core.Logic.{inl}

@@ -1,6 +1,6 @@
--- The second demand, R1.3: pages, both text forms, envelope, manifest, auth and shard payloads.
--- What is written reads back equal, and bytes that the rules do not allow are refused, each with
--- the number and the place that a format's `read` gives (Formats.antt).
+-- The second demand, R1.3, of every format: what was written is read as the same value, and all
+-- other bytes are refused, each with the number and the place that a format's `read` gives
+-- (Formats.antt).
 use Prim.Native.Nat.{ℕ, _≤_, _<_}
 use mathlib.Core.Path.{_≡_}
 use mathlib.Core.List.{List}

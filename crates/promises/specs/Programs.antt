@@ -1,9 +1,9 @@
 -- R1.4 to R1.6 for the two programs that collect, `pier` and `pantry` (section 15 of
 -- docs/RULES.md): by the calls that they make of `scan` and `pantry_work`, over their whole input,
 -- in whatever parts it was read. What the input says is `documentOf` and `scansOf` (scan, Input):
--- cut at line feeds, the first line the document id, each further line of at most 1,024 bytes a
--- base64 text, those that read the scans. The programs themselves read, print and keep files, which
--- no contract can speak of: that is tested.
+-- the id that its first line names (R15.1), and the raw frames that its other lines say (R15.2).
+-- The programs themselves read, print and keep files, which no contract can speak of: that is
+-- tested.
 use mathlib.Core.Path.{_≡_}
 use mathlib.Core.Bool.{true, false}
 use mathlib.Core.List.{List, [], _∷_, _++_, flatten}

@@ -1,12 +1,12 @@
 // What the small program does with the lines that it reads: R15.1 to R15.3.
 //
 // It is a session, byte by byte, so that where its input is cut into parts cannot matter
-// (`fed-append`: scan, Inputs). Of a whole input it is said what the rules say (scan, Input): cut
-// at line feeds, the first line the id, each further line of at most 1,024 bytes a base64 text,
-// those that read the scans. A session ends with the collection of these scans
-// (`session-collects`), or, where no id is named, with nothing changed (`session-refused`), and its
-// line is the status line of that (`session-prints`, `prints-set`). A session's collection is well
-// formed whatever its input was (`fed-sound`, `closed-sound`: scan, Sound).
+// (`fed-append`: scan, Inputs). Of a whole input it is said what the rules say (scan, Input): which
+// id its first line names, and which raw frames its other lines say. A session ends with the
+// collection of these scans (`session-collects`), or, where no id is named, with nothing changed
+// (`session-refused`), and its line is the status line of that (`session-prints`, `prints-set`). A
+// session's collection is well formed whatever its input was (`fed-sound`, `closed-sound`: scan,
+// Sound).
 pub mod session;
 
 ghost use Rattle.wire.specs.Writing.{Written};

@@ -11,7 +11,8 @@ unfoldable pub sevens : ℕ → ℕ → List ℕ
 sevens zero n = n ∷ []
 sevens (suc p) n = choose (ltb n 128) (n ∷ []) ((n % 128 + 128) ∷ sevens p (n / 128))
 
--- the one form of a number below 2 ^ 64, which ten bytes hold (R4.2)
+-- the one form of a number below 2 ^ 64, which ten bytes hold (R4.2); `varint::size` knows how many
+-- it takes from the leading zeros (R18.1)
 unfoldable pub varint : ℕ → List ℕ
 varint n = sevens 9 n
 
