@@ -9,6 +9,7 @@ subject of them, and each function that judges by a rule gives its number:
     sums        CRC-32, SHA-256, BLAKE2b, the document id
     frames      frames, printed pages, key and auth frames
     cbor        CBOR items, read and written
+    floats      floating-point numbers of three widths
     payloads    auth and shard payloads, and the bytes that get signed
     manifest    paths, file entries, the manifest
     envelope    the envelope
@@ -18,6 +19,7 @@ subject of them, and each function that judges by a rule gives its number:
     desk        the call desk: lines in, lines out
 
 The rest is for trying it out: `cases` makes calls, `stored` the run that is
-kept beside the desk, `compare` holds a desk to this program, `selftest`
+kept beside the desk, `compare` holds a desk to this program, `every_float`
+does so with floats of every exponent, `library` asks cbor2, `selftest`
 holds this program to the standards and to itself.
 """

@@ -7,7 +7,7 @@ from .answers import NOT_CANONICAL, OUT_OF_RANGE, refuse_if
 from .cursor import Cursor
 
 UNSIGNED, NEGATIVE, BYTES, TEXT, ARRAY = 0, 1, 2, 3, 4
-FALSE, TRUE, NULL, DOUBLE = 0xF4, 0xF5, 0xF6, 0xFB
+FALSE, TRUE, NULL = 0xF4, 0xF5, 0xF6
 
 WIDTHS = {24: 1, 25: 2, 26: 4, 27: 8}
 

@@ -75,7 +75,7 @@ class Comparison:
         return done.stdout.split(b"\n")[:-1]
 
     def chunk(self, lines, last_feed):
-        """One run of the desk against this program."""
+        """One run of the desk against this program; the lines that it printed."""
         given = b"\n".join(lines) + b"\n" * last_feed
         wanted, got = expected(lines, self.verbs), self.run(given)
         if len(got) != len(wanted):
@@ -86,6 +86,7 @@ class Comparison:
             if printed != answer:
                 self.fault(f"line     {shortened(line)}\n  due      {shortened(answer)}\n"
                            f"  printed  {shortened(printed)}", given)
+        return got
 
 
 def verb_of(line):

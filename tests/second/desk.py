@@ -8,6 +8,7 @@ import re
 
 from . import collection, envelope, forms, frames, payloads, sums
 from .answers import WITH_PLACE, Refusal, lend
+from .floats import float_read, float_write
 from .manifest import File, Manifest, manifest_read, manifest_write
 from .verbs import ALL
 
@@ -17,7 +18,7 @@ MOST_ENTRIES = 65  # D2.10
 
 HEX = re.compile(rb"(?:[0-9a-f]{2})+")
 DIGITS = re.compile(rb"[0-9]{1,40}")
-DOUBLE = re.compile(rb"f[0-9a-f]{16}")
+BITS = re.compile(rb"[0-9a-f]{16}")
 
 
 class Malformed(Exception):
@@ -76,12 +77,18 @@ def or_null(form):
     return lambda argument: None if argument == b"null" else form(argument)
 
 
+def as_double(argument):
+    """BITS: the 16 lower-case hex digits of a double (D2.12)."""
+    demand(BITS.fullmatch(argument))
+    return as_bytes(argument)
+
+
 def as_created(argument):
     """CREATED: a signed number behind `i`, or a double's 16 digits behind `f` (D2.9)."""
     if argument.startswith(b"i"):
         return "i", as_signed(argument[1:])
-    demand(DOUBLE.fullmatch(argument))
-    return "f", as_bytes(argument[1:])
+    demand(argument.startswith(b"f"))
+    return "f", as_double(argument[1:])
 
 
 # Printed values.
@@ -113,7 +120,7 @@ def through(function):
 
 
 def one(function):
-    """A verb whose answer is one value (D2.3, D2.5, D2.6, D2.11)."""
+    """A verb whose answer is one value (D2.3, D2.5, D2.6, D2.11, D2.12)."""
     return lambda *arguments: [function(*arguments)]
 
 
@@ -172,6 +179,8 @@ PLAIN = {
     "page-write": ((BYTES, NUMBER, NUMBER, ROOM), one(frames.page_write)),
     "key-write": ((BYTES, BYTES, ROOM), one(frames.key_write)),
     "auth-frame-write": ((BYTES, BYTES, ROOM), one(frames.auth_frame_write)),
+    "float-read": ((BYTES,), float_read),
+    "float-write": ((as_double, ROOM), one(float_write)),
     "auth-read": ((BYTES,), payloads.auth_read),
     "auth-write": ((BYTES, BYTES, BYTES, ROOM), auth_write),
     "auth-signed": ((BYTES, BYTES, ROOM), auth_signed),

@@ -3,13 +3,11 @@
 A time of creation is ("i", number) or ("f", the eight bytes of a double).
 """
 
-import math
-import struct
 from collections import namedtuple
 
 from .answers import BAD_PATH, OUT_OF_RANGE, TOO_LARGE, lend, refuse_if
-from .cbor import (ARRAY, DOUBLE, FALSE, NULL, TEXT, TRUE, Items, byte_string, head, integer,
-                   text)
+from .cbor import ARRAY, FALSE, NULL, TEXT, TRUE, Items, byte_string, head, integer, text
+from .floats import WIDTHS, finite, float_item, next_float
 from .payloads import encode
 
 MOST_BYTES = 16384  # R3.3
@@ -53,9 +51,9 @@ def file_pairs(entry):
 
 
 def created_item(created):
-    """An integer (R13.6), or FB with eight bytes (R10.8)."""
+    """An integer stays one (R13.6); a float is in its shortest form (R10.8)."""
     kind, value = created
-    return integer(value) if kind == "i" else bytes([DOUBLE]) + value
+    return integer(value) if kind == "i" else float_item(value)
 
 
 def manifest_pairs(manifest):
@@ -132,18 +130,10 @@ def mtime_read(items):
 
 
 def created_read(items):
-    """An integer in its range (R13.6), or FB and a finite double (R10.8)."""
-    if items.peek() != DOUBLE:
-        return "i", items.integer(LOW, HIGH)
-    items.take(1)
-    double = items.take(8)
-    refuse_if(not finite(double), OUT_OF_RANGE)
-    return "f", double
-
-
-def finite(double):
-    """Whether eight bytes are a finite double (R10.8)."""
-    return math.isfinite(struct.unpack(">d", double)[0])
+    """A float by its first byte (R10.9); whatever else is judged as an integer (R13.6)."""
+    if items.peek() in WIDTHS:
+        return "f", next_float(items)
+    return "i", items.integer(LOW, HIGH)
 
 
 # Writing.
@@ -170,7 +160,7 @@ def judge_file(entry, before):
 
 
 def judge_created(created):
-    """An integer in range or a finite double, else 19 (R13.6)."""
+    """An integer in range or a finite float, else 19 (R13.6)."""
     kind, value = created
     refuse_if(kind == "i" and not LOW <= value <= HIGH, OUT_OF_RANGE)
     refuse_if(kind == "f" and not finite(value), OUT_OF_RANGE)

@@ -5,7 +5,8 @@ use mathlib.Core.List.{[], _∷_}
 use Rattle.wire.specs.Answer.{refused, got}
 use Rattle.wire.specs.Number.{digits, numberFrom}
 use Rattle.lend.specs.Same.{same}
-use Rattle.cbor.specs.Form.{infoOf, widthOf, headOf, stringOf, doubleOf}
+use Rattle.cbor.specs.Form.{infoOf, widthOf, headOf, firstOf, bytesOf, floatAs, floatOf, stringOf}
+use Rattle.cbor.specs.Float.{exponentBits, fractionBits, signOf, leastOf, infinityOf, finite, shiftOf, worth, packed, scaleOf, widened, narrowed, holds, shortest, magnitude, signBit, narrowedBits}
 use Rattle.cbor.specs.Item.{oneAt, bigEndianAt, argumentAt, kindOf, headAt, numberAt, contentsAt, stringAt, nameAt, keyAt}
 use Rattle.wire.specs.Ascii.{ascii}
 
@@ -21,14 +22,26 @@ numbers : (headOf 0 23 ≡ 0x17 ∷ [])
 unfolding headOf infoOf widthOf digits
 numbers = (refl, refl, refl, refl, refl, refl)
 
--- For the reader: -1, -100, the bytes 01020304, the text `IETF` and 1.1
+-- For the reader: -1, -100, the bytes 01020304, and the text `IETF`
 others : (headOf 1 0 ≡ 0x20 ∷ [])
     × (headOf 1 99 ≡ 0x38 ∷ 0x63 ∷ [])
     × (stringOf 2 (1 ∷ 2 ∷ 3 ∷ 4 ∷ []) ≡ 0x44 ∷ 1 ∷ 2 ∷ 3 ∷ 4 ∷ [])
     × (stringOf 3 (0x49 ∷ 0x45 ∷ 0x54 ∷ 0x46 ∷ []) ≡ 0x64 ∷ 0x49 ∷ 0x45 ∷ 0x54 ∷ 0x46 ∷ [])
-    × (doubleOf 0x3FF199999999999A ≡ 0xFB ∷ 0x3F ∷ 0xF1 ∷ 0x99 ∷ 0x99 ∷ 0x99 ∷ 0x99 ∷ 0x99 ∷ 0x9A ∷ [])
-unfolding headOf infoOf widthOf digits stringOf doubleOf
-others = (refl, refl, refl, refl, refl)
+unfolding headOf infoOf widthOf digits stringOf
+others = (refl, refl, refl, refl)
+
+-- For the reader: 1.5, 100000.0 and 1.1; both zeros; the least half; the greatest half, and what is
+-- next above it in a single
+floats : (floatOf 0x3FF8000000000000 ≡ 0xF9 ∷ 0x3E ∷ 0x00 ∷ [])
+    × (floatOf 0x40F86A0000000000 ≡ 0xFA ∷ 0x47 ∷ 0xC3 ∷ 0x50 ∷ 0x00 ∷ [])
+    × (floatOf 0x3FF199999999999A ≡ 0xFB ∷ 0x3F ∷ 0xF1 ∷ 0x99 ∷ 0x99 ∷ 0x99 ∷ 0x99 ∷ 0x99 ∷ 0x9A ∷ [])
+    × (floatOf 0 ≡ 0xF9 ∷ 0x00 ∷ 0x00 ∷ [])
+    × (floatOf 0x8000000000000000 ≡ 0xF9 ∷ 0x80 ∷ 0x00 ∷ [])
+    × (floatOf 0x3E70000000000000 ≡ 0xF9 ∷ 0x00 ∷ 0x01 ∷ [])
+    × (floatOf 0x40EFFC0000000000 ≡ 0xF9 ∷ 0x7B ∷ 0xFF ∷ [])
+    × (floatOf 0x40EFFC2000000000 ≡ 0xFA ∷ 0x47 ∷ 0x7F ∷ 0xE1 ∷ 0x00 ∷ [])
+unfolding digits firstOf bytesOf floatOf floatAs shortest holds finite infinityOf widened narrowed packed worth shiftOf scaleOf leastOf exponentBits fractionBits signOf magnitude signBit narrowedBits
+floats = (refl, refl, refl, refl, refl, refl, refl, refl)
 
 -- ---- the order of refusals
 

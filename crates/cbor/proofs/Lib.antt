@@ -9,3 +9,7 @@ pub mod Written
 pub mod Only
 pub mod Examples
 pub mod Placeless
+pub mod Packing
+pub mod Floats
+pub mod Shortest
+pub mod Computed

@@ -16,7 +16,7 @@ use Rattle.wire.specs.Answer.{Got, got}
 use Rattle.wire.specs.Number.{Bytes, bigEndian, digits, number}
 use Rattle.wire.proofs.Cases.{lt-or-le, passed, then-passed, got-next, got-value}
 use Rattle.wire.proofs.Digits.{digits-number, number-lt}
-use Rattle.wire.proofs.Standing.{Stands, stands-none, stands-as, stands-join, stands-part, byte-stands}
+use Rattle.wire.proofs.Standing.{Stands, stands-all, stands-none, stands-as, stands-join, stands-part, byte-stands}
 use Rattle.wire.specs.Reading.{numberTold}
 use Rattle.wire.specs.declared.NumberRead.{NumberRead}
 use Rattle.wire.specs.declared.NumberRead.the-variants as number
@@ -24,8 +24,13 @@ use Rattle.wire.specs.declared.Span.{Span}
 use Rattle.wire.specs.Span.{partAt}
 use Rattle.lend.specs.Same.{same}
 use Rattle.lend.proofs.Sames.{same-eq}
-use Rattle.cbor.specs.Form.{infoOf, widthOf, headOf, stringOf, doubleOf, stringFieldOf, numberFieldOf}
-use Rattle.cbor.specs.Item.{byteAt, oneAt, bigEndianAt, argumentAt, kindOf, Head, headAt, numberAt, contentsAt, stringAt, nameAt, keyAt, doubleAt, stringFieldAt, numberFieldAt, anyFieldAt}
+use Rattle.cbor.specs.Form.{infoOf, widthOf, headOf, stringOf, firstOf, bytesOf, floatAs, floatOf, stringFieldOf, numberFieldOf}
+use Rattle.cbor.specs.Item.{byteAt, oneAt, bigEndianAt, argumentAt, kindOf, Head, headAt, numberAt, contentsAt, stringAt, nameAt, keyAt, isFloat, widthBy, bodyAt, floatAt, stringFieldAt, numberFieldAt, anyFieldAt}
+use Rattle.cbor.specs.Float.{signOf, finite, shortest, magnitude, widenedBits, narrowedBits}
+use Rattle.cbor.specs.declared.Width.{Width}
+use Rattle.cbor.specs.declared.Width.the-variants.{Double}
+use Rattle.cbor.proofs.Floats.{finite-below, below-finite, widened-finite, magnitude-widened, narrowed-widened-bits, widened-bits-below}
+use Rattle.cbor.proofs.Shortest.{first-once, float-first, bytes-hold}
 use Rattle.cbor.proofs.Sizes.{either, width-none, width-most, head-low}
 use Rattle.cbor.proofs.Within.{contents-within}
 
@@ -129,12 +134,38 @@ module _ {s : List ℕ} where
       let p : t .1 ≡ next = got-next (w .1) in
       (stands-as (ap₂ headOf (eqb-true (t .0 .major) kind (u .0)) f) p (h .0), omega (arith, h .2))
 
-  pub double-only : {at next bits : ℕ} → Bytes s → doubleAt s at ≡ got bits next → Stands s at (doubleOf bits) next × (bits < 2 ^ 64)
-  unfolding doubleAt doubleOf
-  double-only {at} y e =
-      let t = then-passed (oneAt s at 0xFB) _ e in
-      let r = big-endian-only 8 y (t .3) in
-      (stands-join (one-only 0xFB (t .2)) (r .0), r .1)
+  body-only : {at next value : ℕ} (w : Width) → Bytes s → bodyAt s at w ≡ got value next
+      → Stands s at (bigEndian (bytesOf w) (narrowedBits w value)) next × (shortest (magnitude Double value) ≡ w) × (value < 2 ^ 64)
+      × (finite Double value ≡ true)
+  unfolding bodyAt
+  body-only {at} {next} {value} w y e =
+      let t = then-passed (bigEndianAt s at (bytesOf w)) _ e in
+      let r = big-endian-only (bytesOf w) y (t .2) in
+      let u = passed (finite w (t .0)) _ 19 (t .3) in
+      let z = passed (eqb (firstOf (shortest (magnitude Double (widenedBits w (t .0))))) (firstOf w)) (got (widenedBits w (t .0)) (t .1)) 18 (u .1) in
+      let v : widenedBits w (t .0) ≡ value = got-value (z .1) in
+      let n : t .1 ≡ next = got-next (z .1) in
+      let l : t .0 < 2 * signOf w = subst (λ (i : ℕ). t .0 < i) (bytes-hold w) (r .1) in
+      let b : t .0 ≡ narrowedBits w value = sym (narrowed-widened-bits w (t .0) l) ∙ ap (narrowedBits w) v in
+      let q = first-once (shortest (magnitude Double (widenedBits w (t .0)))) w (eqb-true _ _ (z .0)) in
+      let f : finite Double (widenedBits w (t .0)) ≡ true =
+      below-finite Double (widenedBits w (t .0)) (rw (magnitude-widened w (t .0)) (widened-finite w (magnitude w (t .0)) (finite-below w (t .0) (u .0)))) in (
+        stands-as (ap (bigEndian (bytesOf w)) b) n (r .0),
+        subst (λ (i : ℕ). shortest (magnitude Double i) ≡ w) v q,
+        subst (λ (i : ℕ). i < 2 ^ 64) v (widened-bits-below w (t .0)),
+        subst (λ (i : ℕ). finite Double i ≡ true) v f,
+      )
+
+  pub float-only : {at next value : ℕ} → Bytes s → floatAt s at ≡ got value next
+      → Stands s at (floatOf value) next × (value < 2 ^ 64) × (finite Double value ≡ true)
+  unfolding floatAt floatOf floatAs
+  float-only {at} {next} {value} y e =
+      let t = then-passed (byteAt s at) _ e in
+      let u = passed (isFloat (t .0)) _ 18 (t .3) in
+      let r = body-only (widthBy (t .0)) y (u .1) in
+      let b : Stands s at (t .0 ∷ []) (t .1) = byte-only (t .2) in
+      let f : t .0 ≡ firstOf (widthBy (t .0)) = float-first (t .0) (u .0) in
+      rw (r .1) (stands-join (stands-as (ap (λ (x : ℕ). x ∷ []) f) refl b) (r .0), r .2, r .3)
 
   pub key-only : {at next : ℕ} (name : List ℕ) {v : Unit} → keyAt s at name ≡ got v next → Stands s at (stringOf 3 name) next × (length name < 24)
   unfolding keyAt stringOf
@@ -171,6 +202,11 @@ module _ {s : List ℕ} (name : List ℕ) where
       let t = then-passed (keyAt s at name) _ e in
       let r = number-only 0 least most 19 y (t .3) in
       stands-join (key-only name (t .2) .0) (r .0)
+
+-- For the reader: one encoding for each value (R10.8). Two inputs that are each a float of this
+-- value are one, whichever widths they have
+float-once : {s t : List ℕ} {value : ℕ} → Bytes s → Bytes t → floatAt s 0 ≡ got value (length s) → floatAt t 0 ≡ got value (length t) → s ≡ t
+float-once x y d e = stands-all (float-only x d .0) ∙ sym (stands-all (float-only y e .0))
 
 -- a key, and the first byte behind it
 pub any-field-only : {s : List ℕ} {at a x : ℕ} (name : List ℕ) → anyFieldAt s at name ≡ got x a → Stands s at (stringOf 3 name) a × Stands s a (x ∷ []) (a + 1)

@@ -10,7 +10,10 @@ use lib.ListN.{length, length-append}
 use Rattle.wire.specs.Answer.{choose}
 use Rattle.wire.specs.Number.{digits}
 use Rattle.wire.proofs.Digits.{length-digits}
-use Rattle.cbor.specs.Form.{infoOf, widthOf, headOf, headSize, stringOf, stringFieldOf, numberFieldOf}
+use Rattle.cbor.specs.Form.{infoOf, widthOf, headOf, headSize, bytesOf, floatAs, floatOf, stringOf, stringFieldOf, numberFieldOf}
+use Rattle.cbor.specs.Float.{shortest, magnitude, narrowedBits}
+use Rattle.cbor.specs.declared.Width.{Width}
+use Rattle.cbor.specs.declared.Width.the-variants.{Half, Single, Double}
 
 -- what holds of both answers holds of the one that a test picks
 pub either : {A : Type 0} (P : A → Type 0) (t : Bool) {a b : A} → (t ≡ true → P a) → (t ≡ false → P b) → P (choose t a b)
@@ -84,6 +87,20 @@ size-one n h = omega (arith, width-none (infoOf n) (rw (info-low n h) h))
 pub size-two : (n : ℕ) → 24 ≤ n → n < 256 → headSize n ≡ 2
 unfolding headSize widthOf
 size-two n l h = sizes (λ (i : ℕ). 1 + widthOf i ≡ 2) n (λ k. absurd (omega arith)) (λ k m. refl) (λ k m. absurd (omega arith)) (λ k m. absurd (omega arith)) (λ k. absurd (omega arith))
+
+pub length-float : (value : ℕ) → length (floatOf value) ≡ 1 + bytesOf (shortest (magnitude Double value))
+unfolding floatOf floatAs
+length-float value =
+    omega (arith, length-digits 256 (bytesOf (shortest (magnitude Double value))) (narrowedBits (shortest (magnitude Double value)) value))
+
+pub float-most : (value : ℕ) → length (floatOf value) ≤ 9
+unfolding bytesOf
+float-most value = omega (arith, length-float value, most (shortest (magnitude Double value)))
+  where
+    most : (w : Width) → bytesOf w ≤ 8
+    most Half = omega arith
+    most Single = omega arith
+    most Double = omega arith
 
 pub length-string : (major : ℕ) (bs : List ℕ) → length (stringOf major bs) ≡ headSize (length bs) + length bs
 unfolding stringOf

@@ -2,19 +2,41 @@
 -- computed. Assumes nothing.
 use Prim.Native.Nat.{ℕ, _+_, _-_, _*_, _^_, _≤_, _<_}
 use mathlib.Core.Path.{_≡_, refl, ap, _∙_}
+use mathlib.Core.Bool.{Bool, true, false, not}
 use mathlib.Core.List.{List, [], _∷_, _++_}
 use native.Mathlib.Omega.{arith}
+use borrow.Author.Tests.{not-true, not-false}
 use lib.ListN.{length, length-append}
 use mir.Syntax.{w64}
 use mir.Val.{Fits}
 use Rattle.wire.specs.Over.{over}
 use Rattle.wire.specs.Number.{bigEndian}
+use Rattle.wire.specs.Writing.{Written}
+use Rattle.wire.specs.declared.Wrote.the-variants.{Done, Refused}
+use Rattle.wire.proofs.Writes.{written, no-room, denied}
 use Rattle.wire.proofs.Digits.{length-digits}
 use Rattle.wire.proofs.Overs.{over-append}
-use Rattle.cbor.specs.Form.{infoOf, widthOf, headOf, headSize, stringOf, doubleOf, stringFieldOf, numberFieldOf}
+use Rattle.cbor.specs.Form.{infoOf, widthOf, headOf, headSize, stringOf, firstOf, bytesOf, floatAs, floatOf, floatVerdict, stringFieldOf, numberFieldOf}
+use Rattle.cbor.specs.Float.{finite, shortest, magnitude, narrowedBits}
+use Rattle.cbor.specs.declared.Width.{Width}
+use Rattle.cbor.specs.declared.Width.the-variants.{Double}
 use Rattle.cbor.specs.Put.{Put}
-use Rattle.cbor.proofs.Sizes.{length-head, length-string, size-some}
+use Rattle.cbor.proofs.Sizes.{length-head, length-float, length-string, size-some}
 use Rattle.cbor.proofs.Runs.{past-fits, put-done, put-none, left-all, left-on, left-last, left-over-last}
+
+pub float-long : (value k : ℕ) (w : Width) → w ≡ shortest (magnitude Double value) → k ≡ bytesOf w → 1 + k ≡ length (floatOf value)
+float-long value k w c f = omega (arith, length-float value, ap bytesOf c)
+
+-- what is written as a first byte and a number is a head, or a float
+module _ (at : ℕ) (x z : List ℕ) (next : ℕ) where
+  pub head-done : (major n b k : ℕ) → b ≡ infoOf n → k ≡ widthOf (infoOf n) → Put at ((major * 32 + b) ∷ bigEndian k n) x z next → Put at (headOf major n) x z next
+  unfolding headOf
+  head-done major n b k g f p = rw (← f, ← g) p
+
+  pub float-done : (value b k bits : ℕ) (w : Width) → w ≡ shortest (magnitude Double value) → b ≡ firstOf w → k ≡ bytesOf w → bits ≡ narrowedBits w value
+      → Put at (b ∷ bigEndian k bits) x z next → Put at (floatOf value) x z next
+  unfolding floatOf floatAs
+  float-done value b k bits w c g f m p = rw (← c, ← g, ← f, ← m) p
 
 module _ (at r : ℕ) (x : List ℕ) (e : r ≡ length x - at) where
   pub fixed-none : (bs : List ℕ) → r < length bs → Put at bs x x at
@@ -24,30 +46,16 @@ module _ (at r : ℕ) (x : List ℕ) (e : r ≡ length x - at) where
   fixed-done bs y h o = put-done at bs x y (at + length bs) (omega arith) o refl
 
   -- a first byte b, and k bytes of n
-  byte-done : (b k n : ℕ) (y z : List ℕ) → 1 + k ≤ r → y ≡ over at (b ∷ []) x → z ≡ over (at + 1) (bigEndian k n) y → Put at (b ∷ bigEndian k n) x z (at + 1 + k)
-  byte-done b k n y z h o w =
-      let c = length-digits 256 k n in
-      put-done at (b ∷ bigEndian k n) x z (at + 1 + k) (omega arith)
-      (w ∙ ap (over (at + 1) (bigEndian k n)) o ∙ over-append at (b ∷ []) (bigEndian k n) x (at + 1) refl (omega arith))
-      (omega arith)
+  module _ (b k n : ℕ) where
+    pub number-none : r < 1 + k → Put at (b ∷ bigEndian k n) x x at
+    number-none h = put-none at (b ∷ bigEndian k n) x (omega (arith, length-digits 256 k n))
 
-  module _ (major n k : ℕ) (f : k ≡ widthOf (infoOf n)) where
-    pub head-none : r < 1 + k → Put at (headOf major n) x x at
-    unfolding headSize
-    head-none h = put-none at (headOf major n) x (omega (arith, length-head major n))
-
-    pub head-done : (b : ℕ) (y z : List ℕ) → 1 + k ≤ r → b ≡ infoOf n → y ≡ over at ((major * 32 + b) ∷ []) x → z ≡ over (at + 1) (bigEndian k n) y
-        → Put at (headOf major n) x z (at + 1 + k)
-    unfolding headOf
-    head-done b y z h g o w = rw (← f, ← g) (byte-done (major * 32 + b) k n y z h o w)
-
-  pub double-none : (bits : ℕ) → r < 9 → Put at (doubleOf bits) x x at
-  unfolding doubleOf
-  double-none bits h = put-none at (0xFB ∷ bigEndian 8 bits) x (omega (arith, length-digits 256 8 bits))
-
-  pub double-done : (bits : ℕ) (y z : List ℕ) → 9 ≤ r → y ≡ over at (0xFB ∷ []) x → z ≡ over (at + 1) (bigEndian 8 bits) y → Put at (doubleOf bits) x z (at + 9)
-  unfolding doubleOf
-  double-done bits y z h o w = let e : at + 9 ≡ at + 1 + 8 = omega arith in rw e (byte-done 0xFB 8 bits y z h o w)
+    pub number-done : (y z : List ℕ) → 1 + k ≤ r → y ≡ over at (b ∷ []) x → z ≡ over (at + 1) (bigEndian k n) y → Put at (b ∷ bigEndian k n) x z (at + 1 + k)
+    number-done y z h o w =
+        let c = length-digits 256 k n in
+        put-done at (b ∷ bigEndian k n) x z (at + 1 + k) (omega arith)
+        (w ∙ ap (over (at + 1) (bigEndian k n)) o ∙ over-append at (b ∷ []) (bigEndian k n) x (at + 1) refl (omega arith))
+        (omega arith)
 
   module _ (major size : ℕ) (bs : List ℕ) (f : size ≡ headSize (length bs) + length bs) where
     pub string-none : r < size → Put at (stringOf major bs) x x at
@@ -110,3 +118,18 @@ module _ (at r : ℕ) (x : List ℕ) (e : r ≡ length x - at) where
         pub number-field-done : a ≤ r → b ≤ r - a → (p q : ℕ) (y z : List ℕ) → Put at (stringOf 3 name) x y p → Put p (headOf 0 n) y z q → Put at (numberFieldOf name n) x z q
         unfolding numberFieldOf
         number-field-done h l = key-done (headOf 0 n) h (omega (arith, length-head 0 n))
+
+-- a float alone: t says whether it is finite, len how long it is
+module _ (value : ℕ) (out : List ℕ) (t : Bool) (e : t ≡ finite Double value) where
+  pub alone-infinite : not t ≡ true → Written 0 (floatVerdict value) out out (Refused 19)
+  unfolding floatVerdict
+  alone-infinite h = rw (← e, not-true t h) (denied 0 out 19)
+
+  module _ (a : not t ≡ false) (len : ℕ) (f : len ≡ length (floatOf value)) where
+    pub alone-short : length out < len → Written 0 (floatVerdict value) out out (Refused 11)
+    unfolding floatVerdict
+    alone-short h = rw (← e, not-false t a) (no-room 0 out (floatOf value) (omega arith))
+
+    pub alone-done : len ≤ length out → (out' : List ℕ) (next : ℕ) → Put 0 (floatOf value) out out' next → Written 0 (floatVerdict value) out out' (Done len)
+    unfolding floatVerdict
+    alone-done h out' next p = rw (← e, not-false t a) (written 0 out (floatOf value) out' len (omega arith) f (p .output))

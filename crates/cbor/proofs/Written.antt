@@ -1,7 +1,8 @@
 -- What is written reads back, whatever stands before and after it. Assumes nothing.
 use Prim.Native.Nat.{ℕ, _+_, _*_, _/_, _%_, _^_, _≤_, _<_}
-use mathlib.Core.Path.{_≡_, refl, sym, ap, _∙_}
+use mathlib.Core.Path.{_≡_, refl, sym, ap, _∙_, subst}
 use mathlib.Core.Logic.{⊎-elim}
+use mathlib.Core.Bool.{true}
 use mathlib.Core.List.{List, [], _∷_, _++_}
 use native.Mathlib.Omega.{arith}
 use borrow.Author.Tests.{lt-ltb, le-ltb, le-leb, eq-eqb}
@@ -15,8 +16,13 @@ use Rattle.wire.proofs.Standing.{Stands, stands-first, stands-second, stands-by
 use Rattle.wire.specs.declared.Span.{Span}
 use Rattle.wire.specs.Span.{partAt}
 use Rattle.lend.proofs.Sames.{same-refl}
-use Rattle.cbor.specs.Form.{infoOf, widthOf, headOf, stringOf, doubleOf, stringFieldOf, numberFieldOf}
-use Rattle.cbor.specs.Item.{byteAt, oneAt, bigEndianAt, argumentAt, kindOf, headAt, numberAt, contentsAt, stringAt, nameAt, keyAt, doubleAt, stringFieldAt, numberFieldAt, anyFieldAt}
+use Rattle.cbor.specs.Form.{infoOf, widthOf, headOf, stringOf, firstOf, bytesOf, floatAs, floatOf, stringFieldOf, numberFieldOf}
+use Rattle.cbor.specs.Item.{byteAt, oneAt, bigEndianAt, argumentAt, kindOf, headAt, numberAt, contentsAt, stringAt, nameAt, keyAt, isFloat, bodyAt, floatAt, stringFieldAt, numberFieldAt, anyFieldAt}
+use Rattle.cbor.specs.Float.{finite, shortest, magnitude, widenedBits, narrowedBits}
+use Rattle.cbor.specs.declared.Width.{Width}
+use Rattle.cbor.specs.declared.Width.the-variants.{Double}
+use Rattle.cbor.proofs.Floats.{Form, finite-below, below-finite, magnitude-narrowed, widened-narrowed-bits, narrowed-bits-below}
+use Rattle.cbor.proofs.Shortest.{shortest-form, bytes-hold, first-float}
 use Rattle.cbor.proofs.Sizes.{info-most, info-low, info-high, width-none, width-holds, head-low}
 
 module _ {s : List ℕ} {at next : ℕ} where
@@ -51,6 +57,18 @@ module _ {s : List ℕ} {at next : ℕ} where
       high : 24 ≤ n → choose (ltb (infoOf n) 24) (got (infoOf n) at) (bigEndianAt s at (widthOf (infoOf n))) ≡ got n next
       high k = rw (le-ltb (infoOf n) 24 (info-high n k)) (big-endian-back (widthOf (infoOf n)) n (width-holds n k l) h)
 
+  -- a float, after its first byte
+  body-back : (w : Width) (value : ℕ) → shortest (magnitude Double value) ≡ w → value < 2 ^ 64 → finite Double value ≡ true
+      → Stands s at (bigEndian (bytesOf w) (narrowedBits w value)) next → bodyAt s at w ≡ got value next
+  unfolding bodyAt
+  body-back w value e l f h =
+      let form : Form w (magnitude Double value) = subst (λ (v : Width). Form v (magnitude Double value)) e (shortest-form (magnitude Double value) (finite-below Double value f)) in
+      let b : narrowedBits w value < 256 ^ bytesOf w = rw (bytes-hold w) (narrowed-bits-below w value form) in
+      let m = magnitude-narrowed w value form in
+      let v : widenedBits w (narrowedBits w value) ≡ value = widened-narrowed-bits w value form l in
+      rw (big-endian-back (bytesOf w) (narrowedBits w value) b h)
+      (rw (below-finite w (narrowedBits w value) (rw m (form .finite)), v, e, eq-eqb (firstOf w) (firstOf w) refl))
+
   pub contents-back : (bs : List ℕ) → Stands s at bs next → contentsAt s at (length bs) ≡ got (record { start = at; len = length bs }) next
   unfolding contentsAt
   contents-back bs h = rw (le-leb (at + length bs) (length s) (omega (arith, h .ends, h .within)), h .ends)
@@ -72,10 +90,21 @@ module _ {s : List ℕ} {at next : ℕ} where
       rw (byte-back (major * 32 + infoOf n) (stands-first ((major * 32 + infoOf n) ∷ []) (bigEndian (widthOf (infoOf n)) n) h))
       (rw (q, r, eq-eqb (kindOf major) (kindOf major) refl, le-leb (infoOf n) 27 m, a, eq-eqb (infoOf n) (infoOf n) refl))
 
-  pub double-back : (bits : ℕ) → bits < 2 ^ 64 → Stands s at (doubleOf bits) next → doubleAt s at ≡ got bits next
-  unfolding doubleAt doubleOf
-  double-back bits l h =
-      rw (one-back 0xFB (stands-first (0xFB ∷ []) (bigEndian 8 bits) h)) (big-endian-back 8 bits l (stands-second (0xFB ∷ []) (bigEndian 8 bits) h))
+  pub float-begins : (value : ℕ) → Stands s at (floatOf value) next → (x : ℕ) × (byteAt s at ≡ got x (at + 1)) × (isFloat x ≡ true)
+  unfolding floatOf floatAs
+  float-begins value h =
+      let w : Width = shortest (magnitude Double value) in
+      (firstOf w, byte-back (firstOf w) (stands-first (firstOf w ∷ []) (bigEndian (bytesOf w) (narrowedBits w value)) h), first-float w .0)
+
+  -- a finite float; the first byte of each width names it
+  pub float-back : (value : ℕ) → value < 2 ^ 64 → finite Double value ≡ true → Stands s at (floatOf value) next → floatAt s at ≡ got value next
+  unfolding floatAt floatOf floatAs
+  float-back value l f h =
+      let w : Width = shortest (magnitude Double value) in
+      let n : ℕ = narrowedBits (shortest (magnitude Double value)) value in
+      let c = first-float (shortest (magnitude Double value)) in
+      rw (byte-back (firstOf w) (stands-first (firstOf w ∷ []) (bigEndian (bytesOf w) n) h))
+      (rw (c .0, c .1) (body-back w value refl l f (stands-second (firstOf w ∷ []) (bigEndian (bytesOf w) n) h)))
 
   pub key-back : (name : List ℕ) → length name < 24 → Stands s at (stringOf 3 name) next → keyAt s at name ≡ got tt next
   unfolding keyAt stringOf

@@ -3,8 +3,11 @@ use Prim.Native.Nat.{ℕ, _+_, _*_, _^_}
 use mathlib.Core.List.{List, _∷_, _++_}
 use lib.ListN.{length}
 use lib.Dec.{ltb, eqb}
-use Rattle.wire.specs.Answer.{choose}
+use Rattle.wire.specs.Answer.{choose, Answer, done, demand}
 use Rattle.wire.specs.Number.{bigEndian}
+use Rattle.cbor.specs.Float.{finite, shortest, magnitude, narrowedBits}
+use Rattle.cbor.specs.declared.Width.{Width}
+use Rattle.cbor.specs.declared.Width.the-variants.{Half, Single, Double}
 
 -- the five low bits of a head's first byte: a number below 24 itself, and else 24 to 27, for the
 -- fewest bytes that hold it (R10.1)
@@ -36,9 +39,28 @@ headSize n = 1 + widthOf (infoOf n)
 unfoldable pub stringOf : ℕ → List ℕ → List ℕ
 stringOf major bs = headOf major (length bs) ++ bs
 
--- a double: FB and its 64 bits (R10.8)
-unfoldable pub doubleOf : ℕ → List ℕ
-doubleOf bits = 0xFB ∷ bigEndian 8 bits
+-- the first byte of a float of each width, and how many bytes follow it (R10.8)
+unfoldable pub firstOf : Width → ℕ
+firstOf Half = 0xF9
+firstOf Single = 0xFA
+firstOf Double = 0xFB
+
+unfoldable pub bytesOf : Width → ℕ
+bytesOf Half = 2
+bytesOf Single = 4
+bytesOf Double = 8
+
+-- a float of a width that has it, by the 64 bits of its double
+unfoldable pub floatAs : Width → ℕ → List ℕ
+floatAs w value = firstOf w ∷ bigEndian (bytesOf w) (narrowedBits w value)
+
+-- the same in the shortest width that has it (R10.8)
+unfoldable pub floatOf : ℕ → List ℕ
+floatOf value = floatAs (shortest (magnitude Double value)) value
+
+-- one that is not finite is not written alone: 19 (R10.9)
+unfoldable pub floatVerdict : ℕ → Answer (List ℕ)
+floatVerdict value = demand (finite Double value) 19 (done (floatOf value))
 
 -- a key and a string
 unfoldable pub stringFieldOf : List ℕ → ℕ → List ℕ → List ℕ

@@ -2,6 +2,7 @@
 -- front, in the order of R10.3: what it is, by its first byte; whether its head is there, and the
 -- shortest; its number or length; whether its contents are there; and those.
 use Prim.Native.Nat.{ℕ, _+_, _/_, _%_}
+use mathlib.Core.Bool.{Bool, _&&_}
 use mathlib.Core.List.{List}
 use lib.ListN.{length, getD, take, drop}
 use lib.Dec.{ltb, leb, eqb}
@@ -9,7 +10,10 @@ use Rattle.wire.specs.Answer.{choose, then, demand, Got, got}
 use Rattle.wire.specs.Number.{number}
 use Rattle.wire.specs.declared.Span.{Span}
 use Rattle.lend.specs.Same.{same}
-use Rattle.cbor.specs.Form.{infoOf, widthOf}
+use Rattle.cbor.specs.Float.{finite, shortest, magnitude, widenedBits}
+use Rattle.cbor.specs.Form.{infoOf, widthOf, firstOf, bytesOf}
+use Rattle.cbor.specs.declared.Width.{Width}
+use Rattle.cbor.specs.declared.Width.the-variants.{Half, Single, Double}
 
 -- one byte of any value; 3 where none is left (R10.3)
 abbrev pub byteAt : List ℕ → ℕ → Got ℕ
@@ -72,9 +76,25 @@ nameAt s at name =
 unfoldable pub keyAt : List ℕ → ℕ → List ℕ → Got Unit
 keyAt s at name = demand (ltb (length name) 24) 18 (then (oneAt s at (96 + length name)) (λ (_, p). nameAt s p name))
 
--- a double, by its 64 bits (R10.8)
-unfoldable pub doubleAt : List ℕ → ℕ → Got ℕ
-doubleAt s at = then (oneAt s at 0xFB) (λ (_, p). bigEndianAt s p 8)
+-- whether a float begins with this byte
+unfoldable pub isFloat : ℕ → Bool
+isFloat x = leb (firstOf Half) x && leb x (firstOf Double)
+
+-- and its width
+unfoldable pub widthBy : ℕ → Width
+widthBy x = choose (eqb x (firstOf Half)) Half (choose (eqb x (firstOf Single)) Single Double)
+
+-- a float after its first byte, by the 64 bits of its double: 3, then 19 where it is not finite,
+-- then 18 where a shorter width has its value (R10.9)
+unfoldable pub bodyAt : List ℕ → ℕ → Width → Got ℕ
+bodyAt s at w =
+    then (bigEndianAt s at (bytesOf w)) (λ (bits, next).
+    demand (finite w bits) 19
+    (demand (eqb (firstOf (shortest (magnitude Double (widenedBits w bits)))) (firstOf w)) 18 (got (widenedBits w bits) next)))
+
+-- the whole float; 18 for another first byte (R10.9)
+unfoldable pub floatAt : List ℕ → ℕ → Got ℕ
+floatAt s at = then (byteAt s at) (λ (x, p). demand (isFloat x) 18 (bodyAt s p (widthBy x)))
 
 -- a key and a string
 unfoldable pub stringFieldAt : (s : List ℕ) (at : ℕ) (name : List ℕ) (kind least most fault : ℕ) → Got Span

@@ -3,6 +3,11 @@
 //
 // What is written reads back whatever follows it, and what is read is exactly the written form of
 // its value: for each item in proofs/Written.antt and proofs/Only.antt.
+//
+// A float has one form for each value over all three widths (`float-once`: cbor, Only), and no
+// shorter one (`shortest-least`: cbor, Shortest). Widening keeps the number (`widened-worth`: cbor,
+// Floats).
+pub mod float;
 pub mod read;
 mod short;
 pub mod write;
@@ -53,6 +58,13 @@ impl StringRead {
             _ => 0,
         }
     }
+}
+
+// The three widths of a float (R10.8).
+pub enum Width {
+    Half,
+    Single,
+    Double,
 }
 
 // The kinds of items. Each is the major type of its heads, but that a negative integer has the

@@ -5,10 +5,12 @@ ghost use Prim.Native.Nat.{_+_, _<_, _≤_};
 ghost use lib.ListN.{length, take, drop};
 ghost use Rattle.wire.specs.Number.{number};
 ghost use Rattle.wire.specs.Reading.{stepTold, numberTold};
-ghost use Rattle.cbor.specs.Item.{byteAt, oneAt, bigEndianAt, argumentAt, kindOf, headAt, numberAt, contentsAt, stringAt, nameAt, keyAt, doubleAt, stringFieldAt, numberFieldAt, anyFieldAt};
+ghost use Rattle.cbor.specs.Item.{byteAt, oneAt, bigEndianAt, argumentAt, kindOf, headAt, numberAt, contentsAt, stringAt, nameAt, keyAt, bodyAt, floatAt, stringFieldAt, numberFieldAt, anyFieldAt};
 ghost use Rattle.cbor.specs.Answer.{headTold, stringTold};
 use super::HeadRead;
 use super::StringRead;
+use super::Width;
+use super::float;
 use super::short;
 use wire::NumberRead;
 use wire::StepRead;
@@ -245,16 +247,44 @@ pub fn key(s: &[u8], at: usize, wanted: &[u8]) -> StepRead
     name(s, next, wanted)
 }
 
-// The 64 bits of a double, which is FB and eight bytes, and the position past it; or 18 for another
-// first byte, 3 where the input ends.
-pub fn double(s: &[u8], at: usize) -> NumberRead
-    ensures { λ r. ⌜ numberTold r ≡ doubleAt (now (s .entry)) at ⌝ }
+// A float of this width, whose first byte stands before position at.
+fn float_body(s: &[u8], at: usize, w: Width) -> NumberRead
+    ensures { λ r. ⌜ numberTold r ≡ bodyAt (now (s .entry)) at w ⌝ }
 {
-    let h = one_byte(s, at, 0xFB);
-    let StepRead::Past { next } = h else {
+    let b = big_endian_at(s, at, float::bytes(w));
+    let NumberRead::Value { n: bits, next } = b else {
+        return NumberRead::Refused { no: b.no() };
+    };
+    if !float::is_finite(w, bits) {
+        return NumberRead::Refused {
+            no: wire::OUT_OF_RANGE,
+        };
+    }
+    let value = float::widen_bits(w, bits);
+    if float::first(float::least(value)) != float::first(w) {
+        return NumberRead::Refused {
+            no: wire::NOT_CANONICAL,
+        };
+    }
+    NumberRead::Value { n: value, next }
+}
+
+// The 64 bits of the double that a float stands for, and the position past it; or 3 where no byte
+// is left, 18 for another first byte than F9, FA and FB, 3 where the input ends, 19 where it is not
+// finite, 18 where a shorter one has the same value.
+pub fn float(s: &[u8], at: usize) -> NumberRead
+    ensures { λ r. ⌜ numberTold r ≡ floatAt (now (s .entry)) at ⌝ }
+{
+    let h = byte(s, at);
+    let NumberRead::Value { n: x, next } = h else {
         return NumberRead::Refused { no: h.no() };
     };
-    big_endian_at(s, next, 8)
+    if !float::begins(x) {
+        return NumberRead::Refused {
+            no: wire::NOT_CANONICAL,
+        };
+    }
+    float_body(s, next, float::width(x))
 }
 
 // A key, and where the contents of the string behind it stand, of a length within the bounds; or

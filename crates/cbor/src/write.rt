@@ -2,13 +2,17 @@
 // item does not fit, nothing is written and the position stays. A payload's writer judges first
 // that all of it fits (R10.7).
 ghost use mathlib.Core.Path.{_≡_};
+ghost use mathlib.Core.List.{_∷_};
 ghost use Prim.Native.Nat.{_+_, _-_, _%_, _≤_};
 ghost use lib.ListN.{length};
 ghost use Rattle.wire.specs.Number.{bigEndian};
 ghost use Rattle.wire.specs.Over.{over};
-ghost use Rattle.cbor.specs.Form.{headOf, headSize, stringOf, doubleOf, stringFieldOf, numberFieldOf};
+ghost use Rattle.wire.specs.Writing.{Written};
+ghost use Rattle.cbor.specs.Form.{headOf, headSize, stringOf, floatOf, stringFieldOf, numberFieldOf, floatVerdict};
 ghost use Rattle.cbor.specs.Put.{Put};
+use super::float;
 use super::short;
+use wire::Wrote;
 
 // How long the head of the number n is.
 pub fn size(n: u64) -> usize
@@ -46,6 +50,20 @@ fn big_endian(out: &mut [u8], at: usize, k: usize, n: u64)
     }
 }
 
+// A first byte and the lowest k bytes of n behind it, the highest of them first. Where they do not
+// fit, nothing is written and the position stays.
+fn first_and_number(out: &mut [u8], at: usize, first: u8, k: usize, n: u64) -> usize
+    requires { ⌜ k ≤ 8 ⌝ }
+    ensures { λ r. ⌜ Put at (first ∷ bigEndian k n) (now (out .entry)) (now (out .exit)) r ⌝ }
+{
+    if room(out.len(), at) < 1 + k {
+        return at;
+    }
+    lend::put(out, at, first);
+    big_endian(out, at + 1, k, n);
+    at + 1 + k
+}
+
 // The bytes of an item as they are at the position, and the position past them. Where they do not
 // fit, nothing is written and the position stays.
 //
@@ -65,13 +83,8 @@ pub fn fixed(out: &mut [u8], at: usize, item: &[u8]) -> usize
 pub fn head(out: &mut [u8], at: usize, major: u8, n: u64) -> usize
     ensures { λ r. ⌜ Put at (headOf (major % 8) n) (now (out .entry)) (now (out .exit)) r ⌝ }
 {
-    let k = short::following(n);
-    if room(out.len(), at) < 1 + k {
-        return at;
-    }
-    lend::put(out, at, major % 8 * 32 + short::info(n));
-    big_endian(out, at + 1, k, n);
-    at + 1 + k
+    let first = major % 8 * 32 + short::info(n);
+    first_and_number(out, at, first, short::following(n), n)
 }
 
 // A byte string or a text with its head at the position, and the position past it. Where it does
@@ -89,17 +102,42 @@ pub fn string(out: &mut [u8], at: usize, major: u8, bs: &[u8]) -> usize
     p + bs.len()
 }
 
-// A double by its 64 bits, FB and eight bytes, at the position, and the position past it. Where it
-// does not fit, nothing is written and the position stays.
-pub fn double(out: &mut [u8], at: usize, bits: u64) -> usize
-    ensures { λ r. ⌜ Put at (doubleOf bits) (now (out .entry)) (now (out .exit)) r ⌝ }
+// How long the float is that stands for the double with these 64 bits.
+pub fn float_size(value: u64) -> usize
+    ensures { λ r. ⌜ r ≡ length (floatOf value) ⌝ }
 {
-    if room(out.len(), at) < 9 {
-        return at;
+    1 + float::bytes(float::least(value))
+}
+
+// A float by the 64 bits of its double, in the shortest of three widths that has it, at the
+// position, and the position past it. Where it does not fit, nothing is written and the position
+// stays.
+//
+// One that is not finite is written as those 64 bits: who may not write it asks `float::finite`.
+pub fn float(out: &mut [u8], at: usize, value: u64) -> usize
+    ensures { λ r. ⌜ Put at (floatOf value) (now (out .entry)) (now (out .exit)) r ⌝ }
+{
+    let w = float::least(value);
+    let bits = float::narrow_bits(w, value);
+    first_and_number(out, at, float::first(w), float::bytes(w), bits)
+}
+
+// A finite float alone in the output, by the 64 bits of its double, and its length; or 19 where it
+// is not finite, then 11, and nothing changed.
+pub fn float_alone(value: u64, out: &mut [u8]) -> Wrote
+    ensures { λ r. ⌜ Written 0 (floatVerdict value) (now (out .entry)) (now (out .exit)) r ⌝ }
+{
+    if !float::finite(value) {
+        return Wrote::Refused {
+            no: wire::OUT_OF_RANGE,
+        };
     }
-    lend::put(out, at, 0xFB);
-    big_endian(out, at + 1, 8, bits);
-    at + 9
+    let len = float_size(value);
+    if out.len() < len {
+        return Wrote::Refused { no: wire::NO_ROOM };
+    }
+    float(out, 0, value);
+    Wrote::Done { len }
 }
 
 // A key and a string at the position, and the position past them. Where they do not fit, nothing is

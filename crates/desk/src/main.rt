@@ -61,7 +61,8 @@ fn read(line: &[u8], starts: &[usize], pool: &[u8], out: &mut Reply) -> usize {
           auth-read b,\
           shard-read b,\
           manifest-read b,\
-          envelope-read b",
+          envelope-read b,\
+          float-read b",
     );
     let s = words::bytes(pool, starts, 1);
     match verb {
@@ -75,6 +76,7 @@ fn read(line: &[u8], starts: &[usize], pool: &[u8], out: &mut Reply) -> usize {
         8 => shards::shard_read(s, out),
         9 => listings::manifest_read(s, out),
         10 => listings::envelope_read(s, out),
+        11 => forms::float_read(s, out),
         _ => 0,
     }
 }

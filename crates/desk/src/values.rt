@@ -124,6 +124,11 @@ pub(crate) fn register(word: &[u8]) -> usize {
     }
 }
 
+// The 16 digits of a double (D2.12).
+pub(crate) fn is_double(word: &[u8]) -> bool {
+    word.len() == 16 && digits::all_hex(word)
+}
+
 // An integer behind `i`, or the 16 digits of a double behind `f` (D2.9).
 pub(crate) fn is_created(word: &[u8]) -> bool {
     if word.len() < 1 {
@@ -132,7 +137,7 @@ pub(crate) fn is_created(word: &[u8]) -> bool {
     let rest = behind_first(word);
     match word[0] {
         b'i' => is_signed(rest),
-        b'f' => rest.len() == 16 && digits::all_hex(rest),
+        b'f' => is_double(rest),
         _ => false,
     }
 }

@@ -25,6 +25,8 @@ const ZERO_OR_ONE: u8 = b's';
 
 const CREATED: u8 = b'c';
 
+const DOUBLE: u8 = b'd';
+
 const MANIFEST_COUNT: u8 = b'm';
 
 const TIME_OR_NULL: u8 = b't';
@@ -165,6 +167,7 @@ fn fits(word: &[u8], kind: u8) -> bool {
         BYTES_OR_NULL => lend::equal(word, b"null") || values::is_bytes(word),
         ZERO_OR_ONE => values::is_at_most(word, 1),
         CREATED => values::is_created(word),
+        DOUBLE => values::is_double(word),
         MANIFEST_COUNT => values::is_at_most(word, 65),
         TIME_OR_NULL => lend::equal(word, b"null") || values::is_signed(word),
         REGISTER => values::register(word) < 4,

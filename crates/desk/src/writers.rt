@@ -3,6 +3,7 @@ use crate::frames;
 use crate::reply;
 use crate::reply::Reply;
 use crate::shards;
+use crate::values;
 use crate::words;
 use wire::Wrote;
 
@@ -25,8 +26,8 @@ fn of_two(verb: usize, one: &[u8], two: &[u8], room: &mut [u8]) -> Wrote {
     }
 }
 
-// The verbs that take numbers, or more: varints (D2.1), pages (D2.5), auth payloads (D2.7) and
-// shards (D2.8).
+// The verbs that take numbers, or more: varints (D2.1), pages (D2.5), auth payloads (D2.7), shards
+// (D2.8) and floats (D2.12).
 fn of_more(verb: usize, line: &[u8], starts: &[usize], pool: &[u8], room: &mut [u8]) -> Wrote {
     let one = words::bytes(pool, starts, 1);
     match verb {
@@ -39,7 +40,8 @@ fn of_more(verb: usize, line: &[u8], starts: &[usize], pool: &[u8], room: &mut [
             room,
         ),
         11 => shards::shard_write(line, starts, pool, room),
-        _ => shards::shard_signed(line, starts, pool, room),
+        12 => shards::shard_signed(line, starts, pool, room),
+        _ => cbor::write::float_alone(values::double(words::word(line, starts, 1)), room),
     }
 }
 
@@ -74,7 +76,8 @@ pub(crate) fn call(
           page-write bnnr,\
           auth-write bbbr,\
           shard-write bbbbbnnnnr,\
-          shard-signed bbbbnnnnr",
+          shard-signed bbbbnnnnr,\
+          float-write dr",
     );
     if verb < 1 {
         return 0;

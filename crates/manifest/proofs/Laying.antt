@@ -16,7 +16,7 @@ use Rattle.wire.proofs.Cases.{done-value, then-done}
 use Rattle.wire.proofs.Writes.{written, no-room, denied}
 use Rattle.wire.specs.declared.Span.{Span}
 use Rattle.wire.specs.Span.{partAt}
-use Rattle.cbor.specs.Form.{headOf, stringOf, doubleOf, numberFieldOf}
+use Rattle.cbor.specs.Form.{headOf, stringOf, floatOf, numberFieldOf}
 use Rattle.wire.specs.Ascii.{ascii}
 use Rattle.cbor.specs.Put.{Put}
 use Rattle.cbor.proofs.Runs.{Left, left-all, left-on, left-last, put-fits}
@@ -102,7 +102,7 @@ module _ (v : Created) (at : ℕ) (x : List ℕ) (l : at + length (createdFieldO
   unfolding createdOf
   integer-run negative n e u = created-run (rw e u)
 
-  pub double-run : (bits : ℕ) → v ≡ created.Double bits → Put a (doubleOf bits) y z r → Put at (createdFieldOf v) x z r
+  pub double-run : (bits : ℕ) → v ≡ created.Double bits → Put a (floatOf bits) y z r → Put at (createdFieldOf v) x z r
   unfolding createdOf
   double-run bits e u = created-run (rw e u)
 

@@ -13,11 +13,10 @@ use Rattle.wire.specs.Writing.{told, outcome}
 use Rattle.wire.specs.declared.Wrote.{Wrote}
 use Rattle.wire.specs.declared.Wrote.the-variants.{Done, Refused}
 use Rattle.wire.proofs.Cases.{both-hold, said-yes, passed, done-value, then-done}
-use Rattle.wire.proofs.Digits.{length-digits}
 use Rattle.wire.specs.Span.{partAt}
-use Rattle.cbor.specs.Form.{headOf, headSize, stringOf, doubleOf, numberFieldOf}
+use Rattle.cbor.specs.Form.{headOf, headSize, stringOf, numberFieldOf}
 use Rattle.wire.specs.Ascii.{ascii}
-use Rattle.cbor.proofs.Sizes.{length-head, length-string, length-number-field-one, size-one, size-two, size-most}
+use Rattle.cbor.proofs.Sizes.{length-head, length-string, length-number-field-one, size-one, size-two, size-most, float-most}
 use Rattle.entry.specs.Writing.{entryIn, integerOf}
 use Rattle.entry.specs.declared.File.{File}
 use Rattle.entry.proofs.Sizes.{part-length}
@@ -51,15 +50,15 @@ seed-most seed.Null = omega arith
 seed-most (seed.Bytes span) = omega arith
 
 pub created-length : (v : Created) → length (createdOf v) ≡ createdSize v
-unfolding createdOf createdSize integerOf doubleOf
+unfolding createdOf createdSize integerOf
 created-length (created.Integer true n) = length-head 1 n
 created-length (created.Integer false n) = length-head 0 n
-created-length (created.Double bits) = omega (arith, length-digits 256 8 bits)
+created-length (created.Double bits) = refl
 
 pub created-most : (v : Created) → createdSize v ≤ 9
 unfolding createdSize
 created-most (created.Integer negative n) = size-most n
-created-most (created.Double bits) = omega arith
+created-most (created.Double bits) = float-most bits
 
 said-length : (v : Said) → length (saidOf v) ≡ 37 + length (secretOf (v .seed)) + headSize (length (v .files)) + length (entriesOf (v .files)) + length (createdOf (v .created))
 unfolding saidOf

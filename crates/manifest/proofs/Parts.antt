@@ -1,5 +1,5 @@
 -- Each field: what is written reads back, and what is read was written. Assumes nothing.
-use Prim.Native.Nat.{ℕ, zero, suc, _+_, _*_, _^_, _<_, _≤_}
+use Prim.Native.Nat.{ℕ, zero, suc, _+_, _*_, _<_, _≤_}
 use mathlib.Core.Path.{_≡_, refl, sym, ap, ap₂, _∙_, subst}
 use mathlib.Core.Bool.{Bool, true, false}
 use mathlib.Core.List.{List, [], _∷_, _++_, map}
@@ -12,19 +12,20 @@ use Rattle.wire.specs.Number.{Bytes, bigEndian}
 use Rattle.wire.proofs.Cases.{passed, then-passed, got-next, got-value}
 use Rattle.wire.proofs.Standing.{Stands, stands-none, stands-first, stands-second, stands-join, stands-as}
 use Rattle.wire.specs.Span.{partAt}
-use Rattle.cbor.specs.Form.{infoOf, widthOf, headOf, stringOf, doubleOf}
-use Rattle.cbor.specs.Item.{byteAt, numberAt, keyAt, stringAt, doubleAt, anyFieldAt}
+use Rattle.cbor.specs.Form.{infoOf, widthOf, headOf, stringOf, floatOf}
+use Rattle.cbor.specs.Item.{byteAt, numberAt, keyAt, stringAt, isFloat, floatAt, anyFieldAt}
 use Rattle.wire.specs.Ascii.{ascii}
+use Rattle.cbor.proofs.Shortest.{not-float}
 use Rattle.cbor.proofs.Sizes.{info-most, either}
 use Rattle.cbor.proofs.Within.{number-within, string-within}
-use Rattle.cbor.proofs.Written.{kind-bytes, kind-array, byte-back, double-back, key-back, number-back, string-back, any-field-back}
-use Rattle.cbor.proofs.Only.{double-only, key-only, number-only, string-only, any-field-only}
+use Rattle.cbor.proofs.Written.{kind-bytes, kind-array, byte-back, float-back, float-begins, key-back, number-back, string-back, any-field-back}
+use Rattle.cbor.proofs.Only.{float-only, key-only, number-only, string-only, any-field-only}
 use Rattle.entry.specs.File.{integerAt, fileAt}
 use Rattle.entry.specs.Writing.{Entry, entryIn, entryOf, integerOf, fileOf}
 use Rattle.entry.specs.declared.File.{File}
 use Rattle.entry.proofs.Writers.{within-digest}
 use Rattle.entry.proofs.Rounds.{sign-major, integer-back, integer-first, integer-only, Sound, good-sound, file-back, file-only}
-use Rattle.manifest.specs.Manifest.{seedAt, filesAt, listAt, agrees, sealedAt, finite, finiteAt, createdAt}
+use Rattle.manifest.specs.Manifest.{seedAt, filesAt, listAt, agrees, sealedAt, createdAt}
 use Rattle.manifest.specs.Writing.{Secret, none, some, seedIn, secretOf, entriesOf, createdOf, seedAllowed, createdAllowed, CreatedFits}
 use Rattle.manifest.specs.declared.Seed.{Seed}
 use Rattle.manifest.specs.declared.Seed.the-variants as seed
@@ -218,14 +219,6 @@ sealed-only {s} {at} {next} {v} {b} e =
 
 -- ---- created
 
-double-first : {s : List ℕ} {at next : ℕ} (bits : ℕ) → Stands s at (doubleOf bits) next → byteAt s at ≡ got 0xFB (at + 1)
-unfolding doubleOf
-double-first bits v = byte-back 0xFB (stands-first (0xFB ∷ []) (bigEndian 8 bits) v)
-
-finite-back : {s : List ℕ} {at next : ℕ} (bits : ℕ) → bits < 2 ^ 64 → finite bits ≡ true → Stands s at (doubleOf bits) next → finiteAt s at ≡ got (created.Double bits) next
-unfolding finiteAt
-finite-back bits t a v = rw (double-back bits t v, a)
-
 pub created-back : {s : List ℕ} {at next : ℕ} (v : Created) → CreatedFits v → createdAllowed v ≡ true → Stands s at (stringOf 3 (ascii "created") ++ createdOf v) next → createdAt s at ≡ got v next
 unfolding createdAt createdOf createdAllowed
 created-back (created.Integer negative n) t a h =
@@ -233,34 +226,35 @@ created-back (created.Integer negative n) t a h =
     let v = stands-second (stringOf 3 (ascii "created")) (integerOf negative n) h in
     let l = ltb-true n 9223372036854775808 a in
     let b = integer-first negative n l v in
-    rw (any-field-back (ascii "created") (omega arith) k (b .1), ne-eqb (b .0) 0xFB (omega (arith, b .2)), integer-back negative n l v, sign-major negative)
+    rw (any-field-back (ascii "created") (omega arith) k (b .1), not-float (b .0) (omega (arith, b .2)), integer-back negative n l v, sign-major negative)
 created-back {s} {at} {next} (created.Double bits) t a h =
-    let k = stands-first (stringOf 3 (ascii "created")) (doubleOf bits) h in
-    let v = stands-second (stringOf 3 (ascii "created")) (doubleOf bits) h in
-    rw (any-field-back (ascii "created") (omega arith) k (double-first bits v)) (finite-back bits t a v)
+    let k = stands-first (stringOf 3 (ascii "created")) (floatOf bits) h in
+    let v = stands-second (stringOf 3 (ascii "created")) (floatOf bits) h in
+    let b = float-begins bits v in
+    rw (any-field-back (ascii "created") (omega arith) k (b .1), b .2, float-back bits t a v)
 
 pub created-only : {s : List ℕ} {at next : ℕ} {v : Created} → Bytes s → createdAt s at ≡ got v next
     → Stands s at (stringOf 3 (ascii "created") ++ createdOf v) next × (createdAllowed v ≡ true) × CreatedFits v
-unfolding createdAt finiteAt createdOf createdAllowed
+unfolding createdAt createdOf createdAllowed
 created-only {s} {at} {next} {v} y e =
     let k = then-passed (anyFieldAt s at (ascii "created")) _ e in
     let r = value (k .1) (k .0) (k .3) in
     (stands-join (any-field-only (ascii "created") (k .2) .0) (r .0), r .1, r .2)
   where
-    value : (a x : ℕ) → choose (eqb x 0xFB) (finiteAt s a) (then (integerAt s a) (λ (h, next). got (created.Integer (eqb (h .major) 1) (h .number)) next)) ≡ got v next
+    value : (a x : ℕ) → choose (isFloat x) (then (floatAt s a) (λ (bits, next). got (created.Double bits) next)) (then (integerAt s a) (λ (h, next). got (created.Integer (eqb (h .major) 1) (h .number)) next)) ≡ got v next
         → Stands s a (createdOf v) next × (createdAllowed v ≡ true) × CreatedFits v
-    value a x = either (λ (g : Got Created). g ≡ got v next → Stands s a (createdOf v) next × (createdAllowed v ≡ true) × CreatedFits v) (eqb x 0xFB) double whole
+    value a x = either (λ (g : Got Created). g ≡ got v next → Stands s a (createdOf v) next × (createdAllowed v ≡ true) × CreatedFits v) (isFloat x) double whole
       where
-        double : eqb x 0xFB ≡ true → finiteAt s a ≡ got v next → Stands s a (createdOf v) next × (createdAllowed v ≡ true) × CreatedFits v
+        double : isFloat x ≡ true → then (floatAt s a) (λ (bits, next). got (created.Double bits) next) ≡ got v next
+            → Stands s a (createdOf v) next × (createdAllowed v ≡ true) × CreatedFits v
         double q g =
-            let i = then-passed (doubleAt s a) _ g in
-            let u = passed (finite (i .0)) (got (created.Double (i .0)) (i .1)) 19 (i .3) in
-            let f : created.Double (i .0) ≡ v = got-value (u .1) in
-            let n : i .1 ≡ next = got-next (u .1) in
-            let r = double-only y (i .2) in
-            subst (λ (v : Created). Stands s a (createdOf v) next × (createdAllowed v ≡ true) × CreatedFits v) f (stands-as refl n (r .0), u .0, r .1)
+            let i = then-passed (floatAt s a) (λ (bits, next). got (created.Double bits) next) g in
+            let f : created.Double (i .0) ≡ v = got-value (i .3) in
+            let n : i .1 ≡ next = got-next (i .3) in
+            let r = float-only y (i .2) in
+            subst (λ (v : Created). Stands s a (createdOf v) next × (createdAllowed v ≡ true) × CreatedFits v) f (stands-as refl n (r .0), r .2, r .1)
 
-        whole : eqb x 0xFB ≡ false → then (integerAt s a) (λ (h, next). got (created.Integer (eqb (h .major) 1) (h .number)) next) ≡ got v next
+        whole : isFloat x ≡ false → then (integerAt s a) (λ (h, next). got (created.Integer (eqb (h .major) 1) (h .number)) next) ≡ got v next
             → Stands s a (createdOf v) next × (createdAllowed v ≡ true) × CreatedFits v
         whole q g =
             let i = then-passed (integerAt s a) (λ (h, next). got (created.Integer (eqb (h .major) 1) (h .number)) next) g in

@@ -4,10 +4,13 @@ use mathlib.Core.Path.{_≡_}
 use mathlib.Core.Bool.{Bool, true, not}
 use mathlib.Core.List.{List}
 use lib.Dec.{ltb}
-use Rattle.cbor.specs.Form.{headSize}
+use lib.ListN.{length}
+use Rattle.cbor.specs.Float.{finite}
+use Rattle.cbor.specs.Form.{headSize, floatOf}
+use Rattle.cbor.specs.declared.Width.the-variants as width
 use Rattle.entry.specs.Writing.{digestIn}
 use Rattle.wire.specs.declared.Span.{Span}
-use Rattle.manifest.specs.Manifest.{agrees, finite}
+use Rattle.manifest.specs.Manifest.{agrees}
 use Rattle.manifest.specs.Writing.{seedAllowed, createdAllowed}
 use Rattle.manifest.specs.Private.{seedSize, createdSize}
 use Rattle.manifest.specs.declared.Seed.{Seed}
@@ -52,10 +55,10 @@ module _ (v : Created) where
     size-integer k h = rw e h
 
   module _ (bits : ℕ) (e : v ≡ created.Double bits) where
-    pub allowed-double : (b : Bool) → b ≡ finite bits → b ≡ createdAllowed v
+    pub allowed-double : (b : Bool) → b ≡ finite width.Double bits → b ≡ createdAllowed v
     unfolding createdAllowed
     allowed-double b h = rw e h
 
-    pub size-double : 9 ≡ createdSize v
+    pub size-double : (k : ℕ) → k ≡ length (floatOf bits) → k ≡ createdSize v
     unfolding createdSize
-    size-double = rw e
+    size-double k h = rw e h

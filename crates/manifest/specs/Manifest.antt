@@ -1,5 +1,5 @@
 -- The manifest, as it is read: section 13 of docs/RULES.md.
-use Prim.Native.Nat.{ℕ, zero, suc, _+_, _-_, _/_, _%_, _^_}
+use Prim.Native.Nat.{ℕ, zero, suc, _+_}
 use mathlib.Core.Bool.{Bool, not}
 use mathlib.Core.List.{List, [], _∷_}
 use lib.Dec.{leb, eqb}
@@ -7,7 +7,7 @@ use lib.ListN.{length}
 use Rattle.wire.specs.Answer.{choose, then, demand, Got, got}
 use Rattle.wire.specs.Sizes.{mostManifest, mostFiles}
 use Rattle.wire.specs.Span.{partAt}
-use Rattle.cbor.specs.Item.{oneAt, numberAt, keyAt, stringAt, doubleAt, numberFieldAt, anyFieldAt}
+use Rattle.cbor.specs.Item.{oneAt, numberAt, keyAt, stringAt, isFloat, floatAt, numberFieldAt, anyFieldAt}
 use Rattle.wire.specs.Ascii.{ascii}
 use Rattle.entry.specs.File.{integerAt, fileAt}
 use Rattle.entry.specs.declared.File.{File}
@@ -54,19 +54,11 @@ sealedAt s at key =
     (demand (leb first 0xF5) 18
     (demand (agrees key (eqb first 0xF5)) 19 (got (eqb first 0xF5) (a + 1)))))
 
--- a double is finite where its eleven exponent bits are not all ones (R10.8)
-unfoldable pub finite : ℕ → Bool
-finite bits = not (eqb (bits / 2 ^ 52 % 2 ^ 11) (2 ^ 11 - 1))
-
--- a double that is not finite is 19 (R10.8)
-unfoldable pub finiteAt : List ℕ → ℕ → Got Created
-finiteAt s at = then (doubleAt s at) (λ (bits, next). demand (finite bits) 19 (got (created.Double bits) next))
-
--- an integer, or FB with eight bytes (R13.6)
+-- a float, told by its first byte, or an integer (R13.6)
 unfoldable pub createdAt : List ℕ → ℕ → Got Created
 createdAt s at =
     then (anyFieldAt s at (ascii "created")) (λ (first, a).
-    choose (eqb first 0xFB) (finiteAt s a)
+    choose (isFloat first) (then (floatAt s a) (λ (bits, next). got (created.Double bits) next))
     (then (integerAt s a) (λ (h, next). got (created.Integer (eqb (h .major) 1) (h .number)) next)))
 
 -- what stands after the files

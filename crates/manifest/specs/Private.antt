@@ -7,7 +7,7 @@ use mathlib.Core.List.{List, [], _∷_, _++_}
 use lib.ListN.{length, take}
 use Rattle.wire.specs.Answer.{choose, done, refusedAt, refused, Got, got}
 use Rattle.wire.specs.Sizes.{mostFiles}
-use Rattle.cbor.specs.Form.{headOf, headSize, stringOf, numberFieldOf}
+use Rattle.cbor.specs.Form.{headOf, headSize, stringOf, floatOf, numberFieldOf}
 use Rattle.wire.specs.Ascii.{ascii}
 use Rattle.wire.specs.declared.NumberRead.the-variants as number
 use Rattle.entry.specs.declared.File.{File}
@@ -36,7 +36,7 @@ seedSize (seed.Bytes span) = 34
 
 unfoldable pub createdSize : Created → ℕ
 createdSize (created.Integer negative n) = headSize n
-createdSize (created.Double bits) = 9
+createdSize (created.Double bits) = length (floatOf bits)
 
 -- a key and its value
 unfoldable pub seedFieldOf : List ℕ → Seed → List ℕ

@@ -8,11 +8,13 @@ use lib.ListN.{length, take}
 use Rattle.wire.specs.Answer.{choose, Answer, done, then, demand}
 use Rattle.wire.specs.Sizes.{mostManifest, mostFiles}
 use Rattle.wire.specs.Span.{partAt}
-use Rattle.cbor.specs.Form.{headOf, stringOf, doubleOf, numberFieldOf}
+use Rattle.cbor.specs.Float.{finite}
+use Rattle.cbor.specs.declared.Width.the-variants as width
+use Rattle.cbor.specs.Form.{headOf, stringOf, floatOf, numberFieldOf}
 use Rattle.wire.specs.Ascii.{ascii}
 use Rattle.entry.specs.Writing.{Entry, entryIn, entryOf, integerOf, digestIn, fileVerdict}
 use Rattle.entry.specs.declared.File.{File}
-use Rattle.manifest.specs.Manifest.{Listing, agrees, finite}
+use Rattle.manifest.specs.Manifest.{Listing, agrees}
 use Rattle.manifest.specs.declared.Seed.{Seed}
 use Rattle.manifest.specs.declared.Seed.the-variants as seed
 use Rattle.manifest.specs.declared.Created.{Created}
@@ -53,10 +55,10 @@ unfoldable pub entriesOf : List Entry → List ℕ
 entriesOf [] = []
 entriesOf (e ∷ es) = entryOf e ++ entriesOf es
 
--- an integer or a double (R13.6)
+-- an integer or a float (R13.6)
 unfoldable pub createdOf : Created → List ℕ
 createdOf (created.Integer negative n) = integerOf negative n
-createdOf (created.Double bits) = doubleOf bits
+createdOf (created.Double bits) = floatOf bits
 
 -- a map of five (R13.1), its fields in the order of their keys (R10.1)
 unfoldable pub saidOf : Said → List ℕ
@@ -87,10 +89,10 @@ filesVerdict pool prev [] = done []
 filesVerdict pool prev (f ∷ fs) =
     then (fileVerdict pool prev f) (λ b. then (filesVerdict pool (partAt pool (f .path)) fs) (λ bs. done (b ++ bs)))
 
--- from -2^63 to 2^63 - 1, or finite (R13.6, R10.8)
+-- from -2^63 to 2^63 - 1, or finite (R13.6, R10.9)
 unfoldable pub createdAllowed : Created → Bool
 createdAllowed (created.Integer negative n) = ltb n (2 ^ 63)
-createdAllowed (created.Double bits) = finite bits
+createdAllowed (created.Double bits) = finite width.Double bits
 
 -- the first `count` files of the array are those that are meant
 unfoldable pub listed : Manifest → Listing

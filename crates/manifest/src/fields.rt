@@ -2,7 +2,7 @@
 // furthest in front is told (R10.2), and a refusal leaves at once (R18.4).
 ghost use mathlib.Core.Path.{_≡_};
 ghost use Rattle.wire.specs.Answer.{numberOf};
-ghost use Rattle.manifest.specs.Manifest.{seedAt, agrees, sealedAt, finite, finiteAt, createdAt, endAt};
+ghost use Rattle.manifest.specs.Manifest.{seedAt, agrees, sealedAt, createdAt, endAt};
 ghost use Rattle.manifest.specs.Private.{seedTold, sealedTold, createdTold, endTold};
 use super::Created;
 use super::CreatedRead;
@@ -89,29 +89,6 @@ fn sealed_field(s: &[u8], at: usize, seed: Seed) -> SealedRead
     }
 }
 
-// Whether the double with these bits is finite: its eleven exponent bits are not all ones (R10.8).
-pub(super) fn is_finite(bits: u64) -> bool
-    ensures { λ r. ⌜ r ≡ finite bits ⌝ }
-{
-    bits / 0x10000000000000 % 2048 != 2047
-}
-
-fn finite_double(s: &[u8], at: usize) -> CreatedRead
-    ensures { λ r. ⌜ createdTold r ≡ finiteAt (now (s .entry)) at ⌝ }
-{
-    let d = cbor::read::double(s, at);
-    let NumberRead::Value { n: bits, next } = d else {
-        return CreatedRead::Refused { no: d.no() };
-    };
-    if !is_finite(bits) {
-        return CreatedRead::Refused { no: OUT_OF_RANGE };
-    }
-    CreatedRead::Value {
-        created: Created::Double { bits },
-        next,
-    }
-}
-
 impl CreatedRead {
     fn no(self) -> u8
         ensures { λ n. ⌜ n ≡ numberOf (createdTold self) ⌝ }
@@ -130,8 +107,15 @@ fn created_field(s: &[u8], at: usize) -> CreatedRead
     let NumberRead::Value { n: first, next: a } = f else {
         return CreatedRead::Refused { no: f.no() };
     };
-    if first == 0xFB {
-        return finite_double(s, a);
+    if cbor::float::begins(first) {
+        let d = cbor::read::float(s, a);
+        let NumberRead::Value { n: bits, next } = d else {
+            return CreatedRead::Refused { no: d.no() };
+        };
+        return CreatedRead::Value {
+            created: Created::Double { bits },
+            next,
+        };
     }
     let h = entry::read::integer(s, a);
     let HeadRead::Value { major, n, next } = h else {

@@ -35,7 +35,7 @@ fn created_field(created: Created, out: &mut [u8], at: usize) -> usize
     let a = cbor::write::string(out, at, TEXT, b"created");
     match created {
         Created::Integer { negative, n } => entry::write::integer(out, a, negative, n),
-        Created::Double { bits } => cbor::write::double(out, a, bits),
+        Created::Double { bits } => cbor::write::float(out, a, bits),
     }
 }
 

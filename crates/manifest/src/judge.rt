@@ -31,7 +31,7 @@ fn created_allowed(created: Created) -> bool
 {
     match created {
         Created::Integer { negative: _, n } => n < 0x8000000000000000,
-        Created::Double { bits } => fields::is_finite(bits),
+        Created::Double { bits } => cbor::float::finite(bits),
     }
 }
 
@@ -49,7 +49,7 @@ fn created_size(created: Created) -> usize
 {
     match created {
         Created::Integer { negative: _, n } => cbor::write::size(n),
-        Created::Double { bits: _ } => 9,
+        Created::Double { bits } => cbor::write::float_size(bits),
     }
 }
 

@@ -33,7 +33,7 @@ pub enum Seed {
 pub enum Created {
     // The number n, or -1 - n where it is negative (R13.6).
     Integer { negative: bool, n: u64 },
-    // A double, by its 64 bits (R10.8).
+    // A float, by the 64 bits of its double (R10.8).
     Double { bits: u64 },
 }
 

@@ -7,6 +7,7 @@ from ..envelope import envelope_bytes
 from ..forms import varint_write
 from ..manifest import File, Manifest
 from .common import Group, damaged, line, rooms, single, some_room, truncations, with_byte
+from .floating import LONGER, NOT_FINITE, SHORTEST, double_of, edge_items, some_item
 from .samples import (manifest_payload, manifest_values, sized_files, some_contents, some_files)
 from .tokens import INTEGERS, all_heads, joined, split, variations
 
@@ -17,6 +18,11 @@ DOUBLES = ["0000000000000000", "8000000000000000", "0000000000000001", "000fffff
            "7fefffffffffffff", "ffefffffffffffff", "7ff0000000000000", "fff0000000000000",
            "7ff0000000000001", "7ff8000000000000", "fff8000000000000", "7fffffffffffffff",
            "ffffffffffffffff", "7fe0000000000000", "3ff199999999999a", "c1e0000000000000"]
+# Doubles that are halves or singles when they are written, and doubles next to such.
+SHORTER = ["3e70000000000000", "3e60000000000000", "3e70000000000001", "3f10000000000000",
+           "3f0ff80000000000", "40effc0000000000", "40effe0000000000", "40f0000000000000",
+           "c010000000000000", "36a0000000000000", "3690000000000000", "3810000000000000",
+           "380fffffc0000000", "47efffffe0000000", "47efffffe0000001", "c7efffffe0000000"]
 
 
 def manifest_line(manifest, room):
@@ -112,7 +118,7 @@ def list_heads(rng):
 
 
 def number_lines(rng):
-    """Sizes (R3.6), times (R13.6) and doubles (R10.8) at each bound and one past."""
+    """Sizes (R3.6), times (R13.6) and floats (R10.8) at each bound and one past."""
     good = plain(rng)
     entry = good.files[0]
     for size in INTEGERS:
@@ -121,7 +127,7 @@ def number_lines(rng):
         yield from both(good._replace(files=(entry._replace(mtime=mtime),)))
     for created in BOUNDS:
         yield from both(good._replace(created=("i", created)))
-    for double in DOUBLES:
+    for double in DOUBLES + SHORTER:
         yield from both(good._replace(created=("f", bytes.fromhex(double))))
     for past in (2**63, 2**63 + 1, 2**64 - 1, -2**63 - 1, -2**64 + 1):
         yield from both(good._replace(files=(entry._replace(mtime=past),)))
@@ -132,6 +138,27 @@ def number_lines(rng):
     for negative in (-1, -24, -25, -2**32, -2**64):
         changed = good._replace(files=(entry._replace(size=negative),))
         yield line("manifest-read", manifest_payload(changed))
+
+
+def with_created(raw, item):
+    """A manifest with these bytes for its `created`; behind it come the key of `version` and 1."""
+    items = split(raw)
+    return joined(items[:-3] + [(item, b"")] + items[-2:])
+
+
+def float_lines(rng):
+    """Floats as `created`: every width, also too long or not finite (R10.9), and each cut short."""
+    raw = manifest_payload(plain(rng))
+    for item in edge_items():
+        yield line("manifest-read", with_created(raw, item))
+    front = joined(split(raw)[:-3])
+    for item in map(bytes.fromhex, SHORTEST + LONGER + NOT_FINITE):
+        yield line("manifest-read", with_created(raw, item))
+        yield from (line("manifest-read", front + cut) for cut in (*truncations(item), item))
+        for byte in range(256):
+            yield line("manifest-read", with_created(raw, with_byte(item, 0, byte)))
+    for double in map(double_of, edge_items()):
+        yield manifest_line(plain(rng)._replace(created=("f", double)), 200)
 
 
 def seal_lines(rng):
@@ -183,8 +210,8 @@ def manifest_edges(rng):
     for manifest in (sealed, unsealed):
         raw = manifest_payload(manifest)
         yield from single(line("manifest-read", bad) for bad in variations(rng, raw))
-    for part in (path_lines, count_lines, list_heads, number_lines, seal_lines, order_lines,
-                 size_lines):
+    for part in (path_lines, count_lines, list_heads, number_lines, float_lines, seal_lines,
+                 order_lines, size_lines):
         yield from single(part(rng))
 
 
@@ -217,6 +244,8 @@ def manifest_chance(rng):
     if rng.random() < 0.3:
         manifest = some_fault(rng, manifest)
     raw, kind = manifest_payload(manifest), rng.random()
+    if kind < 0.1:
+        return [line("manifest-read", with_created(raw, some_item(rng)))]
     if kind < 0.7:
         return [line("manifest-read", raw if kind < 0.25 else damaged(rng, raw))]
     return [manifest_line(manifest, some_room(rng, len(raw)))]
@@ -319,6 +348,11 @@ def envelope_edges(rng):
     for part in (mismatches, faulty, large_envelopes):
         for manifest, payload in part(rng):
             yield from single(envelope_pair_lines(manifest_payload(manifest), payload))
+    manifest, payload = some_envelope(rng)
+    for item in map(bytes.fromhex, SHORTEST + LONGER + NOT_FINITE):
+        raw = with_created(manifest_payload(manifest), item)
+        yield from single(envelope_pair_lines(raw, payload))
+        yield from single(envelope_pair_lines(raw, payload + b"x"))
     for bad in (b"", b"\xa5", b"x" * 16384, b"x" * 16385, b"x" * 20000):
         yield from single(envelope_pair_lines(bad, b""))
         yield from single(envelope_pair_lines(bad, b"payload"))

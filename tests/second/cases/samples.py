@@ -3,6 +3,7 @@
 from ..manifest import File, Manifest, manifest_pairs, path_allowed
 from ..payloads import TYPES, Auth, Shard, auth_pairs, encode, shard_pairs
 from ..sums import sha256
+from .floating import some_finite
 
 LETTERS = "abcdefghijklmnopqrstuvwxyzABCXYZ0189 ._-/\u00e9\u00df\u0100\u02ff"
 
@@ -59,11 +60,10 @@ def some_mtime(rng):
 
 
 def some_created(rng):
-    """An integer, or a finite double as eight bytes."""
+    """An integer, or a finite double as eight bytes, of any width when it is written."""
     if rng.random() < 0.6:
         return "i", rng.choice((-1, 1)) * rng.getrandbits(rng.randrange(63))
-    sign_and_exponent = rng.randrange(0x7FF) | rng.getrandbits(1) << 11
-    return "f", (sign_and_exponent << 52 | rng.getrandbits(52)).to_bytes(8, "big")
+    return "f", some_finite(rng)
 
 
 def some_files(rng, contents):

@@ -1,6 +1,6 @@
 """This program held to the standards, to the examples of the rules, and to itself (R18.7)."""
 
-from . import comparing, rounds, sets, standards  # noqa: F401  (each adds its checks)
+from . import comparing, floating, rounds, sets, standards  # noqa: F401  (each adds its checks)
 from .common import CHECKS
 
 

@@ -93,13 +93,13 @@ FAKES = {
 }
 
 
-def fake_desk(folder, name):
-    """A desk in a file of its own, faithful but for one thing."""
-    change, after = FAKES[name]
+def fake_desk(folder, name, fakes, few):
+    """A desk of few verbs in a file of its own, faithful but for one thing."""
+    change, after = fakes[name]
     tests = os.path.dirname(os.path.dirname(os.path.dirname(os.path.abspath(__file__))))
     path = os.path.join(folder, name.replace(" ", "-") + ".py")
     with open(path, "w", encoding="ascii") as file:
-        file.write(FAKE.format(tests=tests, few=FEW, change=change, after=after))
+        file.write(FAKE.format(tests=tests, few=few, change=change, after=after))
     return [sys.executable, "-B", path]
 
 
@@ -109,7 +109,7 @@ def comparison_can_fail():
     with tempfile.TemporaryDirectory() as folder:
         for name in FAKES:
             told = []
-            passed = compare.compare(fake_desk(folder, name), 1, 6000, FEW, told.append)
+            passed = compare.compare(fake_desk(folder, name, FAKES, FEW), 1, 6000, FEW, told.append)
             same(passed, name == "faithful", name, told[:3])
 
 

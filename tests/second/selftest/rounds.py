@@ -4,7 +4,7 @@ import posixpath
 import random
 from itertools import product
 
-from .. import cases, envelope, frames, manifest, payloads, sums
+from .. import cases, envelope, floats, frames, manifest, payloads, sums
 from ..cases import samples
 from ..cases.common import damaged
 from .common import answer_of, check, same
@@ -94,10 +94,29 @@ def bounds_of_manifests():
     for value, number in ((-2**63 - 1, 19), (-2**63, 0), (2**63 - 1, 0), (2**63, 19)):  # R13.6
         same(judged(plain._replace(created=("i", value))), number)
         same(judged(plain._replace(files=(entry._replace(mtime=value),))), number)
+    for bits, number in (("3ff8000000000000", 0), ("7fefffffffffffff", 0),  # R10.8
+                         ("7ff0000000000000", 19), ("fff8000000000000", 19)):
+        same(judged(plain._replace(created=("f", bytes.fromhex(bits)))), number)
     for size, number in ((-1, 19), (0, 0), (2**32 - 1, 0), (2**32, 19)):  # R3.6
         same(judged(plain._replace(files=(entry._replace(size=size),))), number)
     for target, number in ((16383, 0), (16384, 0), (16385, 9)):  # R3.3
         same(judged(plain._replace(files=samples.sized_files(target, plain))), number)
+
+
+@check
+def a_float_alone_and_in_a_manifest():
+    """R13.6: `created` is judged as the same item is alone (R10.9), and reads as the same value."""
+    rng = random.Random(18)
+    whole = samples.manifest_payload(samples.manifest_values(rng))
+    answers = set()
+    chance = [cases.floating.some_item(rng) for _ in range(5000)]
+    for item in cases.floating.edge_items() + chance:
+        number, value = answer_of(floats.float_read, item)
+        raw = cases.listing.with_created(whole, item)
+        due = (number, ("f", value[0])) if number == 0 else (number, 0)
+        same(answer_of(lambda: manifest.manifest_read(raw).created), due, item.hex())
+        answers.add(number)
+    same(answers, {0, 18, 19})
 
 
 @check

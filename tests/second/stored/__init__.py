@@ -6,9 +6,9 @@ beside the call, and the run is not made if this program answers otherwise.
 """
 
 from ..desk import Desk
-from . import digests, forms, frames, lines, payloads, sessions
+from . import digests, floats, forms, frames, lines, payloads, sessions
 
-SECTIONS = [section for module in (forms, digests, frames, payloads, sessions, lines)
+SECTIONS = [section for module in (forms, digests, frames, floats, payloads, sessions, lines)
             for section in module.SECTIONS]
 
 OPENING = b"""\

@@ -1,7 +1,7 @@
 """Stored calls of the auth, shard, manifest and envelope verbs."""
 
 from ..cases.common import argument, with_byte
-from ..cases.listing import manifest_line
+from ..cases.listing import manifest_line, with_created
 from ..cases.samples import longest, manifest_payload
 from ..cases.tokens import joined, split, wide
 from ..envelope import envelope_bytes
@@ -166,6 +166,56 @@ def one_file(**changes):
     return UNSEALED._replace(files=(FILES[0]._replace(**changes),))
 
 
+def dated(manifest, item, is_):
+    """A manifest with these bytes for its `created`, to the reader."""
+    raw = with_created(manifest_payload(manifest), bytes.fromhex(item))
+    return call("manifest-read", raw, is_=is_)
+
+
+def manifest_floats():
+    yield note("created as a half, a single and a double (R13.6): 1.5, 100000.0 and 1.1")
+    shown = " ".join(argument(value) for file in FILES for value in file)
+    for double, item in (("3ff8000000000000", "f93e00"), ("40f86a0000000000", "fa47c35000"),
+                         ("3ff199999999999a", "fb3ff199999999999a")):
+        manifest = UNSEALED._replace(created=("f", bytes.fromhex(double)))
+        raw = with_created(manifest_payload(UNSEALED), bytes.fromhex(item))
+        yield dated(UNSEALED, item, f"0 {UNSEALED.seed.hex()} 0 f{double} 2 {shown}")
+        yield writing(manifest, len(raw), is_=f"0 {raw.hex()}")
+        yield writing(manifest, len(raw) - 1, is_="11")
+    yield note("both zeros, the greatest double and the greatest half pass (R10.8)")
+    for double in ("0000000000000000", "8000000000000000", "7fefffffffffffff", "40effc0000000000"):
+        manifest = SEALED._replace(created=("f", bytes.fromhex(double)))
+        yield reading(manifest)
+        yield writing(manifest, 300)
+
+
+def manifest_float_faults():
+    yield note("infinities and NaN are 19 (R10.8), in each width (R10.9), and before room (R10.7)")
+    for double in ("7ff0000000000000", "fff0000000000000", "7ff8000000000000"):
+        manifest = SEALED._replace(created=("f", bytes.fromhex(double)))
+        yield reading(manifest, is_="19")
+        yield writing(manifest, 300, is_="19")
+        yield writing(manifest, 0, is_="19")
+    for item in ("f97c00", "f9fc00", "f97e00", "fa7f800000", "faff800000", "fa7fc00000"):
+        yield dated(SEALED, item, "19")
+    yield note("longer than need be 18 (R10.9): 1.5 in nine bytes, as every float was once")
+    for item in ("fb3ff8000000000000", "fa3fc00000", "fb40f86a0000000000", "fb8000000000000000",
+                 "fa00000000"):
+        yield dated(SEALED, item, "18")
+    yield note("the input ends in a float 3, whatever its bits are (R10.9)")
+    raw = manifest_payload(UNSEALED)
+    front = raw[:raw.index(b"gcreated") + 8]
+    for item in ("f9", "f97c", "fa", "fa7f8000", "fb", "fb7ff0", "fb3ff80000000000"):
+        yield call("manifest-read", front + bytes.fromhex(item), is_="3")
+    yield note("created as null, as false, as text or as another simple value is 18 (R10.3)")
+    for item in ("f6", "f4", "60", "f7", "f820", "fc"):
+        yield dated(UNSEALED, item, "18")
+    yield note("a float is no mtime and no version: 18 (R13.6, R13.1)")
+    place = [contents for _, contents in split(raw)].index(b"mtime") + 1
+    yield call("manifest-read", items_changed(raw, place, b"\xf9\x3e\x00", b""), is_="18")
+    yield call("manifest-read", raw[:-1] + b"\xf9\x3c\x00", is_="18")
+
+
 def manifest_values():
     yield from title("Manifests (R13.1): unsealed and sealed, read (D2.9) and written (D2.10)")
     for manifest in (UNSEALED, SEALED):
@@ -185,18 +235,6 @@ def manifest_values():
     for number in (-2**63 - 1, 2**63):
         yield reading(UNSEALED._replace(created=("i", number)), is_="19")
         yield reading(one_file(mtime=number), is_="19")
-    yield note("doubles: minus zero and the largest pass; infinities and NaN are 19 (R10.8)")
-    for double, number in (("8000000000000000", None), ("7fefffffffffffff", None),
-                           ("7ff0000000000000", "19"), ("fff0000000000000", "19"),
-                           ("7ff8000000000000", "19")):
-        manifest = SEALED._replace(created=("f", bytes.fromhex(double)))
-        yield reading(manifest, is_=number)
-        yield writing(manifest, 300, is_=number)
-    yield note("created as a single or a half float, as null or as false is 18 (R10.3)")
-    place = [c for _, c in split(manifest_payload(UNSEALED))].index(b"created") + 1
-    for item in (b"\xfa\x47\xc3\x50\x00", b"\xf9\x3e\x00", b"\xf6", b"\xf4"):
-        yield call("manifest-read", items_changed(manifest_payload(UNSEALED), place, item, b""),
-                   is_="18")
 
 
 def manifest_parts():
@@ -265,6 +303,8 @@ def manifest_shape():
 
 def manifest():
     yield from manifest_values()
+    yield from manifest_floats()
+    yield from manifest_float_faults()
     yield from manifest_files()
     yield from manifest_shape()
 

@@ -1,5 +1,6 @@
--- `manifest::fields::created_field` meets its contract: the key, then a double or an integer.
+-- `manifest::fields::created_field` meets its contract: the key, then a float or an integer.
 -- Assumes nothing.
+use Rattle.wire.proofs.Branch.{tests}
 use Rattle.manifest.specs.Manifest.{createdAt}
 use Rattle.cbor.proofs.Answers.{chain}
 use borrow.Author.Needs.{needs}
@@ -8,19 +9,23 @@ use Rattle.manifest.proofs.fields.created_field.Tie as tie
 
 returns : tie.Need-returns
 unfolding createdAt
-returns c = search chain depth 40
+returns c = search (chain, tests) depth 40
 
 returns-2 : tie.Need-returns-2
 unfolding createdAt
-returns-2 c = search chain depth 40
+returns-2 c = search (chain, tests) depth 40
 
 returns-3 : tie.Need-returns-3
 unfolding createdAt
-returns-3 c = search chain depth 40
+returns-3 c = search (chain, tests) depth 40
 
 returns-4 : tie.Need-returns-4
 unfolding createdAt
-returns-4 c = search chain depth 40
+returns-4 c = search (chain, tests) depth 40
+
+returns-5 : tie.Need-returns-5
+unfolding createdAt
+returns-5 c = search (chain, tests) depth 40
 
 -- Found by search:
 
@@ -39,8 +44,20 @@ enum-told c = search needs
 no-requires : tie.Need-no-requires
 no-requires c κs = search needs
 
-finite-double-requires : tie.Need-finite-double-requires
-finite-double-requires c κs = search needs
+begins-requires : tie.Need-begins-requires
+begins-requires c κs = search needs
+
+float-requires : tie.Need-float-requires
+float-requires c κs = search needs
+
+enum-known-d : tie.Need-enum-known-d
+enum-known-d c = search needs
+
+enum-told-2 : tie.Need-enum-told-2
+enum-told-2 c = search needs
+
+no-requires-2 : tie.Need-no-requires-2
+no-requires-2 c κs = search needs
 
 integer-requires : tie.Need-integer-requires
 integer-requires c κs = search needs
@@ -48,11 +65,11 @@ integer-requires c κs = search needs
 enum-known-h : tie.Need-enum-known-h
 enum-known-h c = search needs
 
-enum-told-2 : tie.Need-enum-told-2
-enum-told-2 c = search needs
+enum-told-3 : tie.Need-enum-told-3
+enum-told-3 c = search needs
 
-no-requires-2 : tie.Need-no-requires-2
-no-requires-2 c κs = search needs
+no-requires-3 : tie.Need-no-requires-3
+no-requires-3 c κs = search needs
 
 pub created-field-spec : {M : Type 1} → statement M
 created-field-spec =
@@ -64,11 +81,16 @@ created-field-spec =
     enum-told
     no-requires
     returns
-    finite-double-requires
-    returns-2
-    integer-requires
-    enum-known-h
+    begins-requires
+    float-requires
+    enum-known-d
     enum-told-2
     no-requires-2
+    returns-2
     returns-3
-    returns-4)
+    integer-requires
+    enum-known-h
+    enum-told-3
+    no-requires-3
+    returns-4
+    returns-5)

@@ -1,5 +1,4 @@
--- `manifest::form::created_field` meets its contract: the key and the value are one write.
--- Assumes nothing.
+-- `manifest::form::created_field` meets its contract. Assumes nothing.
 use Rattle.manifest.proofs.Laying.{integer-run, double-run}
 use borrow.Author.Needs.{needs}
 use Rattle.manifest.proofs.form.created_field.Statement.{statement}
@@ -28,8 +27,8 @@ integer-requires c κs = search needs
 enum-known-created-2 : tie.Need-enum-known-created-2
 enum-known-created-2 c = search needs
 
-double-requires : tie.Need-double-requires
-double-requires c κs = search needs
+float-requires : tie.Need-float-requires
+float-requires c κs = search needs
 
 same-length : tie.Need-same-length
 same-length c = search needs
@@ -46,7 +45,7 @@ created-field-spec =
     enum-known-created
     integer-requires
     enum-known-created-2
-    double-requires
+    float-requires
     same-length
     returns
     same-length-2

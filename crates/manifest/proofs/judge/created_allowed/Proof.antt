@@ -18,10 +18,9 @@ enum-known-created c = search needs
 enum-known-created-2 : tie.Need-enum-known-created-2
 enum-known-created-2 c = search needs
 
-is-finite-requires : tie.Need-is-finite-requires
-is-finite-requires c κs = search needs
+finite-requires : tie.Need-finite-requires
+finite-requires c κs = search needs
 
 pub created-allowed-spec : {M : Type 1} → statement M
 created-allowed-spec =
-    tie.close
-    (tie.spec enum-known-created enum-known-created-2 is-finite-requires returns returns-2)
+    tie.close (tie.spec enum-known-created enum-known-created-2 finite-requires returns returns-2)

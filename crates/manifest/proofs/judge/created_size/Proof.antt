@@ -18,9 +18,19 @@ enum-known-created c = search needs
 size-requires : tie.Need-size-requires
 size-requires c κs = search needs
 
-enum-told : tie.Need-enum-told
-enum-told c = search needs
+enum-known-created-2 : tie.Need-enum-known-created-2
+enum-known-created-2 c = search needs
+
+float-size-requires : tie.Need-float-size-requires
+float-size-requires c κs = search needs
 
 pub created-size-spec : {M : Type 1} → statement M
 created-size-spec =
-    tie.close (tie.spec enum-known-created size-requires enum-told returns returns-2)
+    tie.close
+    (tie.spec
+    enum-known-created
+    size-requires
+    enum-known-created-2
+    float-size-requires
+    returns
+    returns-2)
