@@ -26,21 +26,15 @@ use Rattle.cbor.specs.declared.Width.the-variants.{Half, Single, Double}
 use Rattle.cbor.proofs.Packing.{Shifted, shifted, packed-low, packed-high, packed-shifted, worth-shifted, rescaled}
 use Rattle.cbor.proofs.Floats.{fraction-most, shift-most, infinity-most, widened-unsigned, magnitude-unsigned}
 
--- ---- the tables
+-- ---- the shapes of the widths
 
--- what a table has for the width v, which w is
-module _ (w v : Width) (e : w ≡ v) (n : ℕ) where
-  pub sign-at : n ≡ signOf v → n ≡ signOf w
-  sign-at h = rw e h
+-- the numbers of the width v, which w is
+pub shape-at : (w v : Width) (a b c d e : ℕ) → w ≡ v → a ≡ signOf v → b ≡ infinityOf v → c ≡ 2 ^ fractionBits v → d ≡ fractionBits v → e ≡ scaleOf v
+    → (a ≡ signOf w) × (b ≡ infinityOf w) × (c ≡ 2 ^ fractionBits w) × (d ≡ fractionBits w) × (e ≡ scaleOf w)
+shape-at w v a b c d e q f g h i j = rw q (f, g, h, i, j)
 
-  pub infinity-at : n ≡ infinityOf v → n ≡ infinityOf w
-  infinity-at h = rw e h
-
-  pub step-at : n ≡ 2 ^ fractionBits v → n ≡ 2 ^ fractionBits w
-  step-at h = rw e h
-
-  pub scale-at : n ≡ scaleOf v → n ≡ scaleOf w
-  scale-at h = rw e h
+pub bytes-at : (w v : Width) → w ≡ v → (n : ℕ) → n ≡ bytesOf v → n ≡ bytesOf w
+bytes-at w v q n h = rw q h
 
 sign-below : (w : Width) → signOf w ≤ 2 ^ 63
 unfolding signOf exponentBits fractionBits

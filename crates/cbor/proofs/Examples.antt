@@ -7,6 +7,7 @@ use Rattle.wire.specs.Number.{digits, numberFrom}
 use Rattle.lend.specs.Same.{same}
 use Rattle.cbor.specs.Form.{infoOf, widthOf, headOf, firstOf, bytesOf, floatAs, floatOf, stringOf}
 use Rattle.cbor.specs.Float.{exponentBits, fractionBits, signOf, leastOf, infinityOf, finite, shiftOf, worth, packed, scaleOf, widened, narrowed, holds, shortest, magnitude, signBit, narrowedBits}
+use Rattle.cbor.specs.declared.Width.the-variants.{Half, Single, Double}
 use Rattle.cbor.specs.Item.{oneAt, bigEndianAt, argumentAt, kindOf, headAt, numberAt, contentsAt, stringAt, nameAt, keyAt}
 use Rattle.wire.specs.Ascii.{ascii}
 
@@ -42,6 +43,11 @@ floats : (floatOf 0x3FF8000000000000 ≡ 0xF9 ∷ 0x3E ∷ 0x00 ∷ [])
     × (floatOf 0x40EFFC2000000000 ≡ 0xFA ∷ 0x47 ∷ 0x7F ∷ 0xE1 ∷ 0x00 ∷ [])
 unfolding digits firstOf bytesOf floatOf floatAs shortest holds finite infinityOf widened narrowed packed worth shiftOf scaleOf leastOf exponentBits fractionBits signOf magnitude signBit narrowedBits
 floats = (refl, refl, refl, refl, refl, refl, refl, refl)
+
+-- For the reader: the least half is 2^-24, the least single 2^-149, the least double 2^-1074
+leasts : (leastOf Half ≡ 24) × (leastOf Single ≡ 149) × (leastOf Double ≡ 1074)
+unfolding leastOf exponentBits fractionBits
+leasts = (refl, refl, refl)
 
 -- ---- the order of refusals
 

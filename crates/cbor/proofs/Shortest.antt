@@ -28,7 +28,7 @@ shortest-form d h =
 
 -- For the reader: no shorter width has the number
 pub shortest-least : (w : Width) (m : ℕ) → m < infinityOf w → bytesOf (shortest (widened w m)) ≤ bytesOf w
-unfolding bytesOf
+unfolding bytesOf exponentBits fractionBits
 shortest-least Half m h =
     shortest-cases (λ (w : Width). bytesOf w ≤ 2) (widened Half m) (λ a. omega arith) (λ a b. absurd (false≢true (sym a ∙ holds-widened Half m h)))
     (λ a b. absurd (false≢true (sym a ∙ holds-widened Half m h)))
@@ -40,7 +40,7 @@ shortest-least Double m h =
 
 -- For the reader: what is not finite is laid out as the 64 bits of its double
 not-finite : (value : ℕ) → value < 2 ^ 64 → finite Double value ≡ false → floatOf value ≡ 0xFB ∷ bigEndian 8 value
-unfolding floatOf floatAs firstOf bytesOf finite
+unfolding floatOf floatAs firstOf bytesOf finite exponentBits fractionBits
 not-finite value l h =
     shortest-cases (λ (w : Width). floatAs w value ≡ 0xFB ∷ bigEndian 8 value) (magnitude Double value) (λ a. absurd (too-large Half a)) (λ a b. absurd (too-large Single b))
     (λ a b. ap (λ (i : ℕ). 0xFB ∷ bigEndian 8 i) (narrowed-bits-double value l))

@@ -11,7 +11,7 @@ use Rattle.wire.specs.Answer.{choose}
 use Rattle.wire.specs.Number.{digits}
 use Rattle.wire.proofs.Digits.{length-digits}
 use Rattle.cbor.specs.Form.{infoOf, widthOf, headOf, headSize, bytesOf, floatAs, floatOf, stringOf, stringFieldOf, numberFieldOf}
-use Rattle.cbor.specs.Float.{shortest, magnitude, narrowedBits}
+use Rattle.cbor.specs.Float.{exponentBits, fractionBits, shortest, magnitude, narrowedBits}
 use Rattle.cbor.specs.declared.Width.{Width}
 use Rattle.cbor.specs.declared.Width.the-variants.{Half, Single, Double}
 
@@ -94,7 +94,7 @@ length-float value =
     omega (arith, length-digits 256 (bytesOf (shortest (magnitude Double value))) (narrowedBits (shortest (magnitude Double value)) value))
 
 pub float-most : (value : ℕ) → length (floatOf value) ≤ 9
-unfolding bytesOf
+unfolding bytesOf exponentBits fractionBits
 float-most value = omega (arith, length-float value, most (shortest (magnitude Double value)))
   where
     most : (w : Width) → bytesOf w ≤ 8

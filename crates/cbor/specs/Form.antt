@@ -1,11 +1,11 @@
 -- The one written form of each item: section 10 of docs/RULES.md, and RFC 8949, section 3.
-use Prim.Native.Nat.{ℕ, _+_, _*_, _^_}
+use Prim.Native.Nat.{ℕ, _+_, _*_, _/_, _^_}
 use mathlib.Core.List.{List, _∷_, _++_}
 use lib.ListN.{length}
 use lib.Dec.{ltb, eqb}
 use Rattle.wire.specs.Answer.{choose, Answer, done, demand}
 use Rattle.wire.specs.Number.{bigEndian}
-use Rattle.cbor.specs.Float.{finite, shortest, magnitude, narrowedBits}
+use Rattle.cbor.specs.Float.{exponentBits, fractionBits, finite, shortest, magnitude, narrowedBits}
 use Rattle.cbor.specs.declared.Width.{Width}
 use Rattle.cbor.specs.declared.Width.the-variants.{Half, Single, Double}
 
@@ -39,16 +39,15 @@ headSize n = 1 + widthOf (infoOf n)
 unfoldable pub stringOf : ℕ → List ℕ → List ℕ
 stringOf major bs = headOf major (length bs) ++ bs
 
--- the first byte of a float of each width, and how many bytes follow it (R10.8)
+-- the first byte of a float of each width (R10.8)
 unfoldable pub firstOf : Width → ℕ
 firstOf Half = 0xF9
 firstOf Single = 0xFA
 firstOf Double = 0xFB
 
+-- how many bytes follow it: for a sign, the exponent and the fraction
 unfoldable pub bytesOf : Width → ℕ
-bytesOf Half = 2
-bytesOf Single = 4
-bytesOf Double = 8
+bytesOf w = (1 + exponentBits w + fractionBits w) / 8
 
 -- a float of a width that has it, by the 64 bits of its double
 unfoldable pub floatAs : Width → ℕ → List ℕ

@@ -29,54 +29,42 @@ pub(super) fn bytes(w: Width) -> usize
     }
 }
 
-fn sign(w: Width) -> u64
-    ensures { λ r. ⌜ r ≡ signOf w ⌝ }
-{
-    match w {
-        Width::Half => 0x8000,
-        Width::Single => 0x80000000,
-        Width::Double => 0x8000000000000000,
-    }
+// What the code needs of a width: what its sign bit counts, its infinity, the step from exponent to
+// exponent, the bits of its fraction, and by which power of two its least number is above a
+// double's.
+struct Shape {
+    sign: u64,
+    infinity: u64,
+    step: u64,
+    fraction: u64,
+    scale: u64,
 }
 
-fn infinity(w: Width) -> u64
-    ensures { λ r. ⌜ r ≡ infinityOf w ⌝ }
+fn shape_of(w: Width) -> Shape
+    ensures { λ r. ⌜ (r .sign ≡ signOf w) × (r .infinity ≡ infinityOf w) × (r .step ≡ 2 ^ fractionBits w) × (r .fraction ≡ fractionBits w) × (r .scale ≡ scaleOf w) ⌝ }
 {
     match w {
-        Width::Half => 0x7C00,
-        Width::Single => 0x7F800000,
-        Width::Double => 0x7FF0000000000000,
-    }
-}
-
-// The step from exponent to exponent.
-fn step(w: Width) -> u64
-    ensures { λ r. ⌜ r ≡ 2 ^ fractionBits w ⌝ }
-{
-    match w {
-        Width::Half => 0x400,
-        Width::Single => 0x800000,
-        Width::Double => 0x10000000000000,
-    }
-}
-
-fn fraction(w: Width) -> u64
-    ensures { λ r. ⌜ r ≡ fractionBits w ⌝ }
-{
-    match w {
-        Width::Half => 10,
-        Width::Single => 23,
-        Width::Double => 52,
-    }
-}
-
-fn scale(w: Width) -> u64
-    ensures { λ r. ⌜ r ≡ scaleOf w ⌝ }
-{
-    match w {
-        Width::Half => 1050,
-        Width::Single => 925,
-        Width::Double => 0,
+        Width::Half => Shape {
+            sign: 0x8000,
+            infinity: 0x7C00,
+            step: 0x400,
+            fraction: 10,
+            scale: 1050,
+        },
+        Width::Single => Shape {
+            sign: 0x80000000,
+            infinity: 0x7F800000,
+            step: 0x800000,
+            fraction: 23,
+            scale: 925,
+        },
+        Width::Double => Shape {
+            sign: 0x8000000000000000,
+            infinity: 0x7FF0000000000000,
+            step: 0x10000000000000,
+            fraction: 52,
+            scale: 0,
+        },
     }
 }
 
@@ -137,9 +125,9 @@ fn widen(w: Width, m: u64) -> u64
     requires { ⌜ m < signOf w ⌝ }
     ensures { λ r. ⌜ r ≡ widened w m ⌝ }
 {
-    let one = step(w);
-    let x = above(m / one, 1);
-    pack(m - x * one, x + scale(w))
+    let a = shape_of(w);
+    let x = above(m / a.step, 1);
+    pack(m - x * a.step, x + a.scale)
 }
 
 // The way back. Of a double's shift x the width has z left as exponents, beyond its own fraction
@@ -150,13 +138,13 @@ fn narrow(w: Width, m: u64) -> u64
 {
     let x = above(m / 0x10000000000000, 1);
     let s = m - x * 0x10000000000000;
-    let k = scale(w);
-    let z = above(x + 52, k + fraction(w));
-    let drop = k + z - x;
+    let a = shape_of(w);
+    let z = above(x + 52, a.scale + a.fraction);
+    let drop = a.scale + z - x;
     if 63 < drop {
         return 0;
     }
-    z * step(w) + (s >> drop)
+    z * a.step + (s >> drop)
 }
 
 // Whether the width has the number of a double: what it narrows to is finite and widens to it.
@@ -165,7 +153,8 @@ fn has(w: Width, m: u64) -> bool
     ensures { λ r. ⌜ r ≡ holds w m ⌝ }
 {
     let n = narrow(w, m);
-    if infinity(w) <= n {
+    let a = shape_of(w);
+    if a.infinity <= n {
         return false;
     }
     widen(w, n) == m
@@ -190,7 +179,8 @@ pub(super) fn least(value: u64) -> Width
 pub(super) fn is_finite(w: Width, bits: u64) -> bool
     ensures { λ r. ⌜ r ≡ finite w bits ⌝ }
 {
-    bits % sign(w) < infinity(w)
+    let a = shape_of(w);
+    bits % a.sign < a.infinity
 }
 
 // Whether the double with these 64 bits is finite: its exponent is not all ones.
@@ -203,12 +193,13 @@ pub fn finite(bits: u64) -> bool
 pub(super) fn widen_bits(w: Width, bits: u64) -> u64
     ensures { λ r. ⌜ r ≡ widenedBits w bits ⌝ }
 {
-    let minus = sign(w);
-    bits / minus % 2 * 0x8000000000000000 + widen(w, bits % minus)
+    let a = shape_of(w);
+    bits / a.sign % 2 * 0x8000000000000000 + widen(w, bits % a.sign)
 }
 
 pub(super) fn narrow_bits(w: Width, value: u64) -> u64
     ensures { λ r. ⌜ r ≡ narrowedBits w value ⌝ }
 {
-    value / 0x8000000000000000 % 2 * sign(w) + narrow(w, value % 0x8000000000000000)
+    let a = shape_of(w);
+    value / 0x8000000000000000 % 2 * a.sign + narrow(w, value % 0x8000000000000000)
 }

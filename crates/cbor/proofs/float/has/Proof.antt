@@ -18,8 +18,8 @@ returns-2 c = search has-told
 narrow-requires : tie.Need-narrow-requires
 narrow-requires c κs = search needs
 
-infinity-requires : tie.Need-infinity-requires
-infinity-requires c κs = search needs
+shape-of-requires : tie.Need-shape-of-requires
+shape-of-requires c κs = search needs
 
 pub has-spec : {M : Type 1} → statement M
-has-spec = tie.close (tie.spec narrow-requires infinity-requires returns widen-requires returns-2)
+has-spec = tie.close (tie.spec narrow-requires shape-of-requires returns widen-requires returns-2)

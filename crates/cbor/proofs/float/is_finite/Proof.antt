@@ -12,11 +12,8 @@ returns c = search finite-told
 
 -- Found by search:
 
-sign-requires : tie.Need-sign-requires
-sign-requires c κs = search needs
-
-infinity-requires : tie.Need-infinity-requires
-infinity-requires c κs = search needs
+shape-of-requires : tie.Need-shape-of-requires
+shape-of-requires c κs = search needs
 
 pub is-finite-spec : {M : Type 1} → statement M
-is-finite-spec = tie.close (tie.spec sign-requires rem-result infinity-requires returns)
+is-finite-spec = tie.close (tie.spec shape-of-requires rem-result returns)

@@ -33,23 +33,17 @@ mul-s c = search needs
 sub-s : tie.Need-sub-s
 sub-s c = search needs
 
-scale-requires : tie.Need-scale-requires
-scale-requires c κs = search needs
+shape-of-requires : tie.Need-shape-of-requires
+shape-of-requires c κs = search needs
 
 add-above : tie.Need-add-above
 add-above c = search needs
-
-fraction-requires : tie.Need-fraction-requires
-fraction-requires c κs = search needs
 
 above-requires-2 : tie.Need-above-requires-2
 above-requires-2 c κs = search needs
 
 add-drop : tie.Need-add-drop
 add-drop c = search needs
-
-step-requires : tie.Need-step-requires
-step-requires c κs = search needs
 
 shr-result : tie.Need-shr-result
 shr-result c = search needs
@@ -61,15 +55,13 @@ narrow-spec =
     above-requires
     mul-s
     sub-s
-    scale-requires
+    shape-of-requires
     add-above
-    fraction-requires
     add-above-2
     above-requires-2
     add-drop
     sub-drop
     returns
-    step-requires
     mul-result
     shr-result
     add-result

@@ -15,11 +15,12 @@ returns c = search narrowed-told
 
 -- Found by search:
 
-sign-requires : tie.Need-sign-requires
-sign-requires c κs = search needs
+shape-of-requires : tie.Need-shape-of-requires
+shape-of-requires c κs = search needs
 
 narrow-requires : tie.Need-narrow-requires
 narrow-requires c κs = search needs
 
 pub narrow-bits-spec : {M : Type 1} → statement M
-narrow-bits-spec = tie.close (tie.spec sign-requires mul-result narrow-requires add-result returns)
+narrow-bits-spec =
+    tie.close (tie.spec shape-of-requires mul-result narrow-requires add-result returns)

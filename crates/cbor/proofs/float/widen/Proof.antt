@@ -24,25 +24,21 @@ returns c = search widen-done
 
 -- Found by search:
 
-step-requires : tie.Need-step-requires
-step-requires c κs = search needs
+shape-of-requires : tie.Need-shape-of-requires
+shape-of-requires c κs = search needs
 
 above-requires : tie.Need-above-requires
 above-requires c κs = search needs
-
-scale-requires : tie.Need-scale-requires
-scale-requires c κs = search needs
 
 pub widen-spec : {M : Type 1} → statement M
 widen-spec =
     tie.close
     (tie.spec
-    step-requires
+    shape-of-requires
     div-above
     above-requires
     mul-pack
     sub-pack
-    scale-requires
     add-pack
     pack-requires
     returns)

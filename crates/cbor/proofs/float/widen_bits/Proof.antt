@@ -21,8 +21,8 @@ returns c = search widened-told
 
 -- Found by search:
 
-sign-requires : tie.Need-sign-requires
-sign-requires c κs = search needs
+shape-of-requires : tie.Need-shape-of-requires
+shape-of-requires c κs = search needs
 
 mul-result : tie.Need-mul-result
 mul-result c = search needs
@@ -30,4 +30,4 @@ mul-result c = search needs
 pub widen-bits-spec : {M : Type 1} → statement M
 widen-bits-spec =
     tie.close
-    (tie.spec sign-requires div-result mul-result rem-widen widen-requires add-result returns)
+    (tie.spec shape-of-requires div-result mul-result rem-widen widen-requires add-result returns)
