@@ -7,11 +7,11 @@ ghost use mathlib.Core.Path.{_≡_};
 ghost use mathlib.Core.Bool.{true};
 ghost use mathlib.Core.List.{[], _∷_};
 ghost use Prim.Native.Nat.{_+_, _*_, _/_, _≤_, _<_};
-ghost use lib.ListN.{length};
+ghost use lib.ListN.{length, drop};
 ghost use Rattle.wire.specs.Over.{over};
 ghost use Rattle.wire.specs.Answer.{done};
 ghost use Rattle.wire.specs.Writing.{Written};
-ghost use Rattle.digits.specs.Decimal.{decimal as decimalOf, refusedLine};
+ghost use Rattle.digits.specs.Decimal.{decimal as decimalOf, numeral, refusedLine};
 ghost use Rattle.digits.specs.Hex.{hexDigit, hexOf, hexValue, allHex, hexBytes, hexVerdict};
 use wire::Wrote;
 
@@ -34,6 +34,38 @@ pub fn decimal(out: &mut [u8], at: usize, n: u8) -> usize
     let three = [b'0' + n / 100, b'0' + n / 10 % 10, b'0' + n % 10];
     lend::copy(out, at, &three);
     3
+}
+
+// No u64 has more digits.
+const MOST_DIGITS: usize = 20;
+
+// The digits of n at the end of room, the last one first. Answers where they begin.
+fn spell(n: u64, room: &mut [u8]) -> usize
+    requires { ⌜ length (now room) ≡ 20 ⌝ }
+    ensures { λ r. ⌜ (r ≤ 20) × (drop r (now (room .exit)) ≡ numeral n) ⌝ }
+{
+    let mut rest = n;
+    let mut i = MOST_DIGITS;
+    while 0 < i {
+        i -= 1;
+        room[i] = b'0' + (rest % 10) as u8;
+        if rest < 10 {
+            return i;
+        }
+        rest /= 10;
+    }
+    i
+}
+
+// The decimal digits of any u64 from the index on; nothing changes where they do not fit. The
+// answer is how many they are, in either case.
+pub fn number(out: &mut [u8], at: usize, n: u64) -> usize
+    ensures { λ r. ⌜ (r ≡ length (numeral n)) × (r ≤ 20) × (now (out .exit) ≡ over at (numeral n) (now (out .entry))) ⌝ }
+{
+    let mut room = [0u8; MOST_DIGITS];
+    let i = spell(n, &mut room);
+    lend::copy(out, at, &room[i..]);
+    MOST_DIGITS - i
 }
 
 // The word, three digits and the line feed.
@@ -99,7 +131,7 @@ pub fn hex(out: &mut [u8], at: usize, src: &[u8])
 // ---- hex, read
 
 // The value of a lower-case hex digit; 16 for any other byte.
-fn value(b: u8) -> u8
+pub fn hex_value(b: u8) -> u8
     ensures { λ r. ⌜ (r ≡ hexValue b) × (r ≤ 16) ⌝ }
 {
     if b < b'0' {
@@ -123,7 +155,7 @@ pub fn all_hex(s: &[u8]) -> bool
 {
     let mut i = 0;
     while i < s.len() {
-        if 15 < value(s[i]) {
+        if 15 < hex_value(s[i]) {
             return false;
         }
         i += 1;
@@ -139,7 +171,7 @@ fn read_fitting(s: &[u8], out: &mut [u8])
     let n = s.len() / 2;
     let mut i = 0;
     while i < n {
-        out[i] = value(s[2 * i]) * 16 + value(s[2 * i + 1]);
+        out[i] = hex_value(s[2 * i]) * 16 + hex_value(s[2 * i + 1]);
         i += 1;
     }
 }

@@ -1,1 +1,2 @@
 pub mod Sames
+pub mod Shown

@@ -1,12 +1,13 @@
 // Writes into lent buffers and comparison of them. Each function takes any arguments: a write that
 // does not fit changes nothing.
 ghost use mathlib.Core.Path.{_≡_};
-ghost use mathlib.Core.List.{[], _∷_};
+ghost use mathlib.Core.List.{[], _∷_, map};
 ghost use Prim.Native.Nat.{_+_, _≤_};
 ghost use lib.ListN.{length, replicate};
 ghost use Rattle.wire.specs.Over.{over};
 ghost use Rattle.wire.specs.Answer.{done};
 ghost use Rattle.wire.specs.Writing.{Written};
+ghost use Rattle.lend.specs.Plain.{plainByte};
 ghost use Rattle.lend.specs.Same.{same};
 use wire::Wrote;
 
@@ -102,4 +103,28 @@ pub fn give(text: &[u8], out: &mut [u8]) -> Wrote
     }
     copy(out, 0, text);
     Wrote::Done { len: text.len() }
+}
+
+fn plain_byte(b: u8) -> u8
+    ensures { λ r. ⌜ r ≡ plainByte b ⌝ }
+{
+    if b < b' ' {
+        return b'?';
+    }
+    if b <= b'~' {
+        return b;
+    }
+    b'?'
+}
+
+// Each byte of a word that is no printable ASCII becomes a question mark, so that a terminal can
+// take none for an order.
+pub fn plain(word: &mut [u8])
+    ensures { λ _. ⌜ now (word .exit) ≡ map plainByte (now (word .entry)) ⌝ }
+{
+    let mut i = 0;
+    while i < word.len() {
+        word[i] = plain_byte(word[i]);
+        i += 1;
+    }
 }

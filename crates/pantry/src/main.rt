@@ -1,17 +1,30 @@
-// The pantry: it reads the document id and then scans, a line each, from standard input, and writes
-// the ciphertext once every page is there; until then it prints where the collection stands
-// (R15.6). With the name of a file as its argument it keeps the collection there between runs
-// (R15.7). The work is done by `scan` and `pantry_work`; here are only the reading and the writing.
+// The pantry: it reads the document id and then scans, a line each, from standard input, and gives
+// the ciphertext out once every page is there (R15.6). What is for a person goes to standard error.
+// With the name of a file it keeps the collection there between runs, and with `--to` it puts the
+// ciphertext in a file's place (R15.7). The work is done by `scan`, `notes`, `told` and
+// `pantry_work`; here are only the words of the command, the reading and the writing.
 mod file;
+mod said;
+mod words;
 
+use finish::Finished;
 use libc::STDIN_FILENO;
 use libc::STDOUT_FILENO;
 use scan::session;
 use scan::session::Session;
-use wire::Wrote;
+use words::Asked;
 
 // How much one read asks for.
 const CHUNK: usize = 65_536;
+
+// Where the status is told, asked for with `--status-3` (R15.11).
+const STATUS_FILENO: i32 = 3;
+
+const DONE: u8 = b'0';
+
+const FAILED: u8 = b'1';
+
+const WRONG: u8 = b'2';
 
 // What one read brought.
 enum Turned {
@@ -26,8 +39,8 @@ enum Taken {
     Failed,
 }
 
-// Reads once, and takes what came into the session.
-fn turn(s: Session, input: &mut [u8], line: &mut [u8], c: &mut [u8]) -> Turned {
+// Reads once, and takes what came into the session and the notes.
+fn turn(s: Session, input: &mut [u8], line: &mut [u8], c: &mut [u8], notes: &mut [u64]) -> Turned {
     let got = libc::read(STDIN_FILENO, input);
     if got < 0 {
         return Turned::Failed;
@@ -36,20 +49,20 @@ fn turn(s: Session, input: &mut [u8], line: &mut [u8], c: &mut [u8]) -> Turned {
     if n < 1 {
         return Turned::End;
     }
-    let session = session::feed(&input[..n], s, line, c);
+    let session = notes::feed(&input[..n], s, line, c, notes);
     Turned::More { session }
 }
 
 // A proved loop has to end, and nothing says that the input does: it counts down from a number that
 // no run uses up.
-fn collect(input: &mut [u8], line: &mut [u8], c: &mut [u8]) -> Taken {
+fn collect(input: &mut [u8], line: &mut [u8], c: &mut [u8], notes: &mut [u64]) -> Taken {
     let mut s = Session {
         phase: session::WAITING,
         len: 0,
     };
     let mut turns = u64::MAX;
     while turns > 0 {
-        match turn(s, input, line, c) {
+        match turn(s, input, line, c, notes) {
             Turned::More { session } => {
                 s = session;
             }
@@ -61,79 +74,126 @@ fn collect(input: &mut [u8], line: &mut [u8], c: &mut [u8]) -> Taken {
     Taken::Failed
 }
 
-// Reads all of the input, or says that it could not: of a part nothing is printed and nothing kept
-// (R15.8).
-fn scanned(c: &mut [u8]) -> Taken {
+// Reads all of the input, or says that it could not: of a part nothing is given out and nothing
+// kept (R15.8).
+fn scanned(c: &mut [u8], notes: &mut [u64]) -> Taken {
     let mut input = [0u8; CHUNK];
     let mut line = [0u8; session::LINE_BUFFER];
-    let Taken::Whole { session } = collect(&mut input, &mut line, c) else {
+    let Taken::Whole { session } = collect(&mut input, &mut line, c, notes) else {
         os::fail(b"standard input");
         return Taken::Failed;
     };
-    let session = session::close(session, &line, c);
+    let session = notes::close(session, &line, c, notes);
     Taken::Whole { session }
 }
 
-// Writes out what was laid in front of out.
-fn write(r: Wrote, out: &[u8]) {
-    let Wrote::Done { len } = r else {
-        return;
-    };
-    if len <= out.len() {
-        io::write_all(STDOUT_FILENO, &out[0..len]);
+// A write can also fail at the end, when the file is closed.
+fn print(bytes: &[u8]) -> u8 {
+    if !io::write_all(STDOUT_FILENO, bytes) {
+        os::fail(b"standard output");
+        return FAILED;
+    }
+    if libc::close(STDOUT_FILENO) != 0 {
+        os::fail(b"standard output");
+        return FAILED;
+    }
+    DONE
+}
+
+fn deliver(bytes: &[u8], to: usize, launched: bool) -> u8 {
+    if to == 0 {
+        return print(bytes);
+    }
+    let mut name = io::buffer();
+    let len = os::arg(to, &mut name);
+    if file::put(&name[..len], launched, bytes) {
+        return DONE;
+    }
+    said::advice(wire::NO_ROOM);
+    FAILED
+}
+
+// What stands in the collection is told in any case, and that it is complete only once the
+// ciphertext is where it belongs.
+fn give(s: Session, c: &[u8], notes: &[u64], to: usize, launched: bool) -> u8 {
+    said::standing(c, notes);
+    let mut out = [0u8; wire::MOST_CIPHERTEXT];
+    match pantry_work::answer(s, c, &mut out) {
+        Finished::Done { len } => {
+            if out.len() < len {
+                return FAILED;
+            }
+            let status = deliver(&out[0..len], to, launched);
+            if status == DONE {
+                said::advice(wire::DONE);
+            }
+            status
+        }
+        Finished::Refused { no, place: _ } => {
+            said::advice(no);
+            FAILED
+        }
     }
 }
 
-fn print(s: Session, c: &[u8]) {
-    let mut out = [0u8; wire::MOST_CIPHERTEXT];
-    let r = pantry_work::answer(s, c, &mut out);
-    write(r, &out);
+// The file is written before anything is given out: a ciphertext that came out is kept (R15.7).
+fn keep(s: Session, c: &mut [u8], notes: &[u64], kept: usize, to: usize, launched: bool) -> u8 {
+    let mut name = io::buffer();
+    let len = os::arg(kept, &mut name);
+    let no = file::keep(&name[..len], launched, s, c);
+    if no == wire::DONE {
+        return give(s, &c[..], notes, to, launched);
+    }
+    // Of two documents the file itself has told, by their ids.
+    if no != wire::OTHER_DOCUMENT {
+        said::advice(no);
+    }
+    FAILED
 }
 
-// The refusals of the command and of the file have no place, so it is 0 (R15.6).
-fn refuse(no: u8) {
-    let mut out = [0u8; 64];
-    let r = pantry_work::refused_line(no, 0, &mut out);
-    write(r, &out);
-}
-
-// The file is written before anything is printed: a ciphertext that came out is kept (R15.7). Where
-// the first line was no document id, the file is not looked at.
-fn keep(name: &[u8], c: &mut [u8]) {
-    let Taken::Whole { session: s } = scanned(c) else {
-        return;
+// Where the first line was no document id, no file is looked at.
+fn run(kept: usize, to: usize, launched: bool) -> u8 {
+    said::waiting();
+    let mut c = [0u8; wire::COLLECTION_SIZE];
+    let mut notes = [0u64; notes::SIZE];
+    let Taken::Whole { session: s } = scanned(&mut c, &mut notes) else {
+        return FAILED;
     };
     if s.phase != session::COLLECTING {
-        print(s, c);
-        return;
+        said::first_line(notes[notes::FAULT]);
+        return FAILED;
     }
-    let no = file::keep(name, s, c);
-    if no != 0 {
-        refuse(no);
-        return;
+    if kept == 0 {
+        return give(s, &c, &notes, to, launched);
     }
-    print(s, c);
+    keep(s, &mut c, &notes, kept, to, launched)
+}
+
+fn obey(asked: Asked, launched: bool) -> u8 {
+    match asked {
+        Asked::Run { kept, to } => run(kept, to, launched),
+        Asked::Help => {
+            said::help();
+            DONE
+        }
+        Asked::Version => {
+            said::version();
+            DONE
+        }
+        Asked::Wrong { at, why } => {
+            said::wrong(at, why);
+            WRONG
+        }
+    }
 }
 
 fn main() {
-    let mut c = [0u8; wire::COLLECTION_SIZE];
-    let words = os::arg_count();
-    if words < 2 {
-        if let Taken::Whole { session } = scanned(&mut c) {
-            print(session, &c);
-        }
+    let mut word = io::buffer();
+    let count = os::arg_count();
+    if words::asks_status(count, &mut word) {
+        let status = [obey(words::parse(2, count, &mut word), true)];
+        io::write_all(STATUS_FILENO, &status);
         return;
     }
-    let mut name = [0u8; libc::PATH_MAX];
-    let len = os::arg(1, &mut name);
-    if os::errno() != 0 {
-        refuse(wire::OUT_OF_RANGE);
-        return;
-    }
-    // Judged before the input is read (R15.7).
-    if 2 < words {
-        refuse(wire::OUT_OF_RANGE);
-        return;
-    }
-    keep(&name[..len], &mut c);
+    obey(words::parse(1, count, &mut word), false);
 }

@@ -13,8 +13,11 @@ use Rattle.lend.proofs.fill as lend-fill
 use Rattle.lend.proofs.clear as lend-clear
 use Rattle.lend.proofs.equal as lend-equal
 use Rattle.lend.proofs.give as lend-give
+use Rattle.lend.proofs.plain as lend-plain
 use Rattle.digits.proofs.decimal as digits-decimal
 use Rattle.digits.proofs.refused_line as digits-refused-line
+use Rattle.digits.proofs.number as digits-number
+use Rattle.digits.proofs.hex_value as digits-hex-value
 use Rattle.digits.proofs.hex as digits-hex
 use Rattle.digits.proofs.all_hex as digits-all-hex
 use Rattle.digits.proofs.hex_read as digits-hex-read
@@ -59,8 +62,17 @@ lend-clear-once κs args x y u v p q = (refl, here (p ∙ sym q))
 pub lend-give-once : Once lend-give.Kinds.ps lend-give.Kinds.r lend-give.Reads.Learnt
 lend-give-once κs args x y u v p q = let e = written-once x y p q in (e .0, past (here (e .1)))
 
+pub lend-plain-once : Once lend-plain.Kinds.ps lend-plain.Kinds.r lend-plain.Reads.Learnt
+lend-plain-once κs args x y u v p q = (refl, here (p ∙ sym q))
+
 pub digits-decimal-once : Once digits-decimal.Kinds.ps digits-decimal.Kinds.r digits-decimal.Reads.Learnt
 digits-decimal-once κs args x y u v p q = (p .0 ∙ sym (q .0), here (p .2 ∙ sym (q .2)))
+
+pub digits-number-once : Once digits-number.Kinds.ps digits-number.Kinds.r digits-number.Reads.Learnt
+digits-number-once κs args x y u v p q = (p .0 ∙ sym (q .0), here (p .2 ∙ sym (q .2)))
+
+pub digits-hex-value-once : Once digits-hex-value.Kinds.ps digits-hex-value.Kinds.r digits-hex-value.Reads.Learnt
+digits-hex-value-once κs args x y u v p q = (p .0 ∙ sym (q .0), refl)
 
 pub digits-refused-line-once : Once digits-refused-line.Kinds.ps digits-refused-line.Kinds.r digits-refused-line.Reads.Learnt
 digits-refused-line-once κs args x y u v p q = let e = written-once x y p q in (e .0, past (here (e .1)))

@@ -3,23 +3,34 @@
 use mathlib.Core.Path.{_≡_, refl, sym, ap, _∙_}
 use mathlib.Core.List.{List}
 use Prim.Native.Nat.{ℕ}
-use Rattle.promises.specs.Once.{Once}
+use denote.Ref.{now}
+use Rattle.promises.specs.Once.{Once, OnceSeen}
 use Rattle.promises.proofs.Lasts.{both, here, past}
 use Rattle.wire.proofs.Writes.{written-once, kept-once}
 use Rattle.collection.proofs.Answers.{told-injective}
+use Rattle.finish.proofs.Once.{finished-once}
 use Rattle.scan.specs.Session.{At, at}
 use Rattle.scan.specs.declared.session.Session.{Session}
 use Rattle.scan.proofs.id as scan-id
 use Rattle.scan.proofs.session.scan as scan-session-scan
+use Rattle.scan.proofs.session.line_of as scan-session-line-of
 use Rattle.scan.proofs.session.feed as scan-session-feed
 use Rattle.scan.proofs.session.close as scan-session-close
 use Rattle.scan.proofs.session.report as scan-session-report
 use Rattle.sheet.proofs.scans as sheet-scans
 use Rattle.sheet.proofs.typed as sheet-typed
 use Rattle.sheet.proofs.typed_page as sheet-typed-page
-use Rattle.sheet.proofs.page_asked as sheet-page-asked
+use Rattle.sheet.proofs.number_asked as sheet-number-asked
+use Rattle.sheet.proofs.refusal as sheet-refusal
+use Rattle.told.proofs.lines as told-lines
+use Rattle.told.proofs.pages.missing as told-pages-missing
+use Rattle.told.proofs.pages.disputed as told-pages-disputed
+use Rattle.told.proofs.words.advice as told-words-advice
+use Rattle.told.proofs.words.first_advice as told-words-first-advice
+use Rattle.told.proofs.words.stranger as told-words-stranger
 use Rattle.pantry_work.proofs.resume as pantry-work-resume
-use Rattle.pantry_work.proofs.refused_line as pantry-work-refused-line
+use Rattle.notes.proofs.feed as notes-feed
+use Rattle.notes.proofs.close as notes-close
 use Rattle.pantry_work.proofs.answer as pantry-work-answer
 use Rattle.phone.proofs.stilt_open as phone-stilt-open
 use Rattle.phone.proofs.stilt_offer as phone-stilt-offer
@@ -44,6 +55,10 @@ scan-id-once κs args x y u v p q = let e = written-once x y p q in (e .0, past 
 pub scan-session-scan-once : Once scan-session-scan.Kinds.ps scan-session-scan.Kinds.r scan-session-scan.Reads.Learnt
 scan-session-scan-once κs args x y u v p q = (refl, past (here (p ∙ sym q)))
 
+-- a part of the line buffer is lent back, the line: its bytes are fixed, not its place
+pub scan-session-line-of-once : OnceSeen scan-session-line-of.Kinds.ps scan-session-line-of.Kinds.r (λ κs x. now x) scan-session-line-of.Reads.Learnt
+scan-session-line-of-once κs args x y u v p q = (p ∙ sym q, refl)
+
 pub scan-session-feed-once : Once scan-session-feed.Kinds.ps scan-session-feed.Kinds.r scan-session-feed.Reads.Learnt
 scan-session-feed-once κs args x y u v p q = let e = at-injective x y (p ∙ sym q) in (e .0, past (past (both (e .1) (here (e .2)))))
 
@@ -54,25 +69,53 @@ pub scan-session-report-once : Once scan-session-report.Kinds.ps scan-session-re
 scan-session-report-once κs args x y u v p q = let e = written-once x y p q in (e .0, past (past (here (e .1))))
 
 pub sheet-scans-once : Once sheet-scans.Kinds.ps sheet-scans.Kinds.r sheet-scans.Reads.Learnt
-sheet-scans-once κs args x y u v p q = let e = written-once x y p q in (e .0, past (here (e .1)))
+sheet-scans-once κs args x y u v p q = let e = written-once x y p q in (e .0, past (past (here (e .1))))
 
 pub sheet-typed-once : Once sheet-typed.Kinds.ps sheet-typed.Kinds.r sheet-typed.Reads.Learnt
-sheet-typed-once κs args x y u v p q = let e = written-once x y p q in (e .0, past (here (e .1)))
+sheet-typed-once κs args x y u v p q = let e = written-once x y p q in (e .0, past (past (here (e .1))))
 
 pub sheet-typed-page-once : Once sheet-typed-page.Kinds.ps sheet-typed-page.Kinds.r sheet-typed-page.Reads.Learnt
-sheet-typed-page-once κs args x y u v p q = let e = written-once x y p q in (e .0, past (past (here (e .1))))
+sheet-typed-page-once κs args x y u v p q = let e = written-once x y p q in (e .0, past (past (past (here (e .1)))))
 
-pub sheet-page-asked-once : Once sheet-page-asked.Kinds.ps sheet-page-asked.Kinds.r sheet-page-asked.Reads.Learnt
-sheet-page-asked-once κs args x y u v p q = (p ∙ sym q, refl)
+pub sheet-number-asked-once : Once sheet-number-asked.Kinds.ps sheet-number-asked.Kinds.r sheet-number-asked.Reads.Learnt
+sheet-number-asked-once κs args x y u v p q = (p ∙ sym q, refl)
+
+pub sheet-refusal-once : Once sheet-refusal.Kinds.ps sheet-refusal.Kinds.r sheet-refusal.Reads.Learnt
+sheet-refusal-once κs args x y u v p q = let e = written-once x y p q in (e .0, past (past (past (here (e .1)))))
 
 pub pantry-work-resume-once : Once pantry-work-resume.Kinds.ps pantry-work-resume.Kinds.r pantry-work-resume.Reads.Learnt
 pantry-work-resume-once κs args x y u v p q = let e = kept-once p q in (told-injective x y (e .0), past (past (here (e .1))))
 
-pub pantry-work-refused-line-once : Once pantry-work-refused-line.Kinds.ps pantry-work-refused-line.Kinds.r pantry-work-refused-line.Reads.Learnt
-pantry-work-refused-line-once κs args x y u v p q = let e = written-once x y p q in (e .0, past (past (here (e .1))))
-
 pub pantry-work-answer-once : Once pantry-work-answer.Kinds.ps pantry-work-answer.Kinds.r pantry-work-answer.Reads.Learnt
-pantry-work-answer-once κs args x y u v p q = let e = written-once x y p q in (e .0, past (past (here (e .1))))
+pantry-work-answer-once κs args x y u v p q = let e = finished-once x y p q in (e .0, past (past (here (e .1))))
+
+pub notes-feed-once : Once notes-feed.Kinds.ps notes-feed.Kinds.r notes-feed.Reads.Learnt
+notes-feed-once κs args x y u v p q =
+    let e = at-injective x y (p .0 ∙ sym (q .0)) in
+    (e .0, past (past (both (e .1) (both (e .2) (here (p .1 ∙ sym (q .1)))))))
+
+pub notes-close-once : Once notes-close.Kinds.ps notes-close.Kinds.r notes-close.Reads.Learnt
+notes-close-once κs args x y u v p q =
+    let e = at-injective x y (p .0 ∙ sym (q .0)) in
+    (e .0, past (past (both (e .2) (here (p .1 ∙ sym (q .1))))))
+
+pub told-lines-once : Once told-lines.Kinds.ps told-lines.Kinds.r told-lines.Reads.Learnt
+told-lines-once κs args x y u v p q = let e = written-once x y p q in (e .0, past (here (e .1)))
+
+pub told-pages-missing-once : Once told-pages-missing.Kinds.ps told-pages-missing.Kinds.r told-pages-missing.Reads.Learnt
+told-pages-missing-once κs args x y u v p q = let e = written-once x y p q in (e .0, past (here (e .1)))
+
+pub told-pages-disputed-once : Once told-pages-disputed.Kinds.ps told-pages-disputed.Kinds.r told-pages-disputed.Reads.Learnt
+told-pages-disputed-once κs args x y u v p q = let e = written-once x y p q in (e .0, past (here (e .1)))
+
+pub told-words-advice-once : Once told-words-advice.Kinds.ps told-words-advice.Kinds.r told-words-advice.Reads.Learnt
+told-words-advice-once κs args x y u v p q = let e = written-once x y p q in (e .0, past (here (e .1)))
+
+pub told-words-first-advice-once : Once told-words-first-advice.Kinds.ps told-words-first-advice.Kinds.r told-words-first-advice.Reads.Learnt
+told-words-first-advice-once κs args x y u v p q = let e = written-once x y p q in (e .0, past (here (e .1)))
+
+pub told-words-stranger-once : Once told-words-stranger.Kinds.ps told-words-stranger.Kinds.r told-words-stranger.Reads.Learnt
+told-words-stranger-once κs args x y u v p q = let e = written-once x y p q in (e .0, past (past (here (e .1))))
 
 pub phone-stilt-open-once : Once phone-stilt-open.Kinds.ps phone-stilt-open.Kinds.r phone-stilt-open.Reads.Learnt
 phone-stilt-open-once κs args x y u v p q = (p .0 ∙ sym (q .0), past (here (p .1 ∙ sym (q .1))))

@@ -8,7 +8,7 @@ use native.Mathlib.Omega.{arith}
 use borrow.Author.Tests.{ne-eqb}
 use lib.Dec.{eqb}
 use lib.ListN.{length}
-use Rattle.wire.specs.Answer.{choose, Answer, done, refusedAt, refused, Change, leaves, bytesAfter, answerOf}
+use Rattle.wire.specs.Answer.{choose, Answer, done, refusedAt, refused, Change, leaves, bytesAfter, answerOf, Kept}
 use Rattle.digits.specs.Decimal.{refusedLine}
 use Rattle.digits.proofs.Decimals.{refused-most}
 use Rattle.model.specs.Book.{Book}
@@ -27,9 +27,11 @@ use Rattle.scan.specs.declared.session.Session.{Session}
 use Rattle.scan.specs.Input.{documentOf, scansOf, collectionOf, new, session}
 use Rattle.scan.proofs.Inputs.{fed-append, session-collects, session-refused, all-bytes, document-eight, list-says}
 use Rattle.pantry_work.specs.Steps.{resuming, answered}
-use Rattle.pantry_work.specs.Pantry.{takenUp, Prints}
-use Rattle.pantry_work.proofs.Answers.{answered-most}
-use Rattle.pantry_work.proofs.Pantry.{all-append, scans-print, alone-prints, file-joined, damaged-13, another-12, none-prints, none-19}
+use Rattle.pantry_work.specs.Pantry.{takenUp}
+use Rattle.pantry_work.proofs.Pantry.{all-append, file-joined, damaged-13, another-12, none-19}
+use Rattle.finish.specs.Finish.{finishing}
+use Rattle.finish.specs.Sets.{Answers}
+use Rattle.finish.proofs.Demand.{finish-demand}
 use Rattle.scan.proofs.session.feed as scan-session-feed
 use Rattle.scan.proofs.session.close as scan-session-close
 use Rattle.promises.specs.Calls.{Call}
@@ -112,10 +114,25 @@ runs-happen parts line c = let r = feeds-happen parts (new line c) in (closed (r
 reports-laid : (phase : ℕ) (c out x : List ℕ) (a : Answer ℕ) → length (reported phase c) ≤ length out → Reports phase c out x a → Laid (reported phase c) out x a
 reports-laid phase c out x a h (k, i, j, l, m, e) = written-room (reported phase c) out x a h (rw (i, j, l, m, e) at (scan-session-report-link k))
 
-answers-laid : (phase : ℕ) (c out x : List ℕ) (a : Answer ℕ) → 46080 ≤ length out → Shows phase c out x a → Laid (answered phase c) out x a
-answers-laid phase c out x a h (k, i, j, l, m, e) =
-    let n = answered-most phase c in
-    written-room (answered phase c) out x a (omega arith) (rw (i, j, l, m, e) at (pantry-work-answer-link k))
+-- a session that collects gives out what finish answers,
+shows-finish : (phase : ℕ) (c out x : List ℕ) (a : Answer ℕ) → phase ≡ 1 → Shows phase c out x a → Kept (finishing c out) out x a
+unfolding answered
+shows-finish phase c out x a p (k, i, j, l, m, e) = rw (p, e) at (rw (i, j, l, m) at (pantry-work-answer-link k))
+
+-- which is said of the set that its collection is
+shows-set : (id : List ℕ) → length id ≡ 8 → (c : List ℕ) → length c ≡ 49664 → (raws : List (List ℕ)) → AllBytes raws → (phase : ℕ) (y out x : List ℕ) (a : Answer ℕ)
+    → phase ≡ 1 → y ≡ collectionOf c id raws → Shows phase y out x a → Answers (PageAmong id raws) id out x a
+shows-set id eight c size raws all phase y out x a p e k =
+    let (ok, i, m) = list-says id eight c size raws all in
+    let w = rw e at (shows-finish phase y out x a p k) in
+    rw i at (finish-demand (PageAmong id raws) (collectionOf c id raws) out x a ok m (w .answer) (w .bytes))
+
+-- and one that does not refuses
+shows-none : (phase : ℕ) (c out x : List ℕ) (a : Answer ℕ) → (phase ≡ 1 → ⊥) → Shows phase c out x a → (a ≡ refused 19) × (x ≡ out)
+unfolding answered
+shows-none phase c out x a p (k, i, j, l, m, e) =
+    let w = rw (ne-eqb phase 1 p, e) at (rw (i, j, l, m) at (pantry-work-answer-link k)) in
+    (w .answer, w .bytes)
 
 resumes-says : (phase : ℕ) (c saved y : List ℕ) (r : Answer Unit) (d : Change Unit) → resuming phase c saved ≡ d → Resumes phase c saved y r
     → (r ≡ answerOf d) × (y ≡ bytesAfter c d)
@@ -166,17 +183,15 @@ module _ (line c : List ℕ) (room : 1025 ≤ length line) (size : length c ≡ 
     file-saved : (b : Book) → BookIs (PageAmong id (scansOf input ++ ys)) b → y ≡ encode id b
     file-saved b m = taken .1 ∙ list-saved id eight d (scansOf input ++ ys) t both b m
 
-    file-printed : Prints id (PageAmong id (scansOf input ++ ys)) (answered (reached .phase) y)
-    file-printed = rw (came .0, taken .1) (scans-print id eight d t (scansOf input ++ ys) both)
-
   session-collected : Collects id (scansOf input) reached
   session-collected = record {
     collecting = came .0;
     saved = session-saved;
     pier = pier-line;
-    pantry = λ out x a h k. (answered (reached .phase) (reached .collection), alone-prints line c room size input id named, answers-laid (reached .phase) (reached .collection) out x a h k);
+    pantry = λ out x a k. shows-set id eight c size (scansOf input) (all-bytes input) (reached .phase) (reached .collection) out x a (came .0) (came .1) k;
     keeps = λ ys d saved y r all t left k. (taken ys d saved y r all t left k .0, file-saved ys d saved y r all t left k);
-    prints = λ ys d saved y r out x a all t left k h j. (answered (reached .phase) y, file-printed ys d saved y r all t left k, answers-laid (reached .phase) y out x a h j);
+    prints = λ ys d saved y r out x a all t left k j.
+        shows-set id eight d t (scansOf input ++ ys) (both ys d saved y r all t left k) (reached .phase) y out x a (came .0) (taken ys d saved y r all t left k .1) j;
     damaged = λ saved y r bad k. resumes-says (reached .phase) (reached .collection) saved y r (refused 13) (damaged-13 line c room size input id named saved bad) k;
     another = λ saved y r ok n k. resumes-says (reached .phase) (reached .collection) saved y r (refused 12) (another-12 line c room size input id named saved ok n) k;
   }
@@ -197,7 +212,7 @@ module _ (line c : List ℕ) (room : 1025 ≤ length line) (input : List ℕ) (n
     pier = λ out x a h k.
         let m = refused-most 19 in
         rw idle-line at (reports-laid (idle .phase) (idle .collection) out x a (omega (arith, ap length idle-line)) k);
-    pantry = λ out x a h k. rw (none-prints line c room input n none) at (answers-laid (idle .phase) (idle .collection) out x a h k);
+    pantry = λ out x a k. shows-none (idle .phase) (idle .collection) out x a (session-refused line c room input n 0 none .0) k;
     keeps = λ saved y r k. resumes-says (idle .phase) (idle .collection) saved y r (refused 19) (none-19 line c room input n none saved) k;
   }
 

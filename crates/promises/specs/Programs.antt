@@ -11,7 +11,7 @@ use Prim.Native.Nat.{ℕ, _≤_}
 use lib.ListN.{length}
 use denote.Ref.{now}
 use Rattle.wire.specs.Answer.{Answer, done, refused}
-use Rattle.wire.specs.Sizes.{collectionSize, mostCiphertext}
+use Rattle.wire.specs.Sizes.{collectionSize}
 use Rattle.wire.specs.Over.{over}
 use Rattle.wire.specs.Writing.{told}
 use Rattle.digits.specs.Decimal.{refusedLine}
@@ -21,11 +21,11 @@ use Rattle.book.specs.Encode.{encode}
 use Rattle.book.specs.Read.{idOf, okBook}
 use Rattle.collection.specs.Answer as collection
 use Rattle.collection.specs.Built.{opened, offeredAll, PageAmong, AllBytes}
+use Rattle.finish.specs.Finish as finish
+use Rattle.finish.specs.Sets.{Answers}
 use Rattle.status.specs.Sets.{LineIs}
 use Rattle.scan.specs.Session.{At, at}
 use Rattle.scan.specs.Input.{documentOf, scansOf, new}
-use Rattle.pantry_work.specs.Steps.{refusalLine}
-use Rattle.pantry_work.specs.Pantry.{Prints}
 use Rattle.scan.proofs.session.feed as scan-session-feed
 use Rattle.scan.proofs.session.close as scan-session-close
 use Rattle.scan.proofs.session.report as scan-session-report
@@ -70,11 +70,12 @@ Resumes phase c saved x a =
     (k : Call pantry-work-resume.Kinds.ps pantry-work-resume.Kinds.r pantry-work-resume.Reads.Learnt)
     × (k .args .0 .phase ≡ phase) × (now (k .args .1 .0) ≡ saved) × (now (k .args .1 .1 .0) ≡ c) × (k .left .1 .1 .0 ≡ x) × (collection.told (k .answer) ≡ a)
 
--- what the pantry prints
+-- what the pantry gives out: it prints what then stands in front of x, as many bytes as a says, or
+-- nothing
 abbrev pub Shows : (phase : ℕ) (c out x : List ℕ) (a : Answer ℕ) → Type 0
 Shows phase c out x a =
     (k : Call pantry-work-answer.Kinds.ps pantry-work-answer.Kinds.r pantry-work-answer.Reads.Learnt)
-    × (k .args .0 .phase ≡ phase) × (now (k .args .1 .0) ≡ c) × (now (k .args .1 .1 .0) ≡ out) × (k .left .1 .1 .0 ≡ x) × (told (k .answer) ≡ a)
+    × (k .args .0 .phase ≡ phase) × (now (k .args .1 .0) ≡ c) × (now (k .args .1 .1 .0) ≡ out) × (k .left .1 .1 .0 ≡ x) × (finish.told (k .answer) ≡ a)
 
 -- the whole of a text was laid in front of out
 abbrev pub Laid : (text out x : List ℕ) (a : Answer ℕ) → Type 0
@@ -95,17 +96,15 @@ pub record Collects (id : List ℕ) (xs : List (List ℕ)) (t : At) : Type 0 whe
   -- pier's line says that set (R15.1): 64 bytes are room for any
   pub pier : (out x : List ℕ) (a : Answer ℕ) → 64 ≤ length out → Reports (t .phase) (t .collection) out x a
       → (line : List ℕ) × LineIs (PageAmong id xs) line × Laid line out x a
-  -- the pantry without a file prints finish, or the status, of that set (R15.6): so many bytes are
-  -- room for any
-  pub pantry : (out x : List ℕ) (a : Answer ℕ) → mostCiphertext ≤ length out → Shows (t .phase) (t .collection) out x a
-      → (text : List ℕ) × Prints id (PageAmong id xs) text × Laid text out x a
+  -- the pantry without a file gives out what finish says of that set (R1.6, R15.6)
+  pub pantry : (out x : List ℕ) (a : Answer ℕ) → Shows (t .phase) (t .collection) out x a → Answers (PageAmong id xs) id out x a
   -- with a file that holds what calls with the scans ys left: it keeps the collection of both, and
-  -- prints that (R1.5, R15.7)
+  -- gives out what finish says of that (R1.5, R15.7)
   pub keeps : (ys : List (List ℕ)) (d saved y : List ℕ) (r : Answer Unit) → AllBytes ys → length d ≡ collectionSize → Left library id (offeredAll ys (opened d)) saved
       → Resumes (t .phase) (t .collection) saved y r → (r ≡ done tt) × ((b : Book) → BookIs (PageAmong id (xs ++ ys)) b → y ≡ encode id b)
   pub prints : (ys : List (List ℕ)) (d saved y : List ℕ) (r : Answer Unit) (out x : List ℕ) (a : Answer ℕ) → AllBytes ys → length d ≡ collectionSize
-      → Left library id (offeredAll ys (opened d)) saved → Resumes (t .phase) (t .collection) saved y r → mostCiphertext ≤ length out → Shows (t .phase) y out x a
-      → (text : List ℕ) × Prints id (PageAmong id (xs ++ ys)) text × Laid text out x a
+      → Left library id (offeredAll ys (opened d)) saved → Resumes (t .phase) (t .collection) saved y r → Shows (t .phase) y out x a
+      → Answers (PageAmong id (xs ++ ys)) id out x a
   -- a file that is no collection is refused with 13, one of another document with 12, and the
   -- session's collection stays (R15.7)
   pub damaged : (saved y : List ℕ) (r : Answer Unit) → okBook saved ≡ false → Resumes (t .phase) (t .collection) saved y r → (r ≡ refused 13) × (y ≡ t .collection)
@@ -117,7 +116,7 @@ pub record Collects (id : List ℕ) (xs : List (List ℕ)) (t : At) : Type 0 whe
 pub record Waits (c : List ℕ) (t : At) : Type 0 where
   pub unchanged : t .collection ≡ c
   pub pier : (out x : List ℕ) (a : Answer ℕ) → 64 ≤ length out → Reports (t .phase) (t .collection) out x a → Laid (refusedLine 19) out x a
-  pub pantry : (out x : List ℕ) (a : Answer ℕ) → mostCiphertext ≤ length out → Shows (t .phase) (t .collection) out x a → Laid (refusalLine 19 0) out x a
+  pub pantry : (out x : List ℕ) (a : Answer ℕ) → Shows (t .phase) (t .collection) out x a → (a ≡ refused 19) × (x ≡ out)
   pub keeps : (saved y : List ℕ) (r : Answer Unit) → Resumes (t .phase) (t .collection) saved y r → (r ≡ refused 19) × (y ≡ t .collection)
 
 pub record Programs : Type 0 where

@@ -44,8 +44,8 @@ pub fn scan(line: &[u8], c: &mut [u8])
     collection::offer(c, &raw[0..len]);
 }
 
-// The line so far.
-fn line_of(s: Session, line: &[u8]) -> &[u8]
+// The bytes of the line that has not ended, in the line buffer; none where the buffer is shorter.
+pub fn line_of(s: Session, line: &[u8]) -> &[u8]
     ensures { λ r. ⌜ now r ≡ lineOf (at s (now (line .entry)) []) ⌝ }
 {
     let len = s.len;

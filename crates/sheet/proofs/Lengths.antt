@@ -30,24 +30,24 @@ place-short k n h l =
 
 -- ---- the lines of a page that there is
 
-module _ (c : List ℕ) (k : ℕ) (t : There c k) where
+module _ (c : List ℕ) (size k : ℕ) (t : There c size k) where
   -- the text of a code square: a line of at most 667 bytes, so never above 1,024
-  pub scan-text-short : length (textOf base64 (pageFrame c 480 k)) ≤ 667
+  pub scan-text-short : length (textOf base64 (pageFrame c size k)) ≤ 667
   unfolding base64
   scan-text-short =
-      let n : ℕ = length (pageFrame c 480 k) in
-      let s : n ≤ 500 = frame-short c 480 k (pageFrame c 480 k) (frame-there c k t) in
-      rw (text-length base64 (pageFrame c 480 k)) (omega (arith, filled base64 base64-lawful n, filling-lt base64 base64-lawful n))
+      let n : ℕ = length (pageFrame c size k) in
+      let s : n ≤ 500 = frame-short c size k (pageFrame c size k) (frame-there c size k t) in
+      rw (text-length base64 (pageFrame c size k)) (omega (arith, filled base64 base64-lawful n, filling-lt base64 base64-lawful n))
 
-  pub scan-line-short : length (scanLine c k) ≤ 668
+  pub scan-line-short : length (scanLine c size k) ≤ 668
   unfolding scanLine textLine
-  scan-line-short = omega (arith, length-append (textOf base64 (pageFrame c 480 k)) lineFeed, scan-text-short)
+  scan-line-short = omega (arith, length-append (textOf base64 (pageFrame c size k)) lineFeed, scan-text-short)
 
-  pub typed-lines-short : pageCount (length c) 480 ≤ 96 → length (typedLines c k) ≤ 815
+  pub typed-lines-short : pageCount (length c) size ≤ 96 → length (typedLines c size k) ≤ 815
   unfolding typedLines textLine
   typed-lines-short m =
-      let p = place-short k (pageCount (length c) 480) (omega (arith, t .below)) (omega arith) in
-      simp length-append (omega (arith, page-short c k t zbase32 zbase32-lawful))
+      let p = place-short k (pageCount (length c) size) (omega (arith, t .below)) (omega arith) in
+      simp length-append (omega (arith, page-short c size k t zbase32 zbase32-lawful))
 
 -- ---- a sheet
 
@@ -57,45 +57,45 @@ joined-short zero b g h = omega arith
 joined-short (suc n) b g h =
     omega (arith, length-append (joined n g) (g n), joined-short n b g (λ k l. h k (omega arith)), h n (omega arith), suc-mul n b)
 
-module _ (c : List ℕ) (n : ℕ) (h : done n ≡ countOf (length c) 480) where
-  here : (k : ℕ) → k < pageCount (length c) 480 → There c k
-  here k l = page-there c n h k (omega (arith, total-is c n h))
+module _ (c : List ℕ) (size n : ℕ) (h : done n ≡ countOf (length c) size) where
+  here : (k : ℕ) → k < pageCount (length c) size → There c size k
+  here k l = page-there c size n h k (omega (arith, total-is c size n h))
 
-  few : pageCount (length c) 480 ≤ 96
-  few = omega (arith, total-is c n h, total-most c n h)
+  few : pageCount (length c) size ≤ 96
+  few = omega (arith, total-is c size n h, total-most c size n h)
 
-  pub scan-sheet-short : length (scanSheet c) ≤ 64145
+  pub scan-sheet-short : length (scanSheet c size) ≤ 64145
   unfolding scanSheet
   scan-sheet-short =
-      omega (arith, length-append (idLine c) (joined (pageCount (length c) 480) (scanLine c)), id-line-length c, joined-short (pageCount (length c) 480) 668 (scanLine c) (λ k l. scan-line-short c k (here k l)), few)
+      omega (arith, length-append (idLine c) (joined (pageCount (length c) size) (scanLine c size)), id-line-length c, joined-short (pageCount (length c) size) 668 (scanLine c size) (λ k l. scan-line-short c size k (here k l)), few)
 
-  pub typed-sheet-short : length (typedSheet c) ≤ 78257
+  pub typed-sheet-short : length (typedSheet c size) ≤ 78257
   unfolding typedSheet
   typed-sheet-short =
-      omega (arith, length-append (idLine c) (joined (pageCount (length c) 480) (typedLines c)), id-line-length c, joined-short (pageCount (length c) 480) 815 (typedLines c) (λ k l. typed-lines-short c k (here k l) few), few)
+      omega (arith, length-append (idLine c) (joined (pageCount (length c) size) (typedLines c size)), id-line-length c, joined-short (pageCount (length c) size) 815 (typedLines c size) (λ k l. typed-lines-short c size k (here k l) few), few)
 
 -- ---- so 78,257 bytes, which the program has, are room for all that is printed
 
-module _ (c bs : List ℕ) where
+module _ (c : List ℕ) (size : ℕ) (bs : List ℕ) where
   -- For the reader: `sheet::scans` does not answer 11 then,
-  pub scan-room : scanVerdict c ≡ done bs → length bs ≤ 78257
+  pub scan-room : scanVerdict c size ≡ done bs → length bs ≤ 78257
   unfolding scanVerdict
   scan-room e =
-      let (n, h, q) = then-done (countOf (length c) 480) _ e in
-      omega (arith, scan-sheet-short c n (sym h), ap length (done-value q))
+      let (n, h, q) = then-done (countOf (length c) size) _ e in
+      omega (arith, scan-sheet-short c size n (sym h), ap length (done-value q))
 
   -- For the reader: nor does `sheet::typed`,
-  pub typed-room : typedVerdict c ≡ done bs → length bs ≤ 78257
+  pub typed-room : typedVerdict c size ≡ done bs → length bs ≤ 78257
   unfolding typedVerdict
   typed-room e =
-      let (n, h, q) = then-done (countOf (length c) 480) _ e in
-      omega (arith, typed-sheet-short c n (sym h), ap length (done-value q))
+      let (n, h, q) = then-done (countOf (length c) size) _ e in
+      omega (arith, typed-sheet-short c size n (sym h), ap length (done-value q))
 
   -- For the reader: nor `sheet::typed_page`
-  pub place-room : (k : ℕ) → placeVerdict c k ≡ done bs → length bs ≤ 78257
+  pub place-room : (k : ℕ) → placeVerdict c size k ≡ done bs → length bs ≤ 78257
   unfolding placeVerdict
   place-room k e =
-      let (n, h, t) = then-done (countOf (length c) 480) _ e in
+      let (n, h, t) = then-done (countOf (length c) size) _ e in
       let (l, q) = passed (ltb k n) _ 8 t in
-      let there = page-there c n (sym h) k (ltb-true k n l) in
-      omega (arith, typed-lines-short c k there (few c n (sym h)), ap length (done-value q))
+      let there = page-there c size n (sym h) k (ltb-true k n l) in
+      omega (arith, typed-lines-short c size k there (few c size n (sym h)), ap length (done-value q))

@@ -5,3 +5,4 @@ pub mod Sheets
 pub mod Lengths
 pub mod OneLine
 pub mod Words
+pub mod Refusals

@@ -7,12 +7,12 @@ use Prim.Native.Nat.{ℕ, zero, suc, _+_, _*_, _/_, _%_, _^_, _<_}
 use lib.Pow.{pow-pos}
 use native.Mathlib.Omega.{arith}
 use borrow.Author.Tests.{ltb-false}
-use lib.Dec.{ltb}
+use lib.Dec.{ltb, eqb}
 use lib.ListN.{length, getD}
 use Rattle.wire.specs.Answer.{choose, done}
 use Rattle.wire.specs.Number.{Bytes, Digits, digits, number}
 use Rattle.wire.proofs.Digits.{digits-small}
-use Rattle.digits.specs.Decimal.{digit, decimal}
+use Rattle.digits.specs.Decimal.{digit, decimal, lastDigits, numeral}
 use Rattle.digits.specs.Hex.{hexDigit, hexOf}
 use Rattle.text.specs.Text.{Form, base64, zbase32, skipped, letter, characters, filling, textOf, readText}
 use Rattle.text.proofs.Forms.{Lawful, base64-lawful, zbase32-lawful}
@@ -20,6 +20,7 @@ use Rattle.page.specs.Page.{pageCount, pageFrame, Printed}
 use Rattle.page.proofs.Cutting.{counted-facts}
 use Rattle.page.proofs.Round.{page-typed}
 use Rattle.sheet.specs.Sheet.{pageWord, ofWord}
+use Rattle.sheet.specs.Words.{tooLarge, wereGiven, pagesOf, bytesHold, splitIt, nothingRead, noSuchPage, notPrinted, givenWords, largeWords, reasonWords}
 use Rattle.sheet.specs.Private.{There}
 
 -- ---- no line feed inside a line
@@ -110,18 +111,62 @@ place-one k n =
     one-append (pageWord ++ decimal k ++ ofWord) (decimal n)
     (one-append (pageWord ++ decimal k) ofWord (one-append pageWord (decimal k) (clear-one pageWord refl) (decimal-one-line k)) (clear-one ofWord refl)) (decimal-one-line n)
 
+-- ---- nor the words beside a refusal
+
+last-one-line : (k n : ℕ) → Single (lastDigits k n)
+unfolding lastDigits
+last-one-line zero n = one-none
+last-one-line (suc k) n = go (ltb n 10) (last-one-line k (n / 10))
+  where
+    go : (t : Bool) → Single (lastDigits k (n / 10)) → Single (choose t (digit n ∷ []) (lastDigits k (n / 10) ++ (digit (n % 10) ∷ [])))
+    go true rest = digit-one n [] one-none
+    go false rest = one-append (lastDigits k (n / 10)) (digit (n % 10) ∷ []) rest (digit-one (n % 10) [] one-none)
+
+numeral-one-line : (n : ℕ) → Single (numeral n)
+unfolding numeral
+numeral-one-line n = last-one-line 20 n
+
+either-one : (t : Bool) (xs ys : List ℕ) → Single xs → Single ys → Single (choose t xs ys)
+either-one true xs ys x y = x
+either-one false xs ys x y = y
+
+given-one : (given : ℕ) → Single (givenWords given)
+unfolding givenWords
+given-one given = either-one (eqb given 0) [] (numeral given ++ wereGiven) one-none (one-append (numeral given) wereGiven (numeral-one-line given) (clear-one wereGiven refl))
+
+large-one : (size given : ℕ) → Single (largeWords size given)
+unfolding largeWords
+large-one size given =
+    let t1 = tooLarge ++ givenWords given in
+    let t2 = t1 ++ pagesOf in
+    let t3 = t2 ++ numeral size in
+    let t4 = t3 ++ bytesHold in
+    let o1 = one-append tooLarge (givenWords given) (clear-one tooLarge refl) (given-one given) in
+    let o2 = one-append t1 pagesOf o1 (clear-one pagesOf refl) in
+    let o3 = one-append t2 (numeral size) o2 (numeral-one-line size) in
+    let o4 = one-append t3 bytesHold o3 (clear-one bytesHold refl) in
+    one-append (t4 ++ numeral (size * 96)) splitIt (one-append t4 (numeral (size * 96)) o4 (numeral-one-line (size * 96))) (clear-one splitIt refl)
+
+-- For the reader: what `press` says of a refusal has one line feed, at its end
+pub reason-one : (n size given : ℕ) → Single (reasonWords n size given)
+unfolding reasonWords
+reason-one n size given =
+    let last = choose (eqb n 8) noSuchPage notPrinted in
+    let rest = choose (eqb n 9) (largeWords size given) last in
+    either-one (eqb n 19) nothingRead rest (clear-one nothingRead refl) (either-one (eqb n 9) (largeWords size given) last (large-one size given) (either-one (eqb n 8) noSuchPage notPrinted (clear-one noSuchPage refl) (clear-one notPrinted refl)))
+
 -- ---- a page's text is read as its frame, in either form
 
-module _ (c : List ℕ) (k : ℕ) (t : There c k) (all : Bytes c) where
-  can-print : Printed c 480
+module _ (c : List ℕ) (size k : ℕ) (t : There c size k) (all : Bytes c) where
+  can-print : Printed c size
   can-print =
-      let f = counted-facts (length c) 480 (pageCount (length c) 480) (t .counted) in
+      let f = counted-facts (length c) size (pageCount (length c) size) (t .counted) in
       record { some = f .0; least = f .1; most = f .2; fits = f .4 }
 
   -- For the reader: what a code square says reads back as the frame,
-  pub scan-reads : readText base64 (textOf base64 (pageFrame c 480 k)) ≡ done (pageFrame c 480 k)
-  scan-reads = page-typed c 480 can-print k (t .below) all base64 base64-lawful
+  pub scan-reads : readText base64 (textOf base64 (pageFrame c size k)) ≡ done (pageFrame c size k)
+  scan-reads = page-typed c size can-print k (t .below) all base64 base64-lawful
 
   -- For the reader: and so does what is typed below it
-  pub typed-reads : readText zbase32 (textOf zbase32 (pageFrame c 480 k)) ≡ done (pageFrame c 480 k)
-  typed-reads = page-typed c 480 can-print k (t .below) all zbase32 zbase32-lawful
+  pub typed-reads : readText zbase32 (textOf zbase32 (pageFrame c size k)) ≡ done (pageFrame c size k)
+  typed-reads = page-typed c size can-print k (t .below) all zbase32 zbase32-lawful

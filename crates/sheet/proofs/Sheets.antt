@@ -7,6 +7,7 @@ use native.Mathlib.Omega.{arith}
 use borrow.Author.Tests.{lt-ltb, le-ltb}
 use lib.Dec.{ltb}
 use lib.ListN.{length, take, drop, replicate, length-replicate}
+use Rattle.digits.specs.Private.{Laid}
 use Rattle.wire.specs.Over.{over}
 use Rattle.wire.specs.Answer.{Answer, done, refused, Kept, demand}
 use Rattle.wire.specs.Writing.{Written, writing}
@@ -21,90 +22,94 @@ use Rattle.page.specs.declared.PageCount.the-variants.{Pages}
 use Rattle.page.specs.declared.PageCount.the-variants as page
 use Rattle.page.proofs.Cutting.{counted-facts}
 use Rattle.sheet.specs.Sheet.{idLine, placeLine, textLine, scanLine, typedLines, placeVerdict}
-use Rattle.sheet.specs.Private.{There, textForm, linesOf, sheetOf, sheetVerdict, Laid}
+use Rattle.sheet.specs.Private.{There, textForm, linesOf, sheetOf, sheetVerdict}
 use Rattle.sheet.specs.declared.Form.{Form}
 use Rattle.sheet.specs.declared.Form.the-variants.{Square, Below}
 use Rattle.sheet.proofs.Ids.{id-line-length}
-use Rattle.sheet.proofs.Laying.{laid-one, laid-then, laid-as, laid-part}
+use Rattle.digits.proofs.Laying.{laid-one, laid-then, laid-as, laid-part}
 
 -- ---- the lines of one page
 
-module _ (c : List ℕ) (n : ℕ) (h : done n ≡ countOf (length c) 480) where
-  pub total-is : n ≡ pageCount (length c) 480
-  total-is = counted-facts (length c) 480 n h .3
+module _ (c : List ℕ) (size n : ℕ) (h : done n ≡ countOf (length c) size) where
+  pub total-is : n ≡ pageCount (length c) size
+  total-is = counted-facts (length c) size n h .3
 
   pub total-most : n ≤ 96
-  total-most = counted-facts (length c) 480 n h .4
+  total-most = counted-facts (length c) size n h .4
 
-  pub page-there : (k : ℕ) → k < n → There c k
+  pub page-there : (k : ℕ) → k < n → There c size k
   page-there k l = record { counted = ap done (sym total-is) ∙ h; below = omega (arith, total-is) }
 
   module _ (k at : ℕ) (l : List ℕ) where
-    pub scan-laid : (f : Form) (x : List ℕ) (r : ℕ) → f ≡ Square → Laid at 801 (textLine (textForm f) c k) l x r → Laid at 815 (linesOf f c k) l x r
+    pub scan-laid : (f : Form) (x : List ℕ) (r : ℕ) → f ≡ Square → Laid at 801 (textLine (textForm f) c size k) l x r → Laid at 815 (linesOf f c size k) l x r
     unfolding scanLine
-    scan-laid f x r e p = rw e (laid-as at 801 815 r (textLine base64 c k) (linesOf Square c k) l x (rw e at p) refl (omega arith))
+    scan-laid f x r e p = rw e (laid-as at 801 815 r (textLine base64 c size k) (linesOf Square c size k) l x (rw e at p) refl (omega arith))
 
     pub typed-laid : (f : Form) (x y : List ℕ) (m r : ℕ) → f ≡ Below → at + 815 ≤ length l → Laid at 14 (placeLine k n) l x m
-        → Laid m 801 (textLine (textForm f) c k) x y r → Laid at 815 (linesOf f c k) l y r
+        → Laid m 801 (textLine (textForm f) c size k) x y r → Laid at 815 (linesOf f c size k) l y r
     unfolding typedLines
     typed-laid f x y m r e room p q =
         rw e
-        (laid-as at 815 815 r (placeLine k n ++ textLine zbase32 c k) (linesOf Below c k) l y
-        (laid-then at 14 m 801 r (placeLine k n) (textLine zbase32 c k) l x y p (rw e at q) (omega (arith, p .next, p .short)))
-        (ap (λ (i : ℕ). placeLine k i ++ textLine zbase32 c k) total-is) (omega arith))
+        (laid-as at 815 815 r (placeLine k n ++ textLine zbase32 c size k) (linesOf Below c size k) l y
+        (laid-then at 14 m 801 r (placeLine k n) (textLine zbase32 c size k) l x y p (rw e at q) (omega (arith, p .next, p .short)))
+        (ap (λ (i : ℕ). placeLine k i ++ textLine zbase32 c size k) total-is) (omega arith))
 
 -- ---- the loop
 
 -- the lines of the first k pages stand in x behind the id, and there is room for those of all
-pub record Stacked (f : Form) (c : List ℕ) (n : ℕ) (l : List ℕ) (at k : ℕ) (x : List ℕ) : Type 0 where
-  pub counted : done n ≡ countOf (length c) 480
+pub record Stacked (f : Form) (c : List ℕ) (size n : ℕ) (l : List ℕ) (at k : ℕ) (x : List ℕ) : Type 0 where
+  pub counted : done n ≡ countOf (length c) size
   pub room : 78257 ≤ length l
   pub most : k ≤ n
-  pub size : length x ≡ length l
-  pub laid : Laid 17 (k * 815) (joined k (linesOf f c)) l x at
+  pub whole : length x ≡ length l
+  pub laid : Laid 17 (k * 815) (joined k (linesOf f c size)) l x at
 
-module _ (f : Form) (c : List ℕ) (n : ℕ) (l : List ℕ) where
-  pub stacked-none : done n ≡ countOf (length c) 480 → 78257 ≤ length l → Stacked f c n l 17 0 l
+module _ (f : Form) (c : List ℕ) (size n : ℕ) (l : List ℕ) where
+  pub stacked-none : done n ≡ countOf (length c) size → 78257 ≤ length l → Stacked f c size n l 17 0 l
   unfolding joined
-  stacked-none h room = record { counted = h; room = room; most = omega arith; size = refl; laid = laid-one 17 0 [] l l 17 refl (omega arith) (sym (over-none 17 l)) }
+  stacked-none h room = record { counted = h; room = room; most = omega arith; whole = refl; laid = laid-one 17 0 [] l l 17 refl (omega arith) (sym (over-none 17 l)) }
 
-  module _ (k at : ℕ) (x : List ℕ) (g : Stacked f c n l at k x) where
+  module _ (k at : ℕ) (x : List ℕ) (g : Stacked f c size n l at k x) where
     top : n ≤ 96
-    top = total-most c n (g .counted)
+    top = total-most c size n (g .counted)
 
     behind : at ≤ 17 + k * 815
     behind = omega (arith, g .laid .next, g .laid .short)
 
     pub stacked-room : k < n → at + 815 ≤ length x
-    stacked-room h = omega (arith, top, behind, g .room, g .size)
+    stacked-room h = omega (arith, top, behind, g .room, g .whole)
 
-    pub stacked-on : (r : ℕ) (y : List ℕ) → k < n → length y ≡ length x → Laid at 815 (linesOf f c k) x y r → Stacked f c n l r (k + 1) y
+    pub stacked-on : (r : ℕ) (y : List ℕ) → k < n → length y ≡ length x → Laid at 815 (linesOf f c size k) x y r → Stacked f c size n l r (k + 1) y
     unfolding joined
     stacked-on r y h s p =
         record {
           counted = g .counted;
           room = g .room;
           most = omega arith;
-          size = s ∙ g .size;
-          laid = laid-as 17 (k * 815 + 815) ((k + 1) * 815) r (joined k (linesOf f c) ++ linesOf f c k) (joined (k + 1) (linesOf f c)) l y
-              (laid-then 17 (k * 815) at 815 r (joined k (linesOf f c)) (linesOf f c k) l x y (g .laid) p (omega (arith, g .size, stacked-room h))) (rw (add-one k)) (omega arith);
+          whole = s ∙ g .whole;
+          laid = laid-as 17 (k * 815 + 815) ((k + 1) * 815) r (joined k (linesOf f c size) ++ linesOf f c size k) (joined (k + 1) (linesOf f c size)) l y
+              (laid-then 17 (k * 815) at 815 r (joined k (linesOf f c size)) (linesOf f c size k) l x y (g .laid) p (omega (arith, g .whole, stacked-room h))) (rw (add-one k)) (omega arith);
         }
 
-    pub stacked-end : (l₀ : List ℕ) → 78257 ≤ length l₀ → l ≡ over 0 (idLine c) l₀ → n ≤ k → Laid 0 78257 (sheetOf f c) l₀ x at
+    pub stacked-end : (l₀ : List ℕ) → 78257 ≤ length l₀ → l ≡ over 0 (idLine c) l₀ → n ≤ k → Laid 0 78257 (sheetOf f c size) l₀ x at
     unfolding sheetOf
     stacked-end l₀ room i o =
-        let e : k ≡ pageCount (length c) 480 = omega (arith, g .most, total-is c n (g .counted)) in
+        let e : k ≡ pageCount (length c) size = omega (arith, g .most, total-is c size n (g .counted)) in
         let m : k ≤ 96 = omega (arith, g .most, top) in
         let d = id-line-length c in
         let first = laid-one 0 17 (idLine c) l₀ l 17 (omega arith) (omega arith) i in
-        laid-as 0 (17 + k * 815) 78257 at (idLine c ++ joined k (linesOf f c)) (idLine c ++ joined (pageCount (length c) 480) (linesOf f c)) l₀ x
-        (laid-then 0 17 17 (k * 815) at (idLine c) (joined k (linesOf f c)) l₀ l x first (g .laid) (omega arith))
-        (ap (λ (i : ℕ). idLine c ++ joined i (linesOf f c)) e) (omega arith)
+        laid-as 0 (17 + k * 815) 78257 at (idLine c ++ joined k (linesOf f c size)) (idLine c ++ joined (pageCount (length c) size) (linesOf f c size)) l₀ x
+        (laid-then 0 17 17 (k * 815) at (idLine c) (joined k (linesOf f c size)) l₀ l x first (g .laid) (omega arith))
+        (ap (λ (i : ℕ). idLine c ++ joined i (linesOf f c size)) e) (omega arith)
 
 -- what was laid in front is what is given
+pub given-from : (m n : ℕ) (bs l x out out' : List ℕ) (r : Answer ℕ) → m ≤ length l → Laid 0 m bs l x n → Kept (writing 0 out (done (take (n - 0) (drop 0 x)))) out out' r
+    → Kept (writing 0 out (done bs)) out out' r
+given-from m n bs l x out out' r room p w = rw (laid-part m n bs l x room p) at w
+
 pub given : (m n : ℕ) (bs x out out' : List ℕ) (r : Answer ℕ) → Laid 0 m bs (replicate m 0) x n → Kept (writing 0 out (done (take (n - 0) (drop 0 x)))) out out' r
     → Kept (writing 0 out (done bs)) out out' r
-given m n bs x out out' r p w = rw (laid-part m n bs (replicate m 0) x (omega (arith, length-replicate {A = ℕ} m 0)) p) at w
+given m n bs x out out' r = given-from m n bs (replicate m 0) x out out' r (omega (arith, length-replicate {A = ℕ} m 0))
 
 -- ---- the answers
 
@@ -114,28 +119,28 @@ told-pages p q = rw (← q, p)
 pub told-none : {r : PageCount} {e : ℕ} {k : Answer ℕ} → r ≡ page.Refused e → told r ≡ k → refused e ≡ k
 told-none p q = rw (← q, p)
 
-module _ (c : List ℕ) (n : ℕ) where
+module _ (c : List ℕ) (size n : ℕ) where
   module _ (out out' : List ℕ) (r : Answer ℕ) where
-    pub all-printed : (f : Form) (p : PageCount) → p ≡ Pages n → told p ≡ countOf (length c) 480 → Kept (writing 0 out (done (sheetOf f c))) out out' r
-        → Kept (writing 0 out (sheetVerdict f c)) out out' r
+    pub all-printed : (f : Form) (p : PageCount) → p ≡ Pages n → told p ≡ countOf (length c) size → Kept (writing 0 out (done (sheetOf f c size))) out out' r
+        → Kept (writing 0 out (sheetVerdict f c size)) out out' r
     unfolding sheetVerdict
     all-printed f p e h w = rw (← told-pages e h) w
 
-    pub one-printed : (k : ℕ) → done n ≡ countOf (length c) 480 → Kept (writing 0 out (demand (ltb k n) 8 (done (typedLines c k)))) out out' r → Kept (writing 0 out (placeVerdict c k)) out out' r
+    pub one-printed : (k : ℕ) → done n ≡ countOf (length c) size → Kept (writing 0 out (demand (ltb k n) 8 (done (typedLines c size k)))) out out' r → Kept (writing 0 out (placeVerdict c size k)) out out' r
     unfolding placeVerdict
     one-printed k h w = rw (← h) w
 
-    pub one-there : (k : ℕ) → k < n → Kept (writing 0 out (done (typedLines c k))) out out' r → Kept (writing 0 out (demand (ltb k n) 8 (done (typedLines c k)))) out out' r
+    pub one-there : (k : ℕ) → k < n → Kept (writing 0 out (done (typedLines c size k))) out out' r → Kept (writing 0 out (demand (ltb k n) 8 (done (typedLines c size k)))) out out' r
     one-there k l w = rw (lt-ltb k n l) w
 
-  pub one-past : (k : ℕ) (out : List ℕ) → n ≤ k → Written 0 (demand (ltb k n) 8 (done (typedLines c k))) out out (Refused 8)
+  pub one-past : (k : ℕ) (out : List ℕ) → n ≤ k → Written 0 (demand (ltb k n) 8 (done (typedLines c size k))) out out (Refused 8)
   one-past k out l = rw (le-ltb k n l) (denied 0 out 8)
 
-module _ (c : List ℕ) (e : ℕ) (h : refused e ≡ countOf (length c) 480) (out : List ℕ) where
-  pub none-printed : (f : Form) → Written 0 (sheetVerdict f c) out out (Refused e)
+module _ (c : List ℕ) (size e : ℕ) (h : refused e ≡ countOf (length c) size) (out : List ℕ) where
+  pub none-printed : (f : Form) → Written 0 (sheetVerdict f c size) out out (Refused e)
   unfolding sheetVerdict
   none-printed f = rw (← h) (denied 0 out e)
 
-  pub no-one-printed : (k : ℕ) → Written 0 (placeVerdict c k) out out (Refused e)
+  pub no-one-printed : (k : ℕ) → Written 0 (placeVerdict c size k) out out (Refused e)
   unfolding placeVerdict
   no-one-printed k = rw (← h) (denied 0 out e)

@@ -6,6 +6,7 @@ use mathlib.Core.List.{List}
 use Prim.Native.Nat.{ℕ, _+_, _-_, _*_, _^_, _≤_, _<_}
 use native.Mathlib.Omega.{arith}
 use lib.ListN.{length, take, drop, replicate, length-map, length-replicate}
+use Rattle.digits.specs.Private.{Laid}
 use Rattle.wire.specs.Number.{digits, number}
 use Rattle.wire.specs.Over.{over}
 use Rattle.wire.specs.Answer.{Answer, done, Kept}
@@ -23,10 +24,10 @@ use Rattle.page.specs.Page.{pageCount, pageFrame, pageVerdict, typed}
 use Rattle.page.proofs.Cutting.{page-is}
 use Rattle.page.proofs.Typing.{frame-short}
 use Rattle.sheet.specs.Sheet.{textLine}
-use Rattle.sheet.specs.Private.{There, textForm, Laid}
+use Rattle.sheet.specs.Private.{There, textForm}
 use Rattle.sheet.specs.declared.Form as own
 use Rattle.sheet.specs.declared.Form.the-variants.{Square, Below}
-use Rattle.sheet.proofs.Laying.{laid-one, laid-then, laid-part}
+use Rattle.digits.proofs.Laying.{laid-one, laid-then, laid-part}
 
 pub form-lawful : (f : own.Form) → Lawful (textForm f)
 form-lawful Square = base64-lawful
@@ -57,22 +58,22 @@ text-short f law bs h =
 
 -- ---- a page that there is
 
-module _ (c : List ℕ) (k : ℕ) (t : There c k) where
-  pub frame-there : pageVerdict c 480 k ≡ done (pageFrame c 480 k)
+module _ (c : List ℕ) (size k : ℕ) (t : There c size k) where
+  pub frame-there : pageVerdict c size k ≡ done (pageFrame c size k)
   unfolding pageFrame
-  frame-there = page-is c 480 k (pageCount (length c) 480) (t .counted) (t .below)
+  frame-there = page-is c size k (pageCount (length c) size) (t .counted) (t .below)
 
-  pub page-short : (f : Form) → Lawful f → length (textOf f (pageFrame c 480 k)) ≤ 800
-  page-short f law = text-short f law (pageFrame c 480 k) (frame-short c 480 k (pageFrame c 480 k) frame-there)
+  pub page-short : (f : Form) → Lawful f → length (textOf f (pageFrame c size k)) ≤ 800
+  page-short f law = text-short f law (pageFrame c size k) (frame-short c size k (pageFrame c size k) frame-there)
 
   module _ (f : own.Form) where
     abbrev here : List ℕ
-    here = textOf (textForm f) (pageFrame c 480 k)
+    here = textOf (textForm f) (pageFrame c size k)
 
     here-short : length here ≤ 800
     here-short = page-short (textForm f) (form-lawful f)
 
-    module _ (x y : List ℕ) (room : 800 ≤ length x) (r : Wrote) (w : Written 0 (typed (textForm f) (pageVerdict c 480 k)) x y r) where
+    module _ (x y : List ℕ) (room : 800 ≤ length x) (r : Wrote) (w : Written 0 (typed (textForm f) (pageVerdict c size k)) x y r) where
       written-here : Written 0 (done here) x y r
       written-here = rw frame-there at w
 
@@ -91,11 +92,11 @@ module _ (c : List ℕ) (k : ℕ) (t : There c k) where
           record { next = omega (arith, s .count, ap length e); short = here-short; stands = s .stands ∙ ap (λ (b : List ℕ). over 0 b x) e }
 
 -- with its line feed it is the line
-pub line-laid : (f : Form) (c : List ℕ) (k n at : ℕ) (y l u v : List ℕ) → v ≡ over (at + n) lineFeed u → u ≡ over at (take (n - 0) (drop 0 y)) l
-    → Laid 0 800 (textOf f (pageFrame c 480 k)) (replicate 800 0) y n → at + 801 ≤ length l → Laid at 801 (textLine f c k) l v (at + n + 1)
+pub line-laid : (f : Form) (c : List ℕ) (size k n at : ℕ) (y l u v : List ℕ) → v ≡ over (at + n) lineFeed u → u ≡ over at (take (n - 0) (drop 0 y)) l
+    → Laid 0 800 (textOf f (pageFrame c size k)) (replicate 800 0) y n → at + 801 ≤ length l → Laid at 801 (textLine f c size k) l v (at + n + 1)
 unfolding textLine
-line-laid f c k n at y l u v b a p fits =
-    let text : List ℕ = textOf f (pageFrame c 480 k) in
+line-laid f c size k n at y l u v b a p fits =
+    let text : List ℕ = textOf f (pageFrame c size k) in
     laid-then at 800 (at + n) 1 (at + n + 1) text lineFeed l u v
     (laid-one at 800 text l u (at + n) (omega (arith, p .next)) (p .short) (a ∙ rw (laid-part 800 n text (replicate 800 0) y (omega (arith, length-replicate {A = ℕ} 800 0)) p)))
     (laid-one (at + n) 1 lineFeed u v (at + n + 1) refl (omega arith) b) (omega (arith, p .next, p .short))

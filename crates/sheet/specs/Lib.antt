@@ -1,3 +1,4 @@
 pub mod Sheet
 pub mod Private
 pub mod Word
+pub mod Words

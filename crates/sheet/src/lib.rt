@@ -3,22 +3,25 @@
 //
 // A page's text reads back as its frame (`scan-reads`, `typed-reads`: sheet, OneLine), no line has
 // a line feed inside, and with `sheet::ROOM` bytes lent 11 is never the answer (`scan-room`,
-// `typed-room`, `place-room`: sheet, Lengths). The id's line reads back as the document's id
-// (`press-id`: promises, Printed).
+// `typed-room`, `place-room`: sheet, Lengths; `refusal-room`: sheet, Refusals). The id's line reads
+// back as the document's id (`press-id`: promises, Printed).
 ghost use mathlib.Core.Path.{_≡_};
 ghost use Prim.Native.Nat.{_+_, _*_, _≤_, _<_, min};
 ghost use lib.Dec.{ltb};
 ghost use lib.ListN.{length};
+ghost use Rattle.digits.specs.Private.{Laid};
 ghost use Rattle.wire.specs.Over.{over};
 ghost use Rattle.wire.specs.Answer.{done, demand};
-ghost use Rattle.wire.specs.Sizes.{mostPages, mostData};
+ghost use Rattle.wire.specs.Sizes.{mostPages};
 ghost use Rattle.wire.specs.Writing.{Written};
+ghost use Rattle.digits.specs.Decimal.{numeral};
 ghost use Rattle.text.specs.Text.{textOf};
 ghost use Rattle.page.specs.Page.{countOf, pageFrame, pageVerdict};
 ghost use Rattle.page.specs.Page.{typed as textVerdict};
 ghost use Rattle.sheet.specs.Sheet.{idLine, placeLine, textLine, scanVerdict, typedVerdict, typedLines, placeVerdict};
-ghost use Rattle.sheet.specs.Private.{There, textForm, linesOf, sheetOf, sheetVerdict, Laid};
+ghost use Rattle.sheet.specs.Private.{There, textForm, linesOf, sheetOf, sheetVerdict};
 ghost use Rattle.sheet.specs.Word.{askedOf};
+ghost use Rattle.sheet.specs.Words.{givenWords, largeWords, reasonWords, refusalWords};
 use page::PageCount;
 use wire::Wrote;
 
@@ -34,6 +37,9 @@ const PAGE_ROOM: usize = TEXT_ROOM + 15;
 // Room for every sheet.
 pub const ROOM: usize = ID_LINE + wire::MOST_PAGES * PAGE_ROOM;
 
+// Room for every line of a refusal.
+const REFUSAL_ROOM: usize = 200;
+
 // What is printed of a page.
 enum Form {
     // The text of its code square, base64 (R15.4).
@@ -42,10 +48,9 @@ enum Form {
     Below,
 }
 
-// The number of a page, as a word says it (R15.5).
+// A number, as a word says it (R15.5).
 pub enum Asked {
-    // It is the most pages where the word says more: no document has such a page.
-    Page { k: usize },
+    Number { n: u16 },
     // The word is no decimal number.
     Nothing,
 }
@@ -76,47 +81,47 @@ fn place(out: &mut [u8], at: usize, k: u8, n: u8) -> usize
 
 // ---- the lines of a page
 
-fn encode(form: Form, c: &[u8], k: usize, out: &mut [u8]) -> Wrote
-    ensures { λ r. ⌜ Written 0 (textVerdict (textForm form) (pageVerdict (now (c .entry)) mostData k)) (now (out .entry)) (now (out .exit)) r ⌝ }
+fn encode(form: Form, c: &[u8], size: usize, k: usize, out: &mut [u8]) -> Wrote
+    ensures { λ r. ⌜ Written 0 (textVerdict (textForm form) (pageVerdict (now (c .entry)) size k)) (now (out .entry)) (now (out .exit)) r ⌝ }
 {
     match form {
-        Form::Square => page::write_base64(c, wire::MOST_DATA, k, out),
-        Form::Below => page::write_zbase32(c, wire::MOST_DATA, k, out),
+        Form::Square => page::write_base64(c, size, k, out),
+        Form::Below => page::write_zbase32(c, size, k, out),
     }
 }
 
 // The text of a page that there is, at the front of out, where there is room: so it is not refused.
-fn text(form: Form, c: &[u8], k: usize, out: &mut [u8]) -> usize
-    requires { ⌜ There (now c) k × (800 ≤ length (now out)) ⌝ }
-    ensures { λ r. ⌜ Laid 0 800 (textOf (textForm form) (pageFrame (now (c .entry)) mostData k)) (now (out .entry)) (now (out .exit)) r ⌝ }
+fn text(form: Form, c: &[u8], size: usize, k: usize, out: &mut [u8]) -> usize
+    requires { ⌜ There (now c) size k × (800 ≤ length (now out)) ⌝ }
+    ensures { λ r. ⌜ Laid 0 800 (textOf (textForm form) (pageFrame (now (c .entry)) size k)) (now (out .entry)) (now (out .exit)) r ⌝ }
 {
-    let made = encode(form, c, k, out);
+    let made = encode(form, c, size, k, out);
     let Wrote::Done { len } = made else {
         return 0;
     };
     len
 }
 
-fn text_line(form: Form, c: &[u8], k: usize, out: &mut [u8], at: usize) -> usize
-    requires { ⌜ There (now c) k × (at + 801 ≤ length (now out)) ⌝ }
-    ensures { λ r. ⌜ Laid at 801 (textLine (textForm form) (now (c .entry)) k) (now (out .entry)) (now (out .exit)) r ⌝ }
+fn text_line(form: Form, c: &[u8], size: usize, k: usize, out: &mut [u8], at: usize) -> usize
+    requires { ⌜ There (now c) size k × (at + 801 ≤ length (now out)) ⌝ }
+    ensures { λ r. ⌜ Laid at 801 (textLine (textForm form) (now (c .entry)) size k) (now (out .entry)) (now (out .exit)) r ⌝ }
 {
     let mut line = [0u8; TEXT_ROOM];
-    let len = text(form, c, k, &mut line);
+    let len = text(form, c, size, k, &mut line);
     lend::copy(out, at, &line[0..len]);
     lend::put(out, at + len, b'\n');
     at + len + 1
 }
 
-fn lines(form: Form, c: &[u8], k: usize, n: usize, out: &mut [u8], at: usize) -> usize
-    requires { ⌜ (done n ≡ countOf (length (now c)) mostData) × (k < n) × (at + 815 ≤ length (now out)) ⌝ }
-    ensures { λ r. ⌜ Laid at 815 (linesOf form (now (c .entry)) k) (now (out .entry)) (now (out .exit)) r ⌝ }
+fn lines(form: Form, c: &[u8], size: usize, k: usize, n: usize, out: &mut [u8], at: usize) -> usize
+    requires { ⌜ (done n ≡ countOf (length (now c)) size) × (k < n) × (at + 815 ≤ length (now out)) ⌝ }
+    ensures { λ r. ⌜ Laid at 815 (linesOf form (now (c .entry)) size k) (now (out .entry)) (now (out .exit)) r ⌝ }
 {
     match form {
-        Form::Square => text_line(form, c, k, out, at),
+        Form::Square => text_line(form, c, size, k, out, at),
         Form::Below => {
             let next = place(out, at, k as u8, n as u8);
-            text_line(form, c, k, out, next)
+            text_line(form, c, size, k, out, next)
         }
     }
 }
@@ -124,42 +129,46 @@ fn lines(form: Form, c: &[u8], k: usize, n: usize, out: &mut [u8], at: usize) ->
 // ---- a whole sheet
 
 // The id and all pages, from the front of out on. Answers how many bytes they are.
-fn lay(form: Form, c: &[u8], n: usize, out: &mut [u8]) -> usize
-    requires { ⌜ (done n ≡ countOf (length (now c)) mostData) × (17 + mostPages * 815 ≤ length (now out)) ⌝ }
-    ensures { λ r. ⌜ Laid 0 (17 + mostPages * 815) (sheetOf form (now (c .entry))) (now (out .entry)) (now (out .exit)) r ⌝ }
+fn lay(form: Form, c: &[u8], size: usize, n: usize, out: &mut [u8]) -> usize
+    requires { ⌜ (done n ≡ countOf (length (now c)) size) × (17 + mostPages * 815 ≤ length (now out)) ⌝ }
+    ensures { λ r. ⌜ Laid 0 (17 + mostPages * 815) (sheetOf form (now (c .entry)) size) (now (out .entry)) (now (out .exit)) r ⌝ }
 {
     id_line(c, out);
     let mut at = ID_LINE;
     let mut k = 0;
     while k < n {
-        at = lines(form, c, k, n, out, at);
+        at = lines(form, c, size, k, n, out, at);
         k += 1;
     }
     at
 }
 
-fn all(form: Form, c: &[u8], n: usize, out: &mut [u8]) -> Wrote
-    requires { ⌜ done n ≡ countOf (length (now c)) mostData ⌝ }
-    ensures { λ r. ⌜ Written 0 (done (sheetOf form (now (c .entry)))) (now (out .entry)) (now (out .exit)) r ⌝ }
+// The sheet is laid aside first, and given where there is room for all of it.
+fn all(form: Form, c: &[u8], size: usize, n: usize, aside: &mut [u8], out: &mut [u8]) -> Wrote
+    requires { ⌜ (done n ≡ countOf (length (now c)) size) × (17 + mostPages * 815 ≤ length (now aside)) ⌝ }
+    ensures { λ r. ⌜ Written 0 (done (sheetOf form (now (c .entry)) size)) (now (out .entry)) (now (out .exit)) r ⌝ }
 {
-    let mut aside = [0u8; ROOM];
-    let len = lay(form, c, n, &mut aside);
+    let len = lay(form, c, size, n, aside);
     lend::give(&aside[0..len], out)
 }
 
-fn sheet(form: Form, c: &[u8], out: &mut [u8]) -> Wrote
-    ensures { λ r. ⌜ Written 0 (sheetVerdict form (now (c .entry))) (now (out .entry)) (now (out .exit)) r ⌝ }
+// The room aside is made before anything is tested. With the test in front, the kit's LLVM at -O3
+// put the test before the stack frame too, and making so large a frame it overwrote the register
+// that held the length of c: every document was too large.
+fn sheet(form: Form, c: &[u8], size: usize, out: &mut [u8]) -> Wrote
+    ensures { λ r. ⌜ Written 0 (sheetVerdict form (now (c .entry)) size) (now (out .entry)) (now (out .exit)) r ⌝ }
 {
-    match page::count(c.len(), wire::MOST_DATA) {
+    let mut aside = [0u8; ROOM];
+    match page::count(c.len(), size) {
         PageCount::Refused { no } => Wrote::Refused { no },
-        PageCount::Pages { n } => all(form, c, n, out),
+        PageCount::Pages { n } => all(form, c, size, n, &mut aside, out),
     }
 }
 
 // The lines of page k; 8 where the document has no such page (R7.4).
-fn one(c: &[u8], k: usize, n: usize, out: &mut [u8]) -> Wrote
-    requires { ⌜ done n ≡ countOf (length (now c)) mostData ⌝ }
-    ensures { λ r. ⌜ Written 0 (demand (ltb k n) 8 (done (typedLines (now (c .entry)) k))) (now (out .entry)) (now (out .exit)) r ⌝ }
+fn one(c: &[u8], size: usize, k: usize, n: usize, out: &mut [u8]) -> Wrote
+    requires { ⌜ done n ≡ countOf (length (now c)) size ⌝ }
+    ensures { λ r. ⌜ Written 0 (demand (ltb k n) 8 (done (typedLines (now (c .entry)) size k))) (now (out .entry)) (now (out .exit)) r ⌝ }
 {
     if n <= k {
         return Wrote::Refused {
@@ -167,55 +176,55 @@ fn one(c: &[u8], k: usize, n: usize, out: &mut [u8]) -> Wrote
         };
     }
     let mut aside = [0u8; PAGE_ROOM];
-    let len = lines(Form::Below, c, k, n, &mut aside, 0);
+    let len = lines(Form::Below, c, size, k, n, &mut aside, 0);
     lend::give(&aside[0..len], out)
 }
 
-// The document id and a base64 line for each page of 480 bytes, at the front of out, and their
+// The document id and a base64 line for each page of this size, at the front of out, and their
 // length; or 19, 9, 11, and nothing changed.
-pub fn scans(c: &[u8], out: &mut [u8]) -> Wrote
-    ensures { λ r. ⌜ Written 0 (scanVerdict (now (c .entry))) (now (out .entry)) (now (out .exit)) r ⌝ }
+pub fn scans(c: &[u8], size: usize, out: &mut [u8]) -> Wrote
+    ensures { λ r. ⌜ Written 0 (scanVerdict (now (c .entry)) size) (now (out .entry)) (now (out .exit)) r ⌝ }
 {
-    sheet(Form::Square, c, out)
+    sheet(Form::Square, c, size, out)
 }
 
-// The document id, and for each page its place and its z-base-32 text, at the front of out, and
-// their length; or 19, 9, 11, and nothing changed.
-pub fn typed(c: &[u8], out: &mut [u8]) -> Wrote
-    ensures { λ r. ⌜ Written 0 (typedVerdict (now (c .entry))) (now (out .entry)) (now (out .exit)) r ⌝ }
+// The document id, and for each page of this size its place and its z-base-32 text, at the front of
+// out, and their length; or 19, 9, 11, and nothing changed.
+pub fn typed(c: &[u8], size: usize, out: &mut [u8]) -> Wrote
+    ensures { λ r. ⌜ Written 0 (typedVerdict (now (c .entry)) size) (now (out .entry)) (now (out .exit)) r ⌝ }
 {
-    sheet(Form::Below, c, out)
+    sheet(Form::Below, c, size, out)
 }
 
-// The place and the z-base-32 text of page k alone, without the id, at the front of out, and their
-// length; or 19, 9, 8, 11, and nothing changed.
-pub fn typed_page(c: &[u8], k: usize, out: &mut [u8]) -> Wrote
-    ensures { λ r. ⌜ Written 0 (placeVerdict (now (c .entry)) k) (now (out .entry)) (now (out .exit)) r ⌝ }
+// The place and the z-base-32 text of page k of this size alone, without the id, at the front of
+// out, and their length; or 19, 9, 8, 11, and nothing changed.
+pub fn typed_page(c: &[u8], size: usize, k: usize, out: &mut [u8]) -> Wrote
+    ensures { λ r. ⌜ Written 0 (placeVerdict (now (c .entry)) size k) (now (out .entry)) (now (out .exit)) r ⌝ }
 {
-    match page::count(c.len(), wire::MOST_DATA) {
+    match page::count(c.len(), size) {
         PageCount::Refused { no } => Wrote::Refused { no },
-        PageCount::Pages { n } => one(c, k, n, out),
+        PageCount::Pages { n } => one(c, size, k, n, out),
     }
 }
 
-fn at_most_pages(n: usize) -> usize
-    ensures { λ r. ⌜ r ≡ min n mostPages ⌝ }
+fn lesser(n: u32, most: u32) -> u32
+    ensures { λ r. ⌜ r ≡ min n most ⌝ }
 {
-    if n < wire::MOST_PAGES {
+    if n < most {
         return n;
     }
-    wire::MOST_PAGES
+    most
 }
 
-// The number that a word of decimal digits says, 96 where it is more; or that the word is no
+// The number that a word of decimal digits says, `most` where it is more; or that the word is no
 // number.
-pub fn page_asked(word: &[u8]) -> Asked
-    ensures { λ r. ⌜ r ≡ askedOf (now (word .entry)) ⌝ }
+pub fn number_asked(word: &[u8], most: u16) -> Asked
+    ensures { λ r. ⌜ r ≡ askedOf most (now (word .entry)) ⌝ }
 {
     if word.len() == 0 {
         return Asked::Nothing;
     }
-    let mut k: usize = 0;
+    let mut n: u32 = 0;
     let mut i = 0;
     while i < word.len() {
         let b = word[i];
@@ -225,8 +234,100 @@ pub fn page_asked(word: &[u8]) -> Asked
         if b'9' < b {
             return Asked::Nothing;
         }
-        k = at_most_pages(k * 10 + (b - b'0') as usize);
+        n = lesser(n * 10 + (b - b'0') as u32, most as u32);
         i += 1;
     }
-    Asked::Page { k }
+    Asked::Number { n: n as u16 }
+}
+
+// ---- the words beside a refusal
+
+fn say(out: &mut [u8], at: usize, words: &[u8]) -> usize
+    requires { ⌜ at + length (now words) ≤ length (now out) ⌝ }
+    ensures { λ r. ⌜ Laid at (length (now (words .entry))) (now (words .entry)) (now (out .entry)) (now (out .exit)) r ⌝ }
+{
+    lend::copy(out, at, words);
+    at + words.len()
+}
+
+fn number(out: &mut [u8], at: usize, n: u64) -> usize
+    requires { ⌜ at + 20 ≤ length (now out) ⌝ }
+    ensures { λ r. ⌜ Laid at 20 (numeral n) (now (out .entry)) (now (out .exit)) r ⌝ }
+{
+    at + digits::number(out, at, n)
+}
+
+fn were_given(out: &mut [u8], at: usize, given: u64) -> usize
+    requires { ⌜ at + 43 ≤ length (now out) ⌝ }
+    ensures { λ r. ⌜ Laid at 43 (givenWords given) (now (out .entry)) (now (out .exit)) r ⌝ }
+{
+    if given == 0 {
+        return at;
+    }
+    let after = number(out, at, given);
+    say(out, after, b" bytes were given, and ")
+}
+
+fn too_large(out: &mut [u8], at: usize, size: u16, given: u64) -> usize
+    requires { ⌜ at + 186 ≤ length (now out) ⌝ }
+    ensures { λ r. ⌜ Laid at 186 (largeWords size given) (now (out .entry)) (now (out .exit)) r ⌝ }
+{
+    let came = say(out, at, b"too large: ");
+    let pages = were_given(out, came, given);
+    let each = say(out, pages, b"96 pages of ");
+    let hold = number(out, each, size as u64);
+    let all = say(out, hold, b" bytes hold ");
+    let split = number(out, all, size as u64 * 96);
+    say(
+        out,
+        split,
+        b": split the ciphertext, and print each part as a document of its own",
+    )
+}
+
+fn reason(out: &mut [u8], at: usize, no: u8, size: u16, given: u64) -> usize
+    requires { ⌜ at + 186 ≤ length (now out) ⌝ }
+    ensures { λ r. ⌜ Laid at 186 (reasonWords no size given) (now (out .entry)) (now (out .exit)) r ⌝ }
+{
+    if no == wire::OUT_OF_RANGE {
+        return say(
+            out,
+            at,
+            b"nothing was read: give the ciphertext on standard input",
+        );
+    }
+    if no == wire::TOO_LARGE {
+        return too_large(out, at, size, given);
+    }
+    if no == wire::BAD_PLACE {
+        return say(
+            out,
+            at,
+            b"no such page: the document has fewer pages, and the first is page 0",
+        );
+    }
+    say(out, at, b"this cannot be printed")
+}
+
+fn refused(out: &mut [u8], no: u8, size: u16, given: u64) -> usize
+    requires { ⌜ 200 ≤ length (now out) ⌝ }
+    ensures { λ r. ⌜ Laid 0 200 (refusalWords no size given) (now (out .entry)) (now (out .exit)) r ⌝ }
+{
+    let number = say(out, 0, b"refused ");
+    let colon = number + digits::decimal(out, number, no);
+    let why = say(out, colon, b": ");
+    let feed = reason(out, why, no, size, given);
+    lend::put(out, feed, b'\n');
+    feed + 1
+}
+
+// The line that tells a refusal of what is printed in pages of this size, and what to do, at the
+// front of out, and its length; or 11 and nothing changed. How many bytes were given is 0 where
+// nobody knows.
+pub fn refusal(no: u8, size: u16, given: u64, out: &mut [u8]) -> Wrote
+    ensures { λ r. ⌜ Written 0 (done (refusalWords no size given)) (now (out .entry)) (now (out .exit)) r ⌝ }
+{
+    let mut aside = [0u8; REFUSAL_ROOM];
+    let len = refused(&mut aside, no, size, given);
+    lend::give(&aside[0..len], out)
 }

@@ -20,21 +20,21 @@ loop-holds : tie.Need-loop-holds Inv-loop μ-loop
 loop-holds c = (omega arith, refl)
 
 returns : tie.Need-returns Inv-loop μ-loop
-returns c = let l = c .before .before .before .before .loop in sym (l .inv .1 ∙ hex-stop _ (l .i) (omega arith) (omega (arith, c .before .value .ensures .0)))
+returns c = let l = c .before .before .before .before .loop in sym (l .inv .1 ∙ hex-stop _ (l .i) (omega arith) (omega (arith, c .before .hex-value .ensures .0)))
 
 loop-again : tie.Need-loop-again Inv-loop μ-loop
-loop-again c = let l = c .before .before .before .before .loop in (omega arith, l .inv .1 ∙ hex-on _ (l .i) (omega arith) (omega (arith, c .before .value .ensures .0)))
+loop-again c = let l = c .before .before .before .before .loop in (omega arith, l .inv .1 ∙ hex-on _ (l .i) (omega arith) (omega (arith, c .before .hex-value .ensures .0)))
 
 returns-2 : tie.Need-returns-2 Inv-loop μ-loop
 returns-2 c = let l = c .before .loop in sym (l .inv .1 ∙ hex-end _ (l .i) (omega arith))
 
 -- Found by search:
 
-shared-slice-read-value : tie.Need-shared-slice-read-value Inv-loop μ-loop
-shared-slice-read-value c = search needs
+shared-slice-read-hex-value : tie.Need-shared-slice-read-hex-value Inv-loop μ-loop
+shared-slice-read-hex-value c = search needs
 
-value-requires : tie.Need-value-requires Inv-loop μ-loop
-value-requires c κs = search needs
+hex-value-requires : tie.Need-hex-value-requires Inv-loop μ-loop
+hex-value-requires c κs = search needs
 
 add-i : tie.Need-add-i Inv-loop μ-loop
 add-i c = search needs
@@ -49,8 +49,8 @@ all-hex-spec =
     Inv-loop
     μ-loop
     loop-holds
-    shared-slice-read-value
-    value-requires
+    shared-slice-read-hex-value
+    hex-value-requires
     returns
     add-i
     loop-less

@@ -30,26 +30,26 @@ returns c = search gone-end
 
 -- Found by search:
 
-mul-value : tie.Need-mul-value Inv-loop μ-loop
-mul-value c = search needs
+mul-hex-value : tie.Need-mul-hex-value Inv-loop μ-loop
+mul-hex-value c = search needs
 
-shared-slice-read-value : tie.Need-shared-slice-read-value Inv-loop μ-loop
-shared-slice-read-value c = search needs
+shared-slice-read-hex-value : tie.Need-shared-slice-read-hex-value Inv-loop μ-loop
+shared-slice-read-hex-value c = search needs
 
-value-requires : tie.Need-value-requires Inv-loop μ-loop
-value-requires c κs = search needs
+hex-value-requires : tie.Need-hex-value-requires Inv-loop μ-loop
+hex-value-requires c κs = search needs
 
-mul-value-2 : tie.Need-mul-value-2 Inv-loop μ-loop
-mul-value-2 c = search needs
+mul-hex-value-2 : tie.Need-mul-hex-value-2 Inv-loop μ-loop
+mul-hex-value-2 c = search needs
 
-add-value : tie.Need-add-value Inv-loop μ-loop
-add-value c = search needs
+add-hex-value : tie.Need-add-hex-value Inv-loop μ-loop
+add-hex-value c = search needs
 
-shared-slice-read-value-2 : tie.Need-shared-slice-read-value-2 Inv-loop μ-loop
-shared-slice-read-value-2 c = search needs
+shared-slice-read-hex-value-2 : tie.Need-shared-slice-read-hex-value-2 Inv-loop μ-loop
+shared-slice-read-hex-value-2 c = search needs
 
-value-requires-2 : tie.Need-value-requires-2 Inv-loop μ-loop
-value-requires-2 c κs = search needs
+hex-value-requires-2 : tie.Need-hex-value-requires-2 Inv-loop μ-loop
+hex-value-requires-2 c κs = search needs
 
 slice-write-out : tie.Need-slice-write-out Inv-loop μ-loop
 slice-write-out c = search needs
@@ -70,14 +70,14 @@ read-fitting-spec =
     Inv-loop
     μ-loop
     loop-holds
-    mul-value
-    shared-slice-read-value
-    value-requires
+    mul-hex-value
+    shared-slice-read-hex-value
+    hex-value-requires
     mul-out
-    mul-value-2
-    add-value
-    shared-slice-read-value-2
-    value-requires-2
+    mul-hex-value-2
+    add-hex-value
+    shared-slice-read-hex-value-2
+    hex-value-requires-2
     add-out
     slice-write-out
     add-i

@@ -1,4 +1,4 @@
--- Safe and ending: the turns that are left fall, and each buffer keeps its length.
+-- `pantry::collect` meets its contract. Assumes nothing.
 use mathlib.Core.Path.{_≡_}
 use lib.ListN.{length}
 use borrow.Author.Needs.{needs}
@@ -6,10 +6,10 @@ use Rattle.pantry.proofs.collect.Statement.{statement}
 use Rattle.pantry.proofs.collect.Tie as tie
 
 abbrev Inv-loop : tie.InvT-loop
-Inv-loop input₀ line₀ c₀ s₀ turns₀ input line c s turns = (length input ≡ length input₀) × (length line ≡ length line₀) × (length c ≡ length c₀)
+Inv-loop input₀ line₀ c₀ notes₀ s₀ turns₀ input line c notes s turns = (length input ≡ length input₀) × (length line ≡ length line₀) × (length c ≡ length c₀) × (length notes ≡ length notes₀)
 
 abbrev μ-loop : tie.MeasureT-loop
-μ-loop input₀ line₀ c₀ s₀ turns₀ input line c s turns = turns
+μ-loop input₀ line₀ c₀ notes₀ s₀ turns₀ input line c notes s turns = turns
 
 -- Found by search:
 
@@ -34,20 +34,26 @@ same-length-2 c = search needs
 same-length-3 : tie.Need-same-length-3 Inv-loop μ-loop
 same-length-3 c = search needs
 
+same-length-4 : tie.Need-same-length-4 Inv-loop μ-loop
+same-length-4 c = search needs
+
 returns : tie.Need-returns Inv-loop μ-loop
 returns c = search needs
 
 enum-told-2 : tie.Need-enum-told-2 Inv-loop μ-loop
 enum-told-2 c = search needs
 
-same-length-4 : tie.Need-same-length-4 Inv-loop μ-loop
-same-length-4 c = search needs
-
 same-length-5 : tie.Need-same-length-5 Inv-loop μ-loop
 same-length-5 c = search needs
 
 same-length-6 : tie.Need-same-length-6 Inv-loop μ-loop
 same-length-6 c = search needs
+
+same-length-7 : tie.Need-same-length-7 Inv-loop μ-loop
+same-length-7 c = search needs
+
+same-length-8 : tie.Need-same-length-8 Inv-loop μ-loop
+same-length-8 c = search needs
 
 returns-2 : tie.Need-returns-2 Inv-loop μ-loop
 returns-2 c = search needs
@@ -61,14 +67,17 @@ loop-less c = search needs
 loop-again : tie.Need-loop-again Inv-loop μ-loop
 loop-again c = search needs
 
-same-length-7 : tie.Need-same-length-7 Inv-loop μ-loop
-same-length-7 c = search needs
-
-same-length-8 : tie.Need-same-length-8 Inv-loop μ-loop
-same-length-8 c = search needs
-
 same-length-9 : tie.Need-same-length-9 Inv-loop μ-loop
 same-length-9 c = search needs
+
+same-length-10 : tie.Need-same-length-10 Inv-loop μ-loop
+same-length-10 c = search needs
+
+same-length-11 : tie.Need-same-length-11 Inv-loop μ-loop
+same-length-11 c = search needs
+
+same-length-12 : tie.Need-same-length-12 Inv-loop μ-loop
+same-length-12 c = search needs
 
 returns-3 : tie.Need-returns-3 Inv-loop μ-loop
 returns-3 c = search needs
@@ -86,16 +95,19 @@ collect-spec =
     same-length
     same-length-2
     same-length-3
+    same-length-4
     returns
     enum-told-2
-    same-length-4
     same-length-5
     same-length-6
+    same-length-7
+    same-length-8
     returns-2
     sub-turns
     loop-less
     loop-again
-    same-length-7
-    same-length-8
     same-length-9
+    same-length-10
+    same-length-11
+    same-length-12
     returns-3)

@@ -7,13 +7,13 @@ use Rattle.sheet.proofs.lay.Statement.{statement}
 use Rattle.sheet.proofs.lay.Tie as tie
 
 abbrev Inv-loop : tie.InvT-loop
-Inv-loop form c n out₀ at₀ k₀ out at k = Stacked form c n out₀ at k out
+Inv-loop form c size n out₀ at₀ k₀ out at k = Stacked form c size n out₀ at k out
 
 abbrev μ-loop : tie.MeasureT-loop
-μ-loop form c n out₀ at₀ k₀ out at k = n - k
+μ-loop form c size n out₀ at₀ k₀ out at k = n - k
 
 loop-holds : tie.Need-loop-holds Inv-loop μ-loop
-loop-holds c = stacked-none _ _ _ _ (search needs) (search needs)
+loop-holds c = stacked-none _ _ _ _ _ (search needs) (search needs)
 
 lines-requires : tie.Need-lines-requires Inv-loop μ-loop
 lines-requires c κs = (search needs, search needs, search stacked-room)

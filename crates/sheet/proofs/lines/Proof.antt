@@ -11,17 +11,17 @@ text-line-requires c κs = (search page-there, search needs)
 cast-place : tie.Need-cast-place
 cast-place c =
     let s = c .before .before .before .before .before in
-    omega (arith, total-most (s .args .c .now) (s .args .n) (s .pre .0))
+    omega (arith, total-most (s .args .c .now) (s .args .size) (s .args .n) (s .pre .0))
 
 cast-place-2 : tie.Need-cast-place-2
 cast-place-2 c =
     let s = c .before .before .before .before .before in
-    omega (arith, total-most (s .args .c .now) (s .args .n) (s .pre .0))
+    omega (arith, total-most (s .args .c .now) (s .args .size) (s .args .n) (s .pre .0))
 
 place-requires : tie.Need-place-requires
 place-requires c κs =
     let s = c .before .before .before .before .before in
-    let t = total-most (s .args .c .now) (s .args .n) (s .pre .0) in
+    let t = total-most (s .args .c .now) (s .args .size) (s .args .n) (s .pre .0) in
     (omega arith, omega arith, search needs)
 
 text-line-requires-2 : tie.Need-text-line-requires-2

@@ -8,7 +8,7 @@ returns : tie.Need-returns
 returns c =
     let copied = c .before .before .before .before .before .before in
     let made = copied .before .before .before .before .before in
-    line-laid _ _ _ _ _ _ _ _ _ (search needs) (copied .copy .ensures) (made .text .ensures) (search needs)
+    line-laid _ _ _ _ _ _ _ _ _ _ (search needs) (copied .copy .ensures) (made .text .ensures) (search needs)
 
 -- Found by search:
 

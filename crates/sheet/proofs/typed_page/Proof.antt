@@ -8,7 +8,7 @@ one-requires : tie.Need-one-requires
 one-requires c κs = told-pages (c .before .before .n .given .1) (c .before .before .before .before .count .ensures)
 
 returns : tie.Need-returns
-returns c = no-one-printed _ _ (told-none (c .before .no .given .1) (c .before .before .before .count .ensures)) _ _
+returns c = no-one-printed _ _ _ (told-none (c .before .no .given .1) (c .before .before .before .count .ensures)) _ _
 
 returns-2 : tie.Need-returns-2
 returns-2 c = search (one-printed, told-pages)

@@ -1,4 +1,4 @@
--- Safe and ending: each turn reads some bytes more, and the buffer keeps its length.
+-- `pantry::file::load` meets its contract. Assumes nothing.
 use Prim.Native.Nat.{_-_, _≤_}
 use mathlib.Core.Path.{_≡_}
 use lib.ListN.{length}

@@ -1,0 +1,3 @@
+pub mod Offers
+pub mod Firsts
+pub mod Steps

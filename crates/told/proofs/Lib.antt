@@ -1,0 +1,3 @@
+pub mod Speech
+pub mod Counts
+pub mod Lists
