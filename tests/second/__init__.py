@@ -15,7 +15,8 @@ subject of them, and each function that judges by a rule gives its number:
     envelope    the envelope
     collection  the collection of pages, which is also the saved file
     pier        the small program: scans in, a status line out
-    press       the programs of the harbour and the pantry
+    press       the program of the harbour
+    pantry      the program of the pantry
     desk        the call desk: lines in, lines out
 
 The rest is for trying it out: `cases` makes calls, `stored` the run that is

@@ -1,18 +1,12 @@
-"""The programs at the ends of a crossing: section 15 of docs/RULES.md.
+"""`press`, which prints a document in the harbour: R15.4 and R15.5 of docs/RULES.md."""
 
-`press` prints a document in the harbour, and `pantry` on the island reads it back.
-"""
-
+import os
 import re
 from itertools import chain
 
-from . import collection
-from .answers import (INDEX_TOTAL, MISSING, NO_ROOM, OUT_OF_RANGE, TOTALS_DISAGREE, PAGE_DISPUTED,
-                      Refusal, refuse_if)
-from .collection import Collection
-from .forms import base64_read, base64_write, zbase32_write
-from .frames import MAIN, MOST_DATA, MOST_PAGES, frame_read, page_write
-from .pier import ID, LONGEST, lines_of
+from .answers import INDEX_TOTAL, OUT_OF_RANGE, TOO_LARGE, Refusal, refuse_if
+from .forms import base64_write, zbase32_write
+from .frames import MOST_DATA, MOST_PAGES, page_write
 from .sums import doc_id
 
 MOST = MOST_PAGES * MOST_DATA  # R3.8
@@ -25,21 +19,92 @@ def ended(lines):
     return b"".join(line + b"\n" for line in lines)
 
 
-# The harbour.
+def shown(word):
+    """What is not printable ASCII as `?` (R15.9)."""
+    return bytes(byte if 0x20 <= byte < 0x7F else ord("?") for byte in word)
 
 
-def press(ciphertext, arguments=()):
-    """What `press` prints, refusals too (R15.5)."""
+class WrongWord(Exception):
+    """A word of a command that is wrong, and what would be right (R15.5, R15.11)."""
+
+    def __init__(self, word, right):
+        super().__init__(word, right)
+        self.word, self.right = os.fsencode(word), right
+
+    def line(self):
+        """As it is told: no more than 64 bytes of it."""
+        cut = b"..." if len(self.word) > 64 else b""
+        return b"wrong word '%s%s': %s\n" % (shown(self.word[:64]), cut, self.right.encode("ascii"))
+
+
+def press(ciphertext, arguments=(), regular=False):
+    """What `press` prints, what it tells a person, and its status (R15.5).
+
+    What it tells is a predicate for `--help`, whose words nobody need compare. The input is regular
+    where it is a file, so that the program can see how large it is.
+    """
+    if arguments == ("--help",):
+        return b"", helps, 0
+    if arguments == ("--version",):
+        return b"", b"press 1: Ethernity paper format, version 1\n", 0
     try:
-        return ended(sheet(ciphertext, *arguments))
+        form, number, size = order_of(arguments)
+        return ended(sheet(ciphertext, form, number, size)), b"", 0
+    except WrongWord as wrong:
+        return b"", wrong.line(), 2
     except Refusal as refusal:
-        return ended([b"refused %d" % refusal.number])
+        told = reason(refusal.number, size, len(ciphertext) if regular else None)
+        return b"", ended([b"refused %d: %s" % (refusal.number, told)]), 1
 
 
-def sheet(ciphertext, *arguments):
-    """The printed lines (R15.4): 19 for the arguments (R15.5) before what R7.4 refuses."""
-    form, number = form_of(*arguments)
-    pages = pages_of(ciphertext)
+def helps(told):
+    """Whether this names every word of the command, and speaks of the status."""
+    return all(word in told for word in (b"typed K", b"--size N", b"--version", b"status"))
+
+
+def reason(number, size, length):
+    """The sentence beside a refusal (R15.5); the length is None where nobody knows it."""
+    if number == TOO_LARGE:
+        given = b"" if length is None else b"%d bytes were given, and " % length
+        return (b"too large: %s96 pages of %d bytes hold %d: split the ciphertext, and print each part "
+                b"as a document of its own" % (given, size, size * MOST_PAGES))
+    return {OUT_OF_RANGE: b"nothing was read: give the ciphertext on standard input",
+            INDEX_TOTAL: b"no such page: the document has fewer pages, and the first is page 0"}[number]
+
+
+def order_of(arguments):
+    """The form, the page and the size that the words ask for; or the first wrong word (R15.5)."""
+    plain, size, words = [], None, iter(arguments)
+    for word in words:
+        if word == "--size":
+            size = size_of(size, next(words, None))
+        elif word in ("--help", "--version"):
+            raise WrongWord(word, "it stands alone")
+        elif word.startswith("-") or not plain and word != "typed":
+            raise WrongWord(word, "press takes typed, typed K, --size N, --help or --version")
+        elif len(plain) == 1 and not DECIMAL.fullmatch(word):
+            raise WrongWord(word, "behind typed belongs the number of a page, from 0 on, or nothing")
+        elif len(plain) == 2:
+            raise WrongWord(word, "behind the page belongs --size N, or nothing")
+        else:
+            plain.append(word)
+    return plain[0] if plain else "scans", int(plain[1]) if plain[1:] else None, size or MOST_DATA
+
+
+def size_of(before, word):
+    """The number behind `--size`, which is said once (R15.4)."""
+    if before is not None:
+        raise WrongWord("--size", "the size is said once")
+    if word is None:
+        raise WrongWord("--size", "behind it belongs a number from 1 to 480")
+    if not DECIMAL.fullmatch(word) or not 1 <= int(word) <= MOST_DATA:
+        raise WrongWord(word, "behind --size belongs a number from 1 to 480")
+    return int(word)
+
+
+def sheet(ciphertext, form, number, size):
+    """The printed lines (R15.4), or what R7.4 refuses."""
+    pages = pages_of(ciphertext, size)
     if form == "scans":
         return [id_line(ciphertext), *map(base64_write, pages)]
     if number is None:
@@ -49,22 +114,11 @@ def sheet(ciphertext, *arguments):
     return typed(pages, number)
 
 
-def form_of(*arguments):
-    """The scans, all pages typed, or one page typed; 19 for other words (R15.5)."""
-    if not arguments:
-        return "scans", None
-    refuse_if(arguments[0] != "typed" or len(arguments) > 2, OUT_OF_RANGE)
-    if len(arguments) == 1:
-        return "typed", None
-    refuse_if(not DECIMAL.fullmatch(arguments[1]), OUT_OF_RANGE)
-    return "typed", int(arguments[1])
-
-
-def pages_of(ciphertext):
-    """The frames of a document, 480 bytes a page (R15.4): 19 for no bytes, 9 for many (R7.4)."""
-    page_write(ciphertext, MOST_DATA, 0, FRAME_ROOM)
-    places = range(-(-len(ciphertext) // MOST_DATA))
-    return [page_write(ciphertext, MOST_DATA, k, FRAME_ROOM) for k in places]
+def pages_of(ciphertext, size):
+    """The frames of a document in pages of a size (R15.4): 19 for no bytes, 9 for many (R7.4)."""
+    page_write(ciphertext, size, 0, FRAME_ROOM)
+    places = range(-(-len(ciphertext) // size))
+    return [page_write(ciphertext, size, k, FRAME_ROOM) for k in places]
 
 
 def id_line(ciphertext):
@@ -75,65 +129,3 @@ def id_line(ciphertext):
 def typed(pages, number):
     """A page's place, counted from 0, and its text (R15.4)."""
     return [b"page %d of %d" % (number, len(pages)), zbase32_write(pages[number])]
-
-
-# The pantry.
-
-
-def pantry(given, names=(), kept=None, usable=True):
-    """What `pantry` prints, and what the kept file then holds; None is a file that is not there.
-
-    The names are the arguments, `kept` what the file of that name holds. A file is not usable, and
-    11, where the system lets nobody write it; a refusal leaves the file as it was (R15.7).
-    """
-    try:
-        saved = gathered(given, names, kept)
-        refuse_if(names and not usable, NO_ROOM)
-    except Refusal as refusal:
-        return refused(refusal), kept
-    return shown(saved), saved if names else kept
-
-
-def gathered(given, names, kept):
-    """The collection after this run, joined with what was kept (R15.7).
-
-    19 for more than one name or a bad first line (R15.6), then the join's 13 and 12.
-    """
-    refuse_if(len(names) > 1, OUT_OF_RANGE)
-    first, *scans = lines_of(given) or [b""]
-    refuse_if(not ID.fullmatch(first), OUT_OF_RANGE)
-    saved = collection.save(set_of_pages(bytes.fromhex(first.decode("ascii")), scans))
-    return collection.join(saved, kept) if names and kept is not None else saved
-
-
-def set_of_pages(ident, scans):
-    """The collection of a SET of good pages (R9.2): no look at order or repeats (R1.4)."""
-    frames = filter(None, map(scanned, scans))
-    pages = [page for page in frames if page.type == MAIN and page.id == ident]
-    totals = frozenset(page.total for page in pages)
-    return Collection(ident, totals, frozenset((page.index, page.data) for page in pages))
-
-
-def scanned(line):
-    """The frame of a scan; None for a bad scan or too long a line (R15.2)."""
-    if len(line) > LONGEST:
-        return None
-    try:
-        return frame_read(base64_read(line))
-    except Refusal:
-        return None
-
-
-def shown(saved):
-    """The ciphertext, or the status line where pages lack or quarrel, or the refusal (R15.6)."""
-    try:
-        return collection.finish(saved, MOST)
-    except Refusal as refusal:
-        if refusal.number in (TOTALS_DISAGREE, PAGE_DISPUTED, MISSING):
-            return ended([collection.status(saved).encode("ascii")])
-        return refused(refusal)
-
-
-def refused(refusal):
-    """`refused`, the number and the place (R15.6)."""
-    return ended([b"refused %d %d" % (refusal.number, refusal.place)])

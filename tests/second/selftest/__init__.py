@@ -1,6 +1,7 @@
 """This program held to the standards, to the examples of the rules, and to itself (R18.7)."""
 
-from . import comparing, floating, rounds, sets, standards  # noqa: F401  (each adds its checks)
+# each adds its checks
+from . import comparing, crossing, floating, rounds, sets, standards  # noqa: F401
 from .common import CHECKS
 
 
