@@ -166,7 +166,7 @@ fn new_name(real: &[u8], beside: &mut [u8]) -> usize
 // ---- writing
 
 // The new file, empty. Who makes it has the file whose place it takes to itself until it is renamed
-// or removed: a second run finds it there, and EEXIST. A launcher (R15.11) holds a lock on it, so
+// or removed: a second run finds it there, and EEXIST. A launcher (R15.13) holds a lock on it, so
 // what is there under one is of a run that was killed, or the launcher's own, with the right mode.
 fn claim(beside: &[u8], launched: bool) -> i32 {
     if launched {

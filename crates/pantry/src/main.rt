@@ -17,7 +17,7 @@ use words::Asked;
 // How much one read asks for.
 const CHUNK: usize = 65_536;
 
-// Where the status is told, asked for with `--status-3` (R15.11).
+// Where the status is told, asked for with `--status-3` (R15.12).
 const STATUS_FILENO: i32 = 3;
 
 const DONE: u8 = b'0';

@@ -15,4 +15,5 @@ pub mod Shard
 pub mod Page
 pub mod PayloadFrame
 pub mod Scan
+pub mod Notes
 pub mod PantryWork

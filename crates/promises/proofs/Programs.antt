@@ -34,27 +34,38 @@ use Rattle.finish.specs.Sets.{Answers}
 use Rattle.finish.proofs.Demand.{finish-demand}
 use Rattle.scan.proofs.session.feed as scan-session-feed
 use Rattle.scan.proofs.session.close as scan-session-close
+use Rattle.notes.specs.Notes.{notedAll, notedLast}
+use Rattle.notes.proofs.feed as notes-feed
+use Rattle.notes.proofs.close as notes-close
 use Rattle.promises.specs.Calls.{Call}
 use Rattle.promises.specs.Collecting.{library}
 use Rattle.promises.specs.Demand3.{Left}
-use Rattle.promises.specs.Programs.{FeedsAll, Runs, Reports, Resumes, Shows, Laid, Collects, Waits, Programs}
+use Rattle.promises.specs.Programs.{Feeds, FeedsAll, Closes, Runs, Reports, Resumes, Shows, Laid, Collects, Waits, Programs}
 use Rattle.promises.proofs.Writers.{slice, written-room}
 use Rattle.promises.proofs.Interfaces.{library-lawful}
 use Rattle.promises.proofs.Demand3.{left-bytes}
 use Rattle.promises.proofs.Links.Scan.{scan-session-feed-link, scan-session-close-link, scan-session-report-link}
+use Rattle.promises.proofs.Links.Notes.{notes-feed-link, notes-close-link}
 use Rattle.promises.proofs.Links.PantryWork.{pantry-work-resume-link, pantry-work-answer-link}
 
 -- ---- a run is a session over the whole input
 
-fed-all : (parts : List (List ℕ)) (s t : At) → FeedsAll parts s t → t ≡ fed s (flatten parts)
-unfolding fed flatten
-fed-all [] s t e = sym e
-fed-all (part ∷ parts) s t (m, (k, i, j, l), r) =
-    let step : m ≡ fed s part = sym l ∙ scan-session-feed-link k ∙ ap₂ fed j i in
-    fed-all parts m t r ∙ ap (λ (x : At). fed x (flatten parts)) step ∙ sym (fed-append s part (flatten parts))
+fed-once : (b : Bool) (part : List ℕ) (s t : At) → Feeds b part s t → t ≡ fed s part
+fed-once false part s t (k, i, j, l) = sym l ∙ scan-session-feed-link k ∙ ap₂ fed j i
+fed-once true part s t (k, i, j, l) = sym l ∙ notes-feed-link k ∙ ap₂ fed j i
 
-run-is : (parts : List (List ℕ)) (line c : List ℕ) (t : At) → Runs parts line c t → t ≡ session line c (flatten parts)
-run-is parts line c t (s, f, (k, i, j)) = sym j ∙ scan-session-close-link k ∙ ap closed (i ∙ fed-all parts (new line c) s f)
+fed-all : (b : Bool) (parts : List (List ℕ)) (s t : At) → FeedsAll b parts s t → t ≡ fed s (flatten parts)
+unfolding fed flatten
+fed-all b [] s t e = sym e
+fed-all b (part ∷ parts) s t (m, f, r) =
+    fed-all b parts m t r ∙ ap (λ (x : At). fed x (flatten parts)) (fed-once b part s m f) ∙ sym (fed-append s part (flatten parts))
+
+closed-once : (b : Bool) (s t : At) → Closes b s t → t ≡ closed s
+closed-once false s t (k, i, j) = sym j ∙ scan-session-close-link k ∙ ap closed i
+closed-once true s t (k, i, j) = sym j ∙ notes-close-link k ∙ ap closed i
+
+run-is : (b : Bool) (parts : List (List ℕ)) (line c : List ℕ) (t : At) → Runs b parts line c t → t ≡ session line c (flatten parts)
+run-is b parts line c t (s, f, e) = closed-once b s t e ∙ ap closed (fed-all b parts (new line c) s f)
 
 -- ---- and every input can be read so
 
@@ -102,12 +113,39 @@ ending s = record {
   kept = closed-line s;
 }
 
-feeds-happen : (parts : List (List ℕ)) (s : At) → (t : At) × FeedsAll parts s t
-feeds-happen [] s = (s, refl)
-feeds-happen (part ∷ parts) s = let r = feeds-happen parts (fed s part) in (r .0, (fed s part, (feeding part s, refl, refl, refl), r .1))
+-- the same with notes beside it, of which there may be none
+abbrev notingPart : List ℕ → At → Call notes-feed.Kinds.ps notes-feed.Kinds.r notes-feed.Reads.Learnt
+notingPart part s = record {
+  lifetimes = ([], ([], ([], ([], tt))));
+  args = (slice part, (sessionOf s, (slice (s .line), (slice (s .collection), (slice [], tt)))));
+  answer = sessionOf (fed s part);
+  left = (tt, (tt, (fed s part .line, (fed s part .collection, (notedAll s [] part, tt)))));
+  kept = (refl, refl);
+}
 
-runs-happen : (parts : List (List ℕ)) (line c : List ℕ) → (t : At) × Runs parts line c t
-runs-happen parts line c = let r = feeds-happen parts (new line c) in (closed (r .0), (r .0, r .1, (ending (r .0), refl, closed-line (r .0))))
+abbrev notingEnd : At → Call notes-close.Kinds.ps notes-close.Kinds.r notes-close.Reads.Learnt
+notingEnd s = record {
+  lifetimes = ([], ([], ([], tt)));
+  args = (sessionOf s, (slice (s .line), (slice (s .collection), (slice [], tt))));
+  answer = sessionOf (closed s);
+  left = (tt, (tt, (closed s .collection, (notedLast s [], tt))));
+  kept = (closed-line s, refl);
+}
+
+feed-happens : (b : Bool) (part : List ℕ) (s : At) → Feeds b part s (fed s part)
+feed-happens false part s = (feeding part s, refl, refl, refl)
+feed-happens true part s = (notingPart part s, refl, refl, refl)
+
+close-happens : (b : Bool) (s : At) → Closes b s (closed s)
+close-happens false s = (ending s, refl, closed-line s)
+close-happens true s = (notingEnd s, refl, closed-line s)
+
+feeds-happen : (b : Bool) (parts : List (List ℕ)) (s : At) → (t : At) × FeedsAll b parts s t
+feeds-happen b [] s = (s, refl)
+feeds-happen b (part ∷ parts) s = let r = feeds-happen b parts (fed s part) in (r .0, (fed s part, feed-happens b part s, r .1))
+
+runs-happen : (b : Bool) (parts : List (List ℕ)) (line c : List ℕ) → (t : At) × Runs b parts line c t
+runs-happen b parts line c = let r = feeds-happen b parts (new line c) in (closed (r .0), (r .0, r .1, close-happens b (r .0)))
 
 -- ---- what each call says
 
@@ -220,9 +258,9 @@ pub programs : Programs
 programs = record {
   parts = record {
     happens = runs-happen;
-    same = λ ps qs line c s t e k l. run-is ps line c s k ∙ ap (session line c) e ∙ sym (run-is qs line c t l);
+    same = λ b d ps qs line c s t e k l. run-is b ps line c s k ∙ ap (session line c) e ∙ sym (run-is d qs line c t l);
   };
-  named = λ ps line c id t room size k e.
-      subst (Collects id (scansOf (flatten ps))) (sym (run-is ps line c t k)) (session-collected line c room size (flatten ps) id e);
-  unnamed = λ ps line c n t room k e. subst (Waits c) (sym (run-is ps line c t k)) (session-waits line c room (flatten ps) n e);
+  named = λ b ps line c id t room size k e.
+      subst (Collects id (scansOf (flatten ps))) (sym (run-is b ps line c t k)) (session-collected line c room size (flatten ps) id e);
+  unnamed = λ b ps line c n t room k e. subst (Waits c) (sym (run-is b ps line c t k)) (session-waits line c room (flatten ps) n e);
 }

@@ -1,11 +1,11 @@
 -- R1.4 to R1.6 for the two programs that collect, `pier` and `pantry` (section 15 of
--- docs/RULES.md): by the calls that they make of `scan` and `pantry_work`, over their whole input,
--- in whatever parts it was read. What the input says is `documentOf` and `scansOf` (scan, Input):
--- the id that its first line names (R15.1), and the raw frames that its other lines say (R15.2).
--- The programs themselves read, print and keep files, which no contract can speak of: that is
--- tested.
+-- docs/RULES.md): by the calls that they make of `scan`, `notes` and `pantry_work`, over their
+-- whole input, in whatever parts it was read. What the input says is `documentOf` and `scansOf`
+-- (scan, Input): the id that its first line names (R15.1), and the raw frames that its other lines
+-- say (R15.2). The programs themselves read, print and keep files, which no contract can speak of:
+-- that is tested.
 use mathlib.Core.Path.{_≡_}
-use mathlib.Core.Bool.{true, false}
+use mathlib.Core.Bool.{Bool, true, false}
 use mathlib.Core.List.{List, [], _∷_, _++_, flatten}
 use Prim.Native.Nat.{ℕ, _≤_}
 use lib.ListN.{length}
@@ -29,6 +29,8 @@ use Rattle.scan.specs.Input.{documentOf, scansOf, new}
 use Rattle.scan.proofs.session.feed as scan-session-feed
 use Rattle.scan.proofs.session.close as scan-session-close
 use Rattle.scan.proofs.session.report as scan-session-report
+use Rattle.notes.proofs.feed as notes-feed
+use Rattle.notes.proofs.close as notes-close
 use Rattle.pantry_work.proofs.resume as pantry-work-resume
 use Rattle.pantry_work.proofs.answer as pantry-work-answer
 use Rattle.promises.specs.Calls.{Call}
@@ -38,25 +40,34 @@ use Rattle.promises.specs.Demand3.{Left}
 -- ---- the calls: where a session is (`At`: its phase, the line so far, the collection) before and
 -- after
 
-abbrev pub Feeds : List ℕ → At → At → Type 0
-Feeds part s t =
+-- `pier` reads by the calls of `scan` (false), and `pantry` by those of `notes`, which takes notes
+-- beside them (true)
+abbrev pub Feeds : (noting : Bool) → List ℕ → At → At → Type 0
+Feeds false part s t =
     (k : Call scan-session-feed.Kinds.ps scan-session-feed.Kinds.r scan-session-feed.Reads.Learnt)
     × (now (k .args .0) ≡ part) × (at (k .args .1 .0) (now (k .args .1 .1 .0)) (now (k .args .1 .1 .1 .0)) ≡ s)
     × (at (k .answer) (k .left .1 .1 .0) (k .left .1 .1 .1 .0) ≡ t)
+Feeds true part s t =
+    (k : Call notes-feed.Kinds.ps notes-feed.Kinds.r notes-feed.Reads.Learnt)
+    × (now (k .args .0) ≡ part) × (at (k .args .1 .0) (now (k .args .1 .1 .0)) (now (k .args .1 .1 .1 .0)) ≡ s)
+    × (at (k .answer) (k .left .1 .1 .0) (k .left .1 .1 .1 .0) ≡ t)
 
-abbrev pub FeedsAll : List (List ℕ) → At → At → Type 0
-FeedsAll [] s t = s ≡ t
-FeedsAll (part ∷ parts) s t = (m : At) × Feeds part s m × FeedsAll parts m t
+abbrev pub FeedsAll : Bool → List (List ℕ) → At → At → Type 0
+FeedsAll b [] s t = s ≡ t
+FeedsAll b (part ∷ parts) s t = (m : At) × Feeds b part s m × FeedsAll b parts m t
 
-abbrev pub Closes : At → At → Type 0
-Closes s t =
+abbrev pub Closes : (noting : Bool) → At → At → Type 0
+Closes false s t =
     (k : Call scan-session-close.Kinds.ps scan-session-close.Kinds.r scan-session-close.Reads.Learnt)
+    × (at (k .args .0) (now (k .args .1 .0)) (now (k .args .1 .1 .0)) ≡ s) × (at (k .answer) (now (k .args .1 .0)) (k .left .1 .1 .0) ≡ t)
+Closes true s t =
+    (k : Call notes-close.Kinds.ps notes-close.Kinds.r notes-close.Reads.Learnt)
     × (at (k .args .0) (now (k .args .1 .0)) (now (k .args .1 .1 .0)) ≡ s) × (at (k .answer) (now (k .args .1 .0)) (k .left .1 .1 .0) ≡ t)
 
 -- a session from its first byte to the end of its input, in a line buffer and a buffer for the
 -- collection
-abbrev pub Runs : (parts : List (List ℕ)) (line c : List ℕ) (t : At) → Type 0
-Runs parts line c t = (s : At) × FeedsAll parts (new line c) s × Closes s t
+abbrev pub Runs : (noting : Bool) (parts : List (List ℕ)) (line c : List ℕ) (t : At) → Type 0
+Runs b parts line c t = (s : At) × FeedsAll b parts (new line c) s × Closes b s t
 
 -- pier's line, of the session's phase and collection
 abbrev pub Reports : (phase : ℕ) (c out x : List ℕ) (a : Answer ℕ) → Type 0
@@ -83,10 +94,11 @@ Laid text out x a = (a ≡ done (length text)) × (x ≡ over 0 text out)
 
 -- ---- what they say
 
--- in whatever parts the input came, the session ends the same; and it can be read in any
+-- in whatever parts the input came, and whoever read it, the session ends the same; and it can be
+-- read in any
 pub record Parts : Type 0 where
-  pub happens : (ps : List (List ℕ)) (line c : List ℕ) → (t : At) × Runs ps line c t
-  pub same : (ps qs : List (List ℕ)) (line c : List ℕ) (s t : At) → flatten ps ≡ flatten qs → Runs ps line c s → Runs qs line c t → s ≡ t
+  pub happens : (b : Bool) (ps : List (List ℕ)) (line c : List ℕ) → (t : At) × Runs b ps line c t
+  pub same : (b d : Bool) (ps qs : List (List ℕ)) (line c : List ℕ) (s t : At) → flatten ps ≡ flatten qs → Runs b ps line c s → Runs d qs line c t → s ≡ t
 
 -- a session t whose input names the document id and has the scans xs
 pub record Collects (id : List ℕ) (xs : List (List ℕ)) (t : At) : Type 0 where
@@ -121,6 +133,6 @@ pub record Waits (c : List ℕ) (t : At) : Type 0 where
 
 pub record Programs : Type 0 where
   pub parts : Parts
-  pub named : (ps : List (List ℕ)) (line c id : List ℕ) (t : At) → 1025 ≤ length line → length c ≡ collectionSize → Runs ps line c t → documentOf (flatten ps) ≡ done id
+  pub named : (b : Bool) (ps : List (List ℕ)) (line c id : List ℕ) (t : At) → 1025 ≤ length line → length c ≡ collectionSize → Runs b ps line c t → documentOf (flatten ps) ≡ done id
       → Collects id (scansOf (flatten ps)) t
-  pub unnamed : (ps : List (List ℕ)) (line c : List ℕ) (n : ℕ) (t : At) → 1025 ≤ length line → Runs ps line c t → documentOf (flatten ps) ≡ refused n → Waits c t
+  pub unnamed : (b : Bool) (ps : List (List ℕ)) (line c : List ℕ) (n : ℕ) (t : At) → 1025 ≤ length line → Runs b ps line c t → documentOf (flatten ps) ≡ refused n → Waits c t
