@@ -1,5 +1,5 @@
 // The pantry: it reads the document id and then scans, a line each, from standard input, and gives
-// the ciphertext out once every page is there (R15.6). What is for a person goes to standard error.
+// the ciphertext out once every page is there (R15.6). People are told on standard error.
 // With the name of a file it keeps the collection there between runs, and with `--to` it puts the
 // ciphertext in a file's place (R15.7). The work is done by `scan`, `notes`, `told` and
 // `pantry_work`; here are only the words of the command, the reading and the writing.
