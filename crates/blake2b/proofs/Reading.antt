@@ -8,10 +8,10 @@ use native.Mathlib.Nat.{add-zero, zero-add}
 use native.Mathlib.Numerals.{add-one}
 use native.Mathlib.Omega.{arith}
 use lib.Dec.{eqb·suc-zero}
-use lib.ListN.{length, getD, take, drop, set, replicate, length-drop}
+use lib.ListN.{length, getD, take, drop, set, replicate, length-take, length-drop, take-append-drop}
 use lib.Seq.{drop-drop, drop-append-le, take-append-le, getD-drop, set-at, append-snoc, take-suc, length-take-le}
 use Rattle.wire.specs.Number.{number, numberFrom}
-use Rattle.blake2b.specs.Blake2b.{vector, wordAt, words, F, blocks, dd, padded, start, final}
+use Rattle.blake2b.specs.Blake2b.{vector, wordAt, words, F, blocks, dd, padded, start, final, digest, blake2b}
 use Rattle.blake2b.proofs.Vector.{vector-same, take-vector}
 
 -- ---- a word
@@ -44,6 +44,12 @@ words-drop : (b : List ℕ) (at : ℕ) → words (drop at b) 0 ≡ words b at
 unfolding words wordAt
 words-drop b at =
     vector-same 16 (λ j. wordAt (drop at b) (0 + j * 8)) (λ j. wordAt b (at + j * 8)) (λ j l. rw (zero-add, drop-drop))
+
+-- those of the block alone
+pub words-front : (b : List ℕ) (at : ℕ) → at + 128 ≤ length b → words (take 128 (drop at b)) 0 ≡ words b at
+words-front b at h =
+    let l : 128 ≤ length (take 128 (drop at b)) = simp (length-take, length-drop) (omega arith) in
+    sym (words-append (take 128 (drop at b)) (drop 128 (drop at b)) 0 l) ∙ rw (take-append-drop 128 (drop at b)) (words-drop b at)
 
 blocks-append : (n : ℕ) (b r h : List ℕ) → n * 128 ≤ length b → blocks n (b ++ r) h ≡ blocks n b h
 unfolding blocks
@@ -79,3 +85,9 @@ whole s t n e et =
     let k : n * 128 + 128 - length s ≡ dd (length s) * 128 - length s = omega arith in
     let p : t ≡ drop (n * 128) (s ++ z) = et ∙ rw k (sym (drop-append-le (n * 128) s z l)) in
     cc (blocks-append n s z start l, words-drop (s ++ z) (n * 128))
+
+-- so the digest after it is the message's
+pub whole-digest : (s h x t d : List ℕ) (n : ℕ) → n ≡ dd (length s) - 1 → h ≡ start → x ≡ blocks n s h → t ≡ drop (n * 128) s ++ replicate (n * 128 + 128 - length s) 0
+    → d ≡ digest (F x (words t 0) (length s) true) → d ≡ blake2b s
+unfolding blake2b
+whole-digest s h x t d n e eh ex et ed = cc (whole s t n e et)

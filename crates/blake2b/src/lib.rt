@@ -1,4 +1,5 @@
 // BLAKE2b with no key and a digest of 32 bytes (R7.1): RFC 7693, whose sections the comments name.
+ghost use mathlib.Core.Bool.{true, false};
 ghost use mathlib.Core.Path.{_≡_};
 ghost use mathlib.Core.List.{_++_};
 ghost use Prim.Native.Nat.{_+_, _-_, _*_, _<_, _≤_};
@@ -216,6 +217,15 @@ fn words(b: &[u8], at: usize) -> [u64; 16]
     m
 }
 
+// The state after the block that starts at byte at of b.
+fn absorb(h: [u64; 8], b: &[u8], at: usize, t: u64, last: bool) -> [u64; 8]
+    requires { ⌜ at + 128 ≤ length (now b) ⌝ }
+    ensures { λ r. ⌜ r ≡ B.F h (B.words (now (b .entry)) at) t last ⌝ }
+{
+    let m = words(b, at);
+    compress(h, &m, t, last)
+}
+
 // The state after the first n blocks of b, none of which is the last.
 fn blocks(b: &[u8], n: usize, h: [u64; 8]) -> [u64; 8]
     requires { ⌜ n * 128 ≤ length (now b) ⌝ }
@@ -223,8 +233,7 @@ fn blocks(b: &[u8], n: usize, h: [u64; 8]) -> [u64; 8]
 {
     let mut x = h;
     for k in 0..n {
-        let m = words(b, k * 128);
-        let y = compress(x, &m, ((k + 1) * 128) as u64, false);
+        let y = absorb(x, b, k * 128, ((k + 1) * 128) as u64, false);
         x = y;
     }
     x
@@ -263,6 +272,35 @@ fn last_block(n: usize) -> usize
     (n - 1) / 128
 }
 
+// ---- block by block, for a message that does not stand in one piece (3.3)
+
+// The state before the first block.
+pub fn start() -> [u64; 8]
+    ensures { λ r. ⌜ r ≡ B.start ⌝ }
+{
+    let mut h = IV;
+    // kk = 0 and nn = 32
+    h[0] = h[0] ^ 0x01010000 ^ 32;
+    h
+}
+
+// The state after one more block, which is not the last: t is how many bytes the message has up to
+// its end.
+pub fn block(h: [u64; 8], b: &[u8; 128], t: u64) -> [u64; 8]
+    ensures { λ r. ⌜ r ≡ B.F h (B.words (now (b .entry)) 0) t false ⌝ }
+{
+    absorb(h, b, 0, t, false)
+}
+
+// The digest after the last block, which zeros fill up: t is how many bytes the message has.
+//
+// That a message's blocks in order come to its hash is `hashing-last` (blake2b, Pieces).
+pub fn last(h: [u64; 8], b: &[u8; 128], t: u64) -> [u8; 32]
+    ensures { λ r. ⌜ r ≡ B.digest (B.F h (B.words (now (b .entry)) 0) t true) ⌝ }
+{
+    digest(absorb(h, b, 0, t, true))
+}
+
 // The BLAKE2b of s, of any length: no key, a digest of 32 bytes.
 //
 // Section 3.3.
@@ -271,11 +309,7 @@ pub fn blake2b(s: &[u8]) -> [u8; 32]
 {
     let n = s.len();
     let full = last_block(n);
-    let mut h = IV;
-    // kk = 0 and nn = 32
-    h[0] = h[0] ^ 0x01010000 ^ 32;
-    let x = blocks(s, full, h);
+    let x = blocks(s, full, start());
     let t = tail(s, full * 128);
-    let m = words(&t, 0);
-    digest(compress(x, &m, n as u64, true))
+    last(x, &t, n as u64)
 }

@@ -211,6 +211,11 @@ module _ (c : List ℕ) (ok : okBook c ≡ true) where
   unfolding readBook
   decoded-valid = ok-says .valid
 
+  -- whose slots are what the 96 blocks say, whatever the state of the head
+  pub decoded-slots : slotsOf (readBook c) ≡ readPages 0 96 c
+  unfolding readBook
+  decoded-slots = ok-says .slots-are
+
   -- and is the bytes of it
   pub decoded : c ≡ encode (idOf c) (readBook c)
   unfolding encode headOf readBook

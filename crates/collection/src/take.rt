@@ -53,7 +53,7 @@ pub(super) fn good_page(id: &[u8], raw: &[u8]) -> PageRead
             no: wire::OTHER_DOCUMENT,
         };
     }
-    if !lend::equal(id, &raw[4..12]) {
+    if !lend::equal(id, &raw[frame::ID_AT..frame::ID_END]) {
         return PageRead::Refused {
             no: wire::OTHER_DOCUMENT,
         };

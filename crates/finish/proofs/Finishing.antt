@@ -2,14 +2,13 @@
 use mathlib.Core.Path.{_≡_, refl, sym, ap, _∙_}
 use mathlib.Core.Bool.{Bool, true, false}
 use mathlib.Core.List.{List}
-use Prim.Native.Nat.{ℕ, _-_, _≤_, _<_}
+use Prim.Native.Nat.{ℕ, _≤_, _<_}
 use native.Mathlib.Omega.{arith}
 use borrow.Author.Tests.{le-leb, lt-leb}
 use lib.Dec.{leb}
-use lib.ListN.{length, take, replicate, length-replicate}
+use lib.ListN.{length}
 use Rattle.wire.specs.Answer.{Answer, done, refusedAt, numberOf}
 use Rattle.wire.specs.Over.{over}
-use Rattle.wire.proofs.Overs.{read-over}
 use Rattle.lend.specs.Same.{same}
 use Rattle.document_id.specs.Id.{documentId}
 use Rattle.model.specs.Book.{Slot, Book, empty, collecting, disagree}
@@ -22,7 +21,6 @@ use Rattle.book.proofs.Judging.{judged-done, judge-passed, judge-refused}
 use Rattle.book.proofs.Decode.{length-read, ok-head, ok-state, head-allowed, total-range, book-0, book-1, book-2}
 use Rattle.book.proofs.Below.{in-absent, in-disputed, lowest-as, take-read}
 use Rattle.finish.specs.Finish.{collected, vouched, finished, Closed}
-use Rattle.finish.specs.Private.{Gathers}
 use Rattle.finish.specs.declared.Finished.{Finished}
 use Rattle.finish.specs.declared.Finished.the-variants.{Done, Refused}
 
@@ -36,37 +34,35 @@ denied v out e k r p q = rw (p, q) (record { answer = refl; bytes = refl })
 
 -- ---- the data are there: the output, then the id
 
--- the data, n bytes, were put in front of 46,080 zeros, which made x
-module _ (c out x : List ℕ) (t n : ℕ) (g : Gathers c t (replicate 46080 0) x n) where
+-- the data of the pages below t are n bytes
+module _ (c out : List ℕ) (t n : ℕ) (size : (n ≡ length (joined (readPages 0 t c))) × (n ≤ 46080)) where
   abbrev Delivered : List ℕ → Finished → Type 0
   Delivered out' r = Closed (vouched (idOf c) out (done (joined (readPages 0 t c)))) out out' r
 
-  aside : take (n - 0) x ≡ joined (readPages 0 t c)
-  aside =
-      let e : n - 0 ≡ length (joined (readPages 0 t c)) = omega (arith, g .number) in
-      let z : length (replicate {A = ℕ} 46080 0) ≡ 46080 = length-replicate {A = ℕ} 46080 0 in
-      rw (e, g .stands) (read-over 0 (joined (readPages 0 t c)) (replicate 46080 0) (omega (arith, g .number, g .most, z)))
-
   pub no-room : (r : Finished) → r ≡ Refused 11 0 → length out < n → Delivered out r
   no-room r p h =
-      let l : length out < length (joined (readPages 0 t c)) = omega (arith, g .number) in
+      let l : length out < length (joined (readPages 0 t c)) = omega (arith, size .0) in
       denied (vouched (idOf c) out (done (joined (readPages 0 t c)))) out 11 0 r p (rw (lt-leb (length (joined (readPages 0 t c))) (length out) l))
 
-  -- i is the id of what was put aside, and q whether the head has it
-  module _ (fits : n ≤ length out) (i : List ℕ) (q : Bool) (e : i ≡ documentId (take (n - 0) x)) (j : List ℕ) (g' : j ≡ idOf c) (f : q ≡ same i j) where
-    test : q ≡ same (documentId (joined (readPages 0 t c))) (idOf c)
-    test = f ∙ rw (e, aside, g')
+  module _ (fits : n ≤ length out) where
+    has-room : length (joined (readPages 0 t c)) ≤ length out
+    has-room = omega (arith, size .0)
 
-    room : leb (length (joined (readPages 0 t c))) (length out) ≡ true
-    room = le-leb (length (joined (readPages 0 t c))) (length out) (omega (arith, g .number))
+    -- i is their id, and q whether the head has it
+    module _ (i j : List ℕ) (q : Bool) (e : i ≡ documentId (joined (readPages 0 t c))) (g : j ≡ idOf c) (f : q ≡ same i j) where
+      test : q ≡ same (documentId (joined (readPages 0 t c))) (idOf c)
+      test = f ∙ rw (e, g)
 
-    pub other-id : (r : Finished) → r ≡ Refused 17 0 → q ≡ false → Delivered out r
-    other-id r p w = denied (vouched (idOf c) out (done (joined (readPages 0 t c)))) out 17 0 r p (rw (room, ← test, w))
+      room : leb (length (joined (readPages 0 t c))) (length out) ≡ true
+      room = le-leb (length (joined (readPages 0 t c))) (length out) has-room
 
-    pub delivered : (out' : List ℕ) → q ≡ true → out' ≡ over 0 (take (n - 0) x) out → Delivered out' (Done n)
-    delivered out' w o =
-        closed-as (vouched (idOf c) out (done (joined (readPages 0 t c)))) (done (joined (readPages 0 t c))) out out' (Done n) (rw (room, ← test, w))
-        (record { answer = ap done (g .number); bytes = o ∙ rw aside })
+      pub other-id : (r : Finished) → r ≡ Refused 17 0 → q ≡ false → Delivered out r
+      other-id r p w = denied (vouched (idOf c) out (done (joined (readPages 0 t c)))) out 17 0 r p (rw (room, ← test, w))
+
+      pub delivered : (out' : List ℕ) → q ≡ true → out' ≡ over 0 (joined (readPages 0 t c)) out → Delivered out' (Done n)
+      delivered out' w o =
+          closed-as (vouched (idOf c) out (done (joined (readPages 0 t c)))) (done (joined (readPages 0 t c))) out out' (Done n) (rw (room, ← test, w))
+          (record { answer = ap done (size .0); bytes = o })
 
 -- ---- the pages below the total t: k is the lowest that is disputed, and j the lowest that is
 -- missing

@@ -1,4 +1,5 @@
 pub mod Gathering
+pub mod Pulling
 pub mod Finishing
 pub mod Once
 pub mod Demand

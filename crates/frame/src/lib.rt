@@ -25,8 +25,13 @@ pub const KEY: u8 = 0x4B;
 
 pub const AUTH: u8 = 0x41;
 
+// Where the id stands in a frame that was read (R6.1).
+pub const ID_AT: usize = 4;
+
+pub const ID_END: usize = ID_AT + wire::ID_SIZE;
+
 pub enum FrameRead {
-    // Where the data stand in the input; the id always stands at bytes 4 to 11 (R6.1).
+    // Where the data stand in the input; the id always stands at ID_AT (R6.1).
     Frame {
         kind: u8,
         index: u64,

@@ -1,8 +1,8 @@
 -- How many slots have a property, which is the lowest, and the data in order: for loops over the
 -- slots, and for what finish says.
-use mathlib.Core.Path.{_≡_, refl, sym, ap, _∙_}
+use mathlib.Core.Path.{_≡_, refl, ap, _∙_}
 use mathlib.Core.Bool.{Bool, true, false}
-use mathlib.Core.List.{List, [], _∷_, _++_, append-assoc, append-nil}
+use mathlib.Core.List.{List, [], _∷_, _++_}
 use Prim.Native.Nat.{ℕ, zero, suc, _+_, _*_, _≤_, _<_}
 use native.Mathlib.Omega.{arith}
 use native.Mathlib.Numerals.{add-one}
@@ -87,22 +87,6 @@ module _ (f : Slot → Bool) where
     lowest-rest = ap (lowest f) rest
 
 -- ---- the data in order
-
--- of two lists
-pub joined-append : (xs ys : List Slot) → joined (xs ++ ys) ≡ joined xs ++ joined ys
-unfolding joined
-joined-append [] ys = refl
-joined-append (x ∷ xs) ys = rw (joined-append xs ys) (sym (append-assoc (dataOf x) (joined xs) (joined ys)))
-
--- one more slot behind
-pub joined-snoc : (xs : List Slot) (x : Slot) → joined (xs ++ (x ∷ [])) ≡ joined xs ++ dataOf x
-unfolding joined
-joined-snoc xs x = joined-append xs (x ∷ []) ∙ ap (λ (d : List ℕ). joined xs ++ d) (append-nil (dataOf x))
-
-module _ (ss : List Slot) (k : ℕ) (h : k < length ss) where
-  -- the data grow by those of this turn
-  pub joined-turn : joined (take (k + 1) ss) ≡ joined (take k ss) ++ dataOf (getD ss k absent)
-  joined-turn = rw (add-one, take-suc ss k absent h) (joined-snoc (take k ss) (getD ss k absent))
 
 -- at most 480 bytes for each slot
 pub joined-most : (ss : List Slot) → EachData Short ss → length (joined ss) ≤ 480 * length ss

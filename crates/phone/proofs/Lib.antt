@@ -1,1 +1,2 @@
-pub mod Packing
+mod Packing
+mod Seeing

@@ -1,5 +1,5 @@
 -- A call's answer as one number, over plain values. Assumes nothing.
-use Prim.Native.Nat.{ℕ, _≤_}
+use Prim.Native.Nat.{ℕ, _≤_, _<_}
 use mathlib.Core.Path.{_≡_, sym, ap, _∙_}
 use mathlib.Core.List.{List}
 use native.Mathlib.Omega.{arith}
@@ -13,40 +13,26 @@ use Rattle.model.proofs.Finished.{finish-short}
 use Rattle.book.specs.Read.{idOf, bookIn}
 use Rattle.book.proofs.Judging.{judged-only}
 use Rattle.book.proofs.Decode.{decoded-valid}
-use Rattle.collection.specs.Answer.{told, toldKind}
+use Rattle.collection.specs.Answer.{told}
 use Rattle.collection.specs.declared.Answered.{Answered}
 use Rattle.collection.specs.declared.Answered.the-variants as A
-use Rattle.collection.specs.declared.Offered.{Offered}
-use Rattle.collection.specs.declared.Offered.the-variants as O
 use Rattle.finish.specs.Finish as F
 use Rattle.finish.specs.declared.Finished.{Finished}
 use Rattle.finish.specs.declared.Finished.the-variants as E
-use Rattle.phone.specs.Packed.{packed, packedAnswer, packedKind, packedFinish}
+use Rattle.phone.specs.Packed.{packedAnswer}
 
 -- a refusal is its number
 pub refusal : (r : Answered) (e : ℕ) → r ≡ A.Refused e → e ≡ packedAnswer (told r)
 refusal r e h = rw h (omega arith)
 
--- open and join
-pub passed-on : (d : Change Unit) (c x : List ℕ) (r : Answered) (n : ℕ) → Kept d c x (told r) → n ≡ packedAnswer (told r)
-    → n ≡ packedAnswer (answerOf d)
-passed-on d c x r n k h = h ∙ ap packedAnswer (k .answer)
+-- what a function of the libraries answered, r, which is the case q, packed
+module _ {A R : Type 0} (pack : Answer A → ℕ) (told : R → Answer A) where
+  pub packs : (d : Change A) (l x : List ℕ) (r q : R) (n : ℕ) → Kept d l x (told r) → r ≡ q → n ≡ pack (told q) → n ≡ pack (answerOf d)
+  packs d l x r q n k h p = p ∙ ap pack (sym (ap told h) ∙ k .answer)
 
--- offer
-module _ (d : Change ℕ) (c x : List ℕ) (r : Offered) (k : Kept d c x (toldKind r)) where
-  pub offer-done : (kind n : ℕ) → r ≡ O.Done kind → n ≡ packed 0 kind 0 → n ≡ packedKind (answerOf d)
-  offer-done kind n h p = p ∙ ap packedKind (sym (ap toldKind h) ∙ k .answer)
-
-  pub offer-refused : (e n : ℕ) → r ≡ O.Refused e → n ≡ packed e 0 0 → n ≡ packedKind (answerOf d)
-  offer-refused e n h p = p ∙ ap packedKind (sym (ap toldKind h) ∙ k .answer)
-
--- finish
-module _ (v : Answer (List ℕ)) (out x : List ℕ) (r : Finished) (k : F.Closed v out x r) where
-  pub finish-done : (n m : ℕ) → r ≡ E.Done n → m ≡ packed 0 0 n → m ≡ packedFinish (answerOf (F.delivering out v))
-  finish-done n m h p = p ∙ ap packedFinish (sym (ap F.told h) ∙ k .answer)
-
-  pub finish-refused : (e place m : ℕ) → r ≡ E.Refused e place → m ≡ packed e place 0 → m ≡ packedFinish (answerOf (F.delivering out v))
-  finish-refused e place m h p = p ∙ ap packedFinish (sym (ap F.told h) ∙ k .answer)
+  -- packed by a function that has looked at the cases
+  pub passed-on : (d : Change A) (l x : List ℕ) (r : R) (n : ℕ) → Kept d l x (told r) → n ≡ pack (told r) → n ≡ pack (answerOf d)
+  passed-on d l x r n k h = h ∙ ap pack (k .answer)
 
 -- ---- what finish writes has at most 46,080 bytes
 
@@ -65,7 +51,7 @@ finished-most c out d h =
     let w = passed (same (documentId x) (idOf c)) _ 17 (u .1) in
     omega (arith, collected-most c x e, ap length (done-value (w .1)))
 
-pub finish-most : (c out x : List ℕ) (r : Finished) (n : ℕ) → F.Closed (F.finished c out) out x r → r ≡ E.Done n → n ≤ 46080
+pub finish-most : (c out x : List ℕ) (r : Finished) (n : ℕ) → F.Closed (F.finished c out) out x r → r ≡ E.Done n → n < 0x1000000000000
 finish-most c out x r n k h =
     let t = then-done (F.delivering out (F.finished c out)) _ (sym (sym (ap F.told h) ∙ k .answer)) in
     let (d, e, q) = then-done (F.finished c out) _ (t .1) in

@@ -7,6 +7,8 @@ pub mod Payloads
 pub mod Demand2
 pub mod Interfaces
 pub mod Demand3
+mod Ranges
+pub mod Showing
 pub mod Programs
 pub mod Examples
 pub mod Printed

@@ -35,7 +35,11 @@ use Rattle.text.proofs.zbase32_write as text-zbase32-write
 use Rattle.crc.proofs.crc32 as crc-crc32
 use Rattle.crc.proofs.sum as crc-sum
 use Rattle.sha256.proofs.sha256 as sha256-sha256
+use Rattle.blake2b.proofs.start as blake2b-start
+use Rattle.blake2b.proofs.block as blake2b-block
+use Rattle.blake2b.proofs.last as blake2b-last
 use Rattle.blake2b.proofs.blake2b as blake2b-blake2b
+use Rattle.document_id.proofs.of_digest as document-id-of-digest
 use Rattle.document_id.proofs.of as document-id-of
 
 pub wire-StepRead-no-once : Once wire-StepRead-no.Kinds.ps wire-StepRead-no.Kinds.r wire-StepRead-no.Reads.Learnt
@@ -128,8 +132,20 @@ crc-sum-once κs args x y u v p q = (p ∙ sym q, refl)
 pub sha256-sha256-once : Once sha256-sha256.Kinds.ps sha256-sha256.Kinds.r sha256-sha256.Reads.Learnt
 sha256-sha256-once κs args x y u v p q = (p ∙ sym q, refl)
 
+pub blake2b-start-once : Once blake2b-start.Kinds.ps blake2b-start.Kinds.r blake2b-start.Reads.Learnt
+blake2b-start-once κs args x y u v p q = (p ∙ sym q, refl)
+
+pub blake2b-block-once : Once blake2b-block.Kinds.ps blake2b-block.Kinds.r blake2b-block.Reads.Learnt
+blake2b-block-once κs args x y u v p q = (p ∙ sym q, refl)
+
+pub blake2b-last-once : Once blake2b-last.Kinds.ps blake2b-last.Kinds.r blake2b-last.Reads.Learnt
+blake2b-last-once κs args x y u v p q = (p ∙ sym q, refl)
+
 pub blake2b-blake2b-once : Once blake2b-blake2b.Kinds.ps blake2b-blake2b.Kinds.r blake2b-blake2b.Reads.Learnt
 blake2b-blake2b-once κs args x y u v p q = (p ∙ sym q, refl)
+
+pub document-id-of-digest-once : Once document-id-of-digest.Kinds.ps document-id-of-digest.Kinds.r document-id-of-digest.Reads.Learnt
+document-id-of-digest-once κs args x y u v p q = (p ∙ sym q, refl)
 
 pub document-id-of-once : Once document-id-of.Kinds.ps document-id-of.Kinds.r document-id-of.Reads.Learnt
 document-id-of-once κs args x y u v p q = (p ∙ sym q, refl)

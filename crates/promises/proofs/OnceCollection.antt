@@ -33,6 +33,8 @@ use Rattle.collection.proofs.join as collection-join
 use Rattle.finish.proofs.finish as finish-finish
 use Rattle.mend.proofs.mend as mend-mend
 use Rattle.status.proofs.status as status-status
+use Rattle.status.proofs.standing.of as status-standing-of
+use Rattle.status.proofs.Standings as standings
 
 pub block-seal-once : Once block-seal.Kinds.ps block-seal.Kinds.r block-seal.Reads.Learnt
 block-seal-once κs args x y u v p q = (refl, here (p ∙ sym q))
@@ -113,3 +115,8 @@ mend-mend-once κs args x y u v p q = let e = kept-once p q in (mended-injective
 
 pub status-status-once : Once status-status.Kinds.ps status-status.Kinds.r status-status.Reads.Learnt
 status-status-once κs args x y u v p q = let e = written-once x y p q in (e .0, past (here (e .1)))
+
+pub status-standing-of-once : Once status-standing-of.Kinds.ps status-standing-of.Kinds.r status-standing-of.Reads.Learnt
+status-standing-of-once κs args x y u v p q =
+    let e = kept-once p q in
+    (standings.told-injective x y (e .0), past (here (e .1)))

@@ -36,6 +36,9 @@ use Rattle.phone.proofs.stilt_open as phone-stilt-open
 use Rattle.phone.proofs.stilt_offer as phone-stilt-offer
 use Rattle.phone.proofs.stilt_join as phone-stilt-join
 use Rattle.phone.proofs.stilt_finish as phone-stilt-finish
+use Rattle.phone.proofs.stilt_status as phone-stilt-status
+use Rattle.phone.proofs.stilt_frame as phone-stilt-frame
+use Rattle.phone.proofs.stilt_base64 as phone-stilt-base64
 use Rattle.speed.proofs.speed_crc32 as speed-speed-crc32
 use Rattle.speed.proofs.speed_sha256 as speed-speed-sha256
 use Rattle.speed.proofs.speed_blake2b as speed-speed-blake2b
@@ -128,6 +131,15 @@ phone-stilt-join-once κs args x y u v p q = (p .0 ∙ sym (q .0), here (p .1 �
 
 pub phone-stilt-finish-once : Once phone-stilt-finish.Kinds.ps phone-stilt-finish.Kinds.r phone-stilt-finish.Reads.Learnt
 phone-stilt-finish-once κs args x y u v p q = (p .0 ∙ sym (q .0), past (here (p .1 ∙ sym (q .1))))
+
+pub phone-stilt-status-once : Once phone-stilt-status.Kinds.ps phone-stilt-status.Kinds.r phone-stilt-status.Reads.Learnt
+phone-stilt-status-once κs args x y u v p q = (p .0 ∙ sym (q .0), past (here (p .1 ∙ sym (q .1))))
+
+pub phone-stilt-frame-once : Once phone-stilt-frame.Kinds.ps phone-stilt-frame.Kinds.r phone-stilt-frame.Reads.Learnt
+phone-stilt-frame-once κs args x y u v p q = (p .0 ∙ sym (q .0), past (here (p .1 ∙ sym (q .1))))
+
+pub phone-stilt-base64-once : Once phone-stilt-base64.Kinds.ps phone-stilt-base64.Kinds.r phone-stilt-base64.Reads.Learnt
+phone-stilt-base64-once κs args x y u v p q = (p .0 ∙ sym (q .0), past (here (p .1 ∙ sym (q .1))))
 
 pub speed-speed-crc32-once : Once speed-speed-crc32.Kinds.ps speed-speed-crc32.Kinds.r speed-speed-crc32.Reads.Learnt
 speed-speed-crc32-once κs args x y u v p q = (p ∙ sym q, refl)

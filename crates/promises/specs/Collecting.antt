@@ -20,6 +20,8 @@ use Rattle.phone.proofs.stilt_open as phone-stilt-open
 use Rattle.phone.proofs.stilt_offer as phone-stilt-offer
 use Rattle.phone.proofs.stilt_join as phone-stilt-join
 use Rattle.phone.proofs.stilt_finish as phone-stilt-finish
+use Rattle.phone.proofs.stilt_status as phone-stilt-status
+use Rattle.phone.proofs.stilt_frame as phone-stilt-frame
 use Rattle.promises.specs.Calls.{Call}
 
 pub record Interface : Type 1 where
@@ -69,6 +71,18 @@ abbrev pub Tells : (c out x : List ℕ) (a : Answer ℕ) → Type 0
 Tells c out x a =
     (k : Call status-status.Kinds.ps status-status.Kinds.r status-status.Reads.Learnt)
     × (now (k .args .0) ≡ c) × (now (k .args .1 .0) ≡ out) × (k .left .1 .0 ≡ x) × (writing.told (k .answer) ≡ a)
+
+-- `stilt_status` was called on c, was lent out, left x there and answered the number n
+abbrev pub Shows : (c out x : List ℕ) (n : ℕ) → Type 0
+Shows c out x n =
+    (k : Call phone-stilt-status.Kinds.ps phone-stilt-status.Kinds.r phone-stilt-status.Reads.Learnt)
+    × (now (k .args .0) ≡ c) × (now (k .args .1 .0) ≡ out) × (k .left .1 .0 ≡ x) × (k .answer ≡ n)
+
+-- `stilt_frame` was called on the raw frame, likewise
+abbrev pub Sees : (raw out x : List ℕ) (n : ℕ) → Type 0
+Sees raw out x n =
+    (k : Call phone-stilt-frame.Kinds.ps phone-stilt-frame.Kinds.r phone-stilt-frame.Reads.Learnt)
+    × (now (k .args .0) ≡ raw) × (now (k .args .1 .0) ≡ out) × (k .left .1 .0 ≡ x) × (k .answer ≡ n)
 
 -- mend was lent c, left x and answered a
 abbrev pub Mended : List ℕ → List ℕ → Answer ℕ → Type 0

@@ -8,22 +8,26 @@
 -- for a SET of pages, without order or count, is `BookIs` (model, Meaning), its bytes are `encode`
 -- (book, Encode), and when a set is complete is `Complete` (model, Complete).
 use mathlib.Core.Path.{_≡_}
+use mathlib.Core.Logic.{_↔_}
 use mathlib.Core.List.{List, _++_}
 use Prim.Native.Nat.{ℕ, _≤_}
-use lib.ListN.{length}
+use lib.ListN.{length, take}
 use Rattle.wire.specs.Answer.{Answer, done, refused}
-use Rattle.wire.specs.Sizes.{collectionSize}
+use Rattle.wire.specs.Number.{Bytes}
+use Rattle.wire.specs.Sizes.{mostPages, idSize, collectionSize}
 use Rattle.wire.specs.Over.{over}
 use Rattle.model.specs.Book.{Book}
 use Rattle.model.specs.Take.{Page}
 use Rattle.model.specs.Meaning.{BookIs}
 use Rattle.book.specs.Encode.{encode}
 use Rattle.collection.specs.Collection.{goodPage}
-use Rattle.collection.specs.Built.{Built, opened, offered, joined, In, Lent, offeredAll, PageAmong, AllBytes}
+use Rattle.collection.specs.Built.{Built, opened, offered, joined, Says, In, Lent, offeredAll, PageAmong, AllBytes}
 use Rattle.finish.specs.Sets.{Answers}
 use Rattle.mend.specs.Mend.{Mends}
-use Rattle.status.specs.Sets.{LineIs}
-use Rattle.promises.specs.Collecting.{Interface, library, Tells, Mended}
+use Rattle.status.specs.declared.standing.Numbers.{Numbers}
+use Rattle.status.specs.Sets.{LineIs, NumbersAre, StatesAre}
+use Rattle.phone.specs.Packed.{numberIn, placeIn, byteIn}
+use Rattle.promises.specs.Collecting.{Interface, library, phone, Tells, Mended, Shows, Sees}
 
 -- x is what calls of open, offer and join left, one after another, whatever each answered
 abbrev pub Left : (f : Interface) (id : List ℕ) (h : Built) (x : List ℕ) → Type 0
@@ -74,3 +78,24 @@ pub record Telling (id : List ℕ) : Type 0 where
       → (line : List ℕ) × LineIs (In id h) line × (a ≡ done (length line)) × (x ≡ over 0 line out)
   -- a damaged file (R9.11): outside the rest, since what mend makes absent may have been offered
   pub mend : (c x : List ℕ) (a : Answer ℕ) → Mended c x a → Mends c x a
+
+-- a number of `stilt_status`, read apart as the header does (R16.3)
+pub record Apart (n : ℕ) (m : Numbers) : Type 0 where
+  pub number : numberIn n ≡ 0
+  pub place : placeIn n ≡ m .stands
+  pub total : byteIn 0 n ≡ m .total
+  pub held : byteIn 1 n ≡ m .held
+  pub missing : byteIn 2 n ≡ m .missing
+  pub disputed : byteIn 3 n ≡ m .disputed
+
+-- what an app shows on its screen, by the calls for C
+pub record Showing (id : List ℕ) : Type 0 where
+  -- where a collection stands, and each page of it, by the good pages that were offered (R16.3)
+  pub status : (h : Built) (c out x : List ℕ) (n : ℕ) → Lent h → Left phone id h c → mostPages ≤ length out → Shows c out x n
+      → (m : Numbers) × (states : List ℕ) × NumbersAre (In id h) m × StatesAre (In id h) states × Apart n m × (x ≡ over 0 states out)
+  -- a frame is a page of this document, for an offer, exactly where it is told to be a main frame
+  -- of this id; and then of this index and total (R16.4)
+  pub ours : (raw out x : List ℕ) (n : ℕ) → Bytes raw → idSize ≤ length out → Sees raw out x n
+      → ((p : Page) × Says id raw p) ↔ ((numberIn n ≡ 0) × (byteIn 1 n ≡ 0x44) × (take idSize x ≡ id))
+  pub page : (raw out x : List ℕ) (n : ℕ) (p : Page) → Bytes raw → idSize ≤ length out → Sees raw out x n → Says id raw p
+      → (placeIn n ≡ p .index) × (byteIn 0 n ≡ p .total)

@@ -11,13 +11,15 @@ use Rattle.wire.specs.Writing.{writing}
 use Rattle.wire.proofs.Overs.{over-append, read-over}
 use Rattle.digits.specs.Decimal.{decimal, lineFeed, refusedLine}
 use Rattle.model.specs.Book.{Slot, Book, empty, collecting, disagree}
-use Rattle.model.specs.Finish.{isAbsent, isHeld, isDisputed, lowest, count}
+use Rattle.model.specs.Finish.{isAbsent, lowest}
 use Rattle.book.specs.Head.{readHead}
 use Rattle.book.specs.Read.{readPages, readBook, bookIn}
 use Rattle.book.specs.Tally.{inState}
 use Rattle.book.proofs.Judging.{judged-done, judge-passed, judge-refused}
 use Rattle.book.proofs.Decode.{ok-state, ok-head, head-allowed, total-range, book-0, book-1, book-2}
-use Rattle.book.proofs.Below.{in-absent, in-held, in-disputed, lowest-as, count-as, take-read}
+use Rattle.book.proofs.Below.{in-absent, lowest-as, take-read}
+use Rattle.status.specs.declared.standing.Numbers.{Numbers}
+use Rattle.status.specs.Numbers.{below}
 use Rattle.status.specs.Line.{field, pagesName, heldName, missingName, disputedName, firstName, noFirst, emptyLine, disagreeLine, firstField, pagesLine, bookLine, statusLine}
 
 -- a promise for what is the same
@@ -94,16 +96,14 @@ pages-laid t h m d k a b i j f x1 x2 x3 x4 x5 x6 p q r s u e =
     let g5 = grown-on l4 (firstField k t) x4 x5 j f 53 (omega arith) g4 (u .0, omega (arith, p .1, q .1, r .1, s .1, u .1), u .2) in
     grown-end (l4 ++ firstField k t) x6 x5 f (omega (arith, p .1, q .1, r .1, s .1, u .1)) g5 e
 
--- by the counts that the code took
-pub counted : (t h m d f : ℕ) (ss : List Slot) → h ≡ count (inState 1) ss → m ≡ count (inState 0) ss → d ≡ count (inState 2) ss → f ≡ lowest (inState 0) ss
-    → field pagesName t ++ field heldName h ++ field missingName m ++ field disputedName d ++ firstField f t ++ lineFeed ≡ pagesLine t ss
+-- by the numbers that the code took
+pub numbered : (n : Numbers) (t f : ℕ) (ss : List Slot) → n ≡ below t ss → f ≡ lowest (inState 0) ss
+    → field pagesName t ++ field heldName (n .held) ++ field missingName (n .missing) ++ field disputedName (n .disputed) ++ firstField f t ++ lineFeed
+    ≡ pagesLine t ss
 unfolding pagesLine
-counted t h m d f ss eh em ed ef =
-    let a : h ≡ count isHeld ss = eh ∙ count-as (inState 1) isHeld in-held ss in
-    let b : m ≡ count isAbsent ss = em ∙ count-as (inState 0) isAbsent in-absent ss in
-    let c : d ≡ count isDisputed ss = ed ∙ count-as (inState 2) isDisputed in-disputed ss in
+numbered n t f ss en ef =
     let e : f ≡ lowest isAbsent ss = ef ∙ lowest-as (inState 0) isAbsent in-absent ss in
-    rw (a, b, c, e)
+    rw (en, e)
 
 -- ---- the line of a collection: n is what the judge answered
 

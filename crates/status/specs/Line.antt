@@ -7,8 +7,10 @@ use Rattle.wire.specs.Answer.{choose, Answer, done, refusedAt}
 use Rattle.wire.specs.Ascii.{ascii}
 use Rattle.digits.specs.Decimal.{decimal, lineFeed, refusedLine}
 use Rattle.model.specs.Book.{Slot, Book, empty, collecting, disagree}
-use Rattle.model.specs.Finish.{isAbsent, isHeld, isDisputed, lowest, count}
+use Rattle.model.specs.Finish.{isAbsent, lowest}
 use Rattle.book.specs.Read.{bookIn}
+use Rattle.status.specs.declared.standing.Numbers.{Numbers}
+use Rattle.status.specs.Numbers.{below}
 
 -- a name, and the number behind it
 unfoldable pub field : List ℕ → ℕ → List ℕ
@@ -45,10 +47,13 @@ unfoldable pub firstField : ℕ → ℕ → List ℕ
 firstField k t = choose (ltb k t) (field firstName k) noFirst
 
 -- the total, how many pages below it are in each state, and the first that is missing (R9.12)
+abbrev pub numbersLine : Numbers → ℕ → List ℕ
+numbersLine n k =
+    field pagesName (n .total) ++ field heldName (n .held) ++ field missingName (n .missing) ++ field disputedName (n .disputed)
+    ++ firstField k (n .total) ++ lineFeed
+
 unfoldable pub pagesLine : ℕ → List Slot → List ℕ
-pagesLine t ss =
-    field pagesName t ++ field heldName (count isHeld ss) ++ field missingName (count isAbsent ss) ++ field disputedName (count isDisputed ss)
-    ++ firstField (lowest isAbsent ss) t ++ lineFeed
+pagesLine t ss = numbersLine (below t ss) (lowest isAbsent ss)
 
 -- a collection without a total has a word or two in place of numbers (R9.13)
 unfoldable pub bookLine : Book → List ℕ

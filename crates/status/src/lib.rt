@@ -1,4 +1,6 @@
-// The status line of a collection: R9.12 and R9.13.
+// Where a collection stands: as a line, R9.12 and R9.13, and as numbers (standing, R16.3).
+pub mod standing;
+
 ghost use mathlib.Core.Path.{_≡_};
 ghost use Prim.Native.Nat.{_+_, _≤_};
 ghost use lib.ListN.{length};
@@ -40,15 +42,13 @@ fn first(out: &mut [u8], at: usize, lowest: u8, total: u8) -> usize
 fn pages_line(c: &[u8], total: u8, out: &mut [u8]) -> Wrote
     ensures { λ r. ⌜ Written 0 (done (pagesLine total (readPages 0 total (now (c .entry))))) (now (out .entry)) (now (out .exit)) r ⌝ }
 {
-    let held = tally::count(c, total, block::HELD);
-    let missing = tally::count(c, total, block::ABSENT);
-    let disputed = tally::count(c, total, block::DISPUTED);
+    let n = standing::below(c, total);
     let lowest = tally::lowest(c, total, block::ABSENT);
     let mut room = [0u8; ROOM];
     let a = named(&mut room, 0, b"pages ", total);
-    let b = named(&mut room, a, b" held ", held);
-    let d = named(&mut room, b, b" missing ", missing);
-    let e = named(&mut room, d, b" disputed ", disputed);
+    let b = named(&mut room, a, b" held ", n.held);
+    let d = named(&mut room, b, b" missing ", n.missing);
+    let e = named(&mut room, d, b" disputed ", n.disputed);
     let f = first(&mut room, e, lowest, total);
     lend::put(&mut room, f, b'\n');
     let end = f + 1;

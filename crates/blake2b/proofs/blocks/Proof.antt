@@ -28,20 +28,17 @@ returns c = let e : c .before .loop .k ≡ c .before .before .before .args .n = 
 
 -- Found by search:
 
-mul-words : tie.Need-mul-words Inv-loop μ-loop
-mul-words c = omega arith
+mul-absorb : tie.Need-mul-absorb Inv-loop μ-loop
+mul-absorb c = omega arith
 
-words-requires : tie.Need-words-requires Inv-loop μ-loop
-words-requires c κs = omega arith
+add-absorb : tie.Need-add-absorb Inv-loop μ-loop
+add-absorb c = omega arith
 
-add-compress : tie.Need-add-compress Inv-loop μ-loop
-add-compress c = omega arith
+mul-absorb-2 : tie.Need-mul-absorb-2 Inv-loop μ-loop
+mul-absorb-2 c = omega arith
 
-mul-compress : tie.Need-mul-compress Inv-loop μ-loop
-mul-compress c = omega arith
-
-compress-requires : tie.Need-compress-requires Inv-loop μ-loop
-compress-requires c κs = search needs
+absorb-requires : tie.Need-absorb-requires Inv-loop μ-loop
+absorb-requires c κs = omega arith
 
 add-k : tie.Need-add-k Inv-loop μ-loop
 add-k c = omega arith
@@ -56,11 +53,10 @@ blocks-spec =
     Inv-loop
     μ-loop
     loop-holds
-    mul-words
-    words-requires
-    add-compress
-    mul-compress
-    compress-requires
+    mul-absorb
+    add-absorb
+    mul-absorb-2
+    absorb-requires
     add-k
     loop-less
     loop-again

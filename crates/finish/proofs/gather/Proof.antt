@@ -3,24 +3,24 @@
 use Prim.Native.Nat.{_-_}
 use native.Mathlib.Omega.{arith}
 use borrow.Author.Needs.{needs}
-use Rattle.finish.proofs.Gathering.{Gathered, gathered-none, gathered-on, gathered-end}
+use Rattle.finish.proofs.Gathering.{Gathering, gathering-none, gathering-on, gathering-end}
 use Rattle.finish.proofs.gather.Statement.{statement}
 use Rattle.finish.proofs.gather.Tie as tie
 
 abbrev Inv-loop : tie.InvT-loop
-Inv-loop c total out₀ len₀ page₀ out len page = Gathered c total out₀ page len out
+Inv-loop c total out₀ len₀ page₀ out len page = Gathering c total out₀ page len out
 
 abbrev μ-loop : tie.MeasureT-loop
 μ-loop c total out₀ len₀ page₀ out len page = total - page
 
 loop-holds : tie.Need-loop-holds Inv-loop μ-loop
-loop-holds c = search gathered-none
+loop-holds c = search gathering-none
 
 loop-again : tie.Need-loop-again Inv-loop μ-loop
-loop-again c = search gathered-on
+loop-again c = search gathering-on
 
 returns : tie.Need-returns Inv-loop μ-loop
-returns c = search gathered-end
+returns c = search gathering-end
 
 -- Found by search:
 

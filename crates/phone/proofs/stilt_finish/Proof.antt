@@ -1,6 +1,8 @@
 -- `stilt_finish` meets its contract. Assumes nothing.
 use borrow.Author.Needs.{needs}
-use Rattle.phone.proofs.Packing.{finish-most, finish-done, finish-refused}
+use Rattle.finish.specs.Finish.{told}
+use Rattle.phone.specs.Packed.{packedFinish}
+use Rattle.phone.proofs.Packing.{packs, finish-most}
 use Rattle.phone.proofs.stilt_finish.Statement.{statement}
 use Rattle.phone.proofs.stilt_finish.Tie as tie
 
@@ -8,10 +10,10 @@ pack-requires : tie.Need-pack-requires
 pack-requires c κs = search finish-most
 
 returns : tie.Need-returns
-returns c = (search finish-done, search needs)
+returns c = (search (packs packedFinish told), search needs)
 
 returns-2 : tie.Need-returns-2
-returns-2 c = (search finish-refused, search needs)
+returns-2 c = (search (packs packedFinish told), search needs)
 
 -- Found by search:
 

@@ -1,14 +1,16 @@
 -- `stilt_offer` meets its contract. Assumes nothing.
 use borrow.Author.Needs.{needs}
-use Rattle.phone.proofs.Packing.{offer-done, offer-refused}
+use Rattle.collection.specs.Answer.{toldKind}
+use Rattle.phone.specs.Packed.{packedKind}
+use Rattle.phone.proofs.Packing.{packs}
 use Rattle.phone.proofs.stilt_offer.Statement.{statement}
 use Rattle.phone.proofs.stilt_offer.Tie as tie
 
 returns : tie.Need-returns
-returns c = (search offer-done, search needs)
+returns c = (search (packs packedKind toldKind), search needs)
 
 returns-2 : tie.Need-returns-2
-returns-2 c = (search offer-refused, search needs)
+returns-2 c = (search (packs packedKind toldKind), search needs)
 
 -- Found by search:
 

@@ -1,6 +1,6 @@
 -- `status::pages_line` meets its contract. Assumes nothing.
 use mathlib.Core.Path.{sym, _∙_}
-use Rattle.status.proofs.Lines.{written-as, pages-laid, counted}
+use Rattle.status.proofs.Lines.{written-as, pages-laid, numbered}
 use borrow.Author.Needs.{needs}
 use Rattle.status.proofs.pages_line.Statement.{statement}
 use Rattle.status.proofs.pages_line.Tie as tie
@@ -14,21 +14,15 @@ returns c =
     let missing = disputed .before .before .before .before in
     let held = missing .before .before .before .before in
     let total = held .before .before .before .before in
-    let n = total .before .before .before in
+    let taken = total .before .before .before in
     let laid = pages-laid _ _ _ _ _ _ _ _ _ _ _ _ _ _ _ _ (total .named .ensures) (held .named2 .ensures) (missing .named3 .ensures) (disputed .named4 .ensures) (first .first .ensures) (ended .put .ensures) in
-    let said = counted _ _ _ _ _ _ (n .before .before .before .count .ensures) (n .before .before .count2 .ensures) (n .before .count3 .ensures) (n .lowest .ensures) in
+    let said = numbered _ _ _ _ (taken .before .below .ensures) (taken .lowest .ensures) in
     written-as _ _ _ _ _ (sym (laid ∙ said)) (written .give .ensures)
 
 -- Found by search:
 
-count-requires : tie.Need-count-requires
-count-requires c κs = search needs
-
-count-requires-2 : tie.Need-count-requires-2
-count-requires-2 c κs = search needs
-
-count-requires-3 : tie.Need-count-requires-3
-count-requires-3 c κs = search needs
+below-requires : tie.Need-below-requires
+below-requires c κs = search needs
 
 lowest-requires : tie.Need-lowest-requires
 lowest-requires c κs = search needs
@@ -103,9 +97,7 @@ pub pages-line-spec : {M : Type 1} → statement M
 pages-line-spec =
     tie.close
     (tie.spec
-    count-requires
-    count-requires-2
-    count-requires-3
+    below-requires
     lowest-requires
     slice-aggregate-named
     slice-aggregate-named-2
