@@ -40,7 +40,7 @@ struct scan {
 struct work {
     uint8_t into[STILT_COLLECTION_SIZE];
     uint8_t from[STILT_COLLECTION_SIZE];
-    uint8_t out[STILT_DOCUMENT_MOST];
+    uint8_t out[STILT_CIPHERTEXT_MOST];
     size_t out_length;
 };
 

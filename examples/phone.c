@@ -74,8 +74,7 @@ static void join_file(uint8_t *into, const char *name)
     fclose(file);
 }
 
-/* Where the collection stands now, on every screen line. */
-static void end_line(void)
+static void tell_standing(void)
 {
     uint64_t now = stilt_status(pages, sizeof pages, each, sizeof each);
     printf("; %u held, %u disputed, %u missing of %u%s", stilt_held(now), stilt_disputed(now),
@@ -99,7 +98,7 @@ static void join_pier(const char *name, const char *kept)
         memcpy(pages, both, sizeof pages);
     save_changes(kept);
     printf("%s is %s", name, worse ? "not joined, since it brings a dispute" : "joined");
-    end_line();
+    tell_standing();
 }
 
 /* Told once it is saved, since a clerk puts away the sheet that is told as held. */
@@ -120,7 +119,7 @@ static void scan(const char *line, size_t len, const char *kept)
             printf("%s%02x", i ? "" : "a page of another document, ", id[i]);
     else
         printf("page %u of %u is %s", stilt_place(seen), stilt_total(seen), stands[stilt_place(now)]);
-    end_line();
+    tell_standing();
 }
 
 static int finish(const char *name)
@@ -135,7 +134,7 @@ static int finish(const char *name)
     uint64_t answer = stilt_finish(pages, sizeof pages, out, sizeof out);
     if (stilt_number(answer)) {
         printf("not complete: %s", lacking[stilt_number(answer) - STILT_E_DISAGREE]);
-        end_line();
+        tell_standing();
         return 1;
     }
     FILE *file = fopen(name, "wb");

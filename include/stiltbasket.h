@@ -166,7 +166,7 @@ uint64_t stilt_join(uint8_t *into, size_t into_len, const uint8_t *from, size_t 
  * What to do after
  *     14  some sheets are of another print: open a new collection, and scan without those
  *     15  a page was read in two ways: open a new collection, scan all again, this page with care
- *     16  scan the pages that stilt_status says are missing
+ *     16  scan the pages that stilt_status says are missing: all, before the first was taken
  *     17  compare the id with the sheets'; if it is right, one of them is a forgery or of another
  *         print: open a new collection, and scan a bundle that comes from the harbour as a whole
  * What 14 and 15 say stays so in this collection, whatever is offered to it.
@@ -198,9 +198,9 @@ uint64_t stilt_frame(const uint8_t *frame, size_t frame_len, uint8_t *id, size_t
 
 /*
  * Writes the bytes of a text in base64, which is what a code square holds, to the front of `out`
- * (R16.5). 500 bytes of `out` are enough for every frame, whose text has at most 667 characters.
- * The alphabet is the usual one, with + and /, and there is no padding: = is refused. White space
- * is skipped (R5.2, R5.4).
+ * (R16.5). 500 bytes of `out` are enough for every frame, whose text has at most 667 characters; 11
+ * then says that the square is none of ours. The alphabet is the usual one, with + and /, and there
+ * is no padding: = is refused. White space is skipped (R5.2, R5.4).
  *
  * Refused with 1, then 2, then 11 (R5.5). Done: stilt_count is how many bytes were written.
  */
@@ -209,8 +209,9 @@ uint64_t stilt_base64(const char *text, size_t text_len, uint8_t *out, size_t ou
 /* ---- saving
  *
  * So that a crash, or an empty battery, leaves the last file or the new one and never a half: write
- * beside, sync, rename, sync the folder. `beside` is a name in the same folder. 1 where it is done.
- * Reading back, take exactly 49,664 bytes: stilt_status answers 13 for anything that is damaged.
+ * beside, sync, rename, sync the folder. `beside` is a name in the same folder; what a failure
+ * leaves there the next call writes over. 1 where it is done. (POSIX: <fcntl.h>, <stdio.h> and
+ * <unistd.h>.)
  *
  *     static int save(const char *folder, const char *beside, const char *name,
  *         const uint8_t *collection)
@@ -226,6 +227,10 @@ uint64_t stilt_base64(const char *text, size_t text_len, uint8_t *out, size_t ou
  *             close(dir);
  *         return ok;
  *     }
+ *
+ * To go on, read up to 49,665 bytes of the file, so that a longer one is seen too, and join them
+ * into a fresh collection of the id: stilt_join answers 13 where the file is damaged, and 12 where
+ * it is of another document.
  */
 
 #ifdef __cplusplus

@@ -1,10 +1,10 @@
 -- What an app shows by the calls for C (Showing: specs/Demand3.antt) holds, for every document id
 -- of 8 bytes. Assumes nothing.
 use mathlib.Core.Path.{_≡_, refl, sym, ap, _∙_}
-use mathlib.Core.Bool.{Bool, true, false, _&&_}
+use mathlib.Core.Bool.{true, _&&_}
 use mathlib.Core.Logic.{inl, inr, _↔_}
 use mathlib.Core.List.{List}
-use Prim.Native.Nat.{ℕ, _+_, _*_, _≤_, _<_}
+use Prim.Native.Nat.{ℕ, _≤_, _<_}
 use native.Mathlib.Omega.{arith}
 use borrow.Author.Tests.{le-leb, eq-eqb, eqb-true}
 use lib.Dec.{eqb}
@@ -16,12 +16,13 @@ use Rattle.wire.proofs.Overs.{read-over}
 use Rattle.wire.proofs.Cases.{passed, both-hold, then-passed, got-value}
 use Rattle.lend.specs.Same.{same}
 use Rattle.lend.proofs.Sames.{same-refl, same-eq}
-use Rattle.frame.specs.Frame.{Frame, idOf, frameOf}
+use Rattle.varint.proofs.Lengths.{varint-length-two}
+use Rattle.frame.specs.Frame.{Frame, idOf, dataOf, frameOf}
 use Rattle.frame.specs.Allowed.{Kind}
+use Rattle.frame.proofs.Lengths.{layout-length-short}
 use Rattle.frame.proofs.OnlyLayouts.{only-layouts}
 use Rattle.model.specs.Take.{Page}
-use Rattle.model.specs.Book.{Slot, Book, empty, collecting, disagree}
-use Rattle.model.specs.Finish.{isAbsent, isHeld, isDisputed, count}
+use Rattle.model.specs.Book.{Book, empty, collecting, disagree}
 use Rattle.model.proofs.Valid.{Valid}
 use Rattle.model.proofs.Counts.{count-three}
 use Rattle.book.specs.Read.{readBook, okBook}
@@ -135,6 +136,27 @@ module _ (raw out x : List ℕ) (n : ℕ) (y : Bytes raw) (room : 8 ≤ length o
       let r = frame-range raw e place h in
       omega (arith, a, z, r .0, r .1)
 
+  -- a frame with one byte each for INDEX and TOTAL, two for the length, and 480 of data
+  longest : (f : Frame) (next : ℕ) → frameOf raw ≡ got f next → length raw ≤ 500
+  longest f next e =
+      let w = only-layouts raw f next y e in
+      let a = w .allowed in
+      let d = dataOf raw f in
+      omega (
+        arith,
+        a .short,
+        ap length (w .whole),
+        layout-length-short (f .kind) (idOf raw) (f .index) (f .total) d (a .eight) (omega (arith, a .below, a .pages)) (omega (arith, a .pages)),
+        varint-length-two (length d) (omega (arith, a .short)),
+      )
+
+  pub told-short : numberIn n ≡ 0 → length raw ≤ 500
+  told-short z = go (frameOf raw) refl
+    where
+      go : (a : Got Frame) → frameOf raw ≡ a → length raw ≤ 500
+      go (done (f, next)) e = longest f next e
+      go (refusedAt e place) h = absurd (unseen e place h z)
+
   -- a good page of the document, and what is told of it
   module _ (id : List ℕ) where
     good : (p : Page) → Says id raw p → (f : Frame) × (next : ℕ) × SeenAs raw x n f next × (f .kind ≡ 0x44) × (id ≡ idOf raw) × (pageOf raw f ≡ p)
@@ -184,4 +206,5 @@ module _ (id : List ℕ) (eight : length id ≡ 8) where
     status = status-shows;
     ours = λ raw out x n y room k. seen-ours raw out x n y room k id;
     page = λ raw out x n p y room k g. told-page raw out x n y room k id p g;
+    short = told-short;
   }

@@ -99,3 +99,5 @@ pub record Showing (id : List ℕ) : Type 0 where
       → ((p : Page) × Says id raw p) ↔ ((numberIn n ≡ 0) × (byteIn 1 n ≡ 0x44) × (take idSize x ≡ id))
   pub page : (raw out x : List ℕ) (n : ℕ) (p : Page) → Bytes raw → idSize ≤ length out → Sees raw out x n → Says id raw p
       → (placeIn n ≡ p .index) × (byteIn 0 n ≡ p .total)
+  -- and no frame is longer: the header's STILT_FRAME_MOST
+  pub short : (raw out x : List ℕ) (n : ℕ) → Bytes raw → idSize ≤ length out → Sees raw out x n → numberIn n ≡ 0 → length raw ≤ 500

@@ -4,7 +4,7 @@ use mathlib.Core.Path.{_≡_, refl, sym, ap, _∙_}
 use mathlib.Core.Bool.{true}
 use mathlib.Core.Logic.{_⊎_, inl, inr}
 use mathlib.Core.List.{List, map}
-use Prim.Native.Nat.{ℕ, zero, suc, _≤_, _<_}
+use Prim.Native.Nat.{ℕ, _≤_, _<_}
 use native.Mathlib.Omega.{arith}
 use borrow.Author.Tests.{lt-ltb, le-ltb}
 use lib.ListN.{length, take, getD, length-map, List·getD-map}
@@ -13,7 +13,7 @@ use Rattle.wire.proofs.Cases.{lt-or-le}
 use Rattle.model.specs.Book.{Slot, absent, held, disputed, Book, empty, collecting, disagree, noPages, slotsOf}
 use Rattle.model.specs.Take.{Page}
 use Rattle.model.specs.Meaning.{SlotIs, BookIs}
-use Rattle.model.specs.Complete.{TotalsDisagree, Missing}
+use Rattle.model.specs.Complete.{Missing}
 use Rattle.model.specs.Finish.{isAbsent, isHeld, isDisputed, lowest, count}
 use Rattle.model.proofs.Valid.{ValidPages, Valid}
 use Rattle.model.proofs.Slots.{length-none, getD-none}

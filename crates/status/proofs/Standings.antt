@@ -12,7 +12,7 @@ use lib.Seq.{take-suc, take-all, length-take-le}
 use Rattle.wire.specs.Over.{over}
 use Rattle.wire.specs.Answer.{done, refused, numberOf, Kept}
 use Rattle.wire.proofs.Overs.{over-none, over-append, length-over}
-use Rattle.model.specs.Book.{Slot, absent, Book, empty, collecting, disagree}
+use Rattle.model.specs.Book.{Slot, absent}
 use Rattle.model.specs.Finish.{isAbsent, isHeld, isDisputed, count}
 use Rattle.block.specs.Block.{stateOf}
 use Rattle.block.specs.Read.{blockAt, readSlot}
