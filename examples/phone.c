@@ -1,6 +1,6 @@
 /*
- * An app to start from: scan lines in, screen lines out. A page is saved before it is told, so the
- * app may be dropped at any moment, and goes on where it was.
+ * An app to start from. It reads scans, a line each, and tells what each came to. A page is saved
+ * before it is told, so the app may be dropped at any moment, and goes on where it was.
  *
  *     phone ID KEPT FILE [OTHER ..] < scans
  *

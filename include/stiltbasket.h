@@ -37,8 +37,8 @@ extern "C" {
 
 /* ---- answers
  *
- * Each function answers one number (R16.2). These read it apart; behind each is said with which
- * answers it goes, and with all others it is 0.
+ * Each function answers one number (R16.2). These read it apart. Above each stands whose answers it
+ * is for; what it gives of another's means nothing.
  */
 
 /* 0 where the call is done, else why it was refused: one of the numbers below. */
@@ -103,7 +103,7 @@ static inline unsigned stilt_disputed(uint64_t answer)
 
 /* Why a call was refused (R2.2). The last word of 14, 15 and 16 is how a page stands. */
 #define STILT_E_CHARACTER 1   /* the text has a character that is none of base64's */
-#define STILT_E_LENGTH 2      /* the text has a length that no bytes have: it was cut */
+#define STILT_E_LENGTH 2      /* no bytes have a text of this length or end: it was cut */
 #define STILT_E_CUT 3         /* the frame ends inside a field, or has bytes left over */
 #define STILT_E_MAGIC 4       /* not a frame */
 #define STILT_E_VERSION 5     /* a frame of another version */

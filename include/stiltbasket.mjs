@@ -1,5 +1,5 @@
 /*
- * Stiltbasket for a page in the phone's browser: the seven functions of include/stiltbasket.h, over
+ * Stiltbasket for a web page on the phone: the seven functions of include/stiltbasket.h, over
  * the module phone.wasm that `tools/phone` makes. The header says what each does, what it refuses,
  * and what its numbers mean; here is only how JavaScript reaches them.
  *
