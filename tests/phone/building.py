@@ -47,12 +47,16 @@ def lacking(targets, standards):
     return sorted(tool for tool in tools if not shutil.which(tool))
 
 
+def language(standard):
+    """The words that have a file of C taken for C++."""
+    return ("-x", "c++") if standard.startswith("c++") else ()
+
+
 def compiled(target, source, output, standard, *more):
     """Compile one file of this folder; what make wrote lies beside the output."""
-    language = ("-x", "c++") if standard.startswith("c++") else ()
     include = (f"-I{os.path.join(ROOT, 'include')}", f"-I{os.path.dirname(output)}")
     subprocess.run([compiler(target, standard), f"-std={standard}", "-O2", *WARNINGS, *include,
-                    *more, *language, "-c", os.path.join(HERE, source), "-o", output], check=True)
+                    *more, *language(standard), "-c", os.path.join(HERE, source), "-o", output], check=True)
     return output
 
 

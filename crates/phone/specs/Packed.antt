@@ -15,26 +15,27 @@ use Rattle.status.specs.declared.standing.Numbers.{Numbers}
 abbrev pub packed : ℕ → ℕ → ℕ → ℕ
 packed number place count = number + 256 * place + 2 ^ 16 * count
 
+-- of an answer: what is made of its value, or the refusal's number and place
+abbrev pub packing : {A : Type 0} → (A → ℕ) → Answer A → ℕ
+packing f (done a) = f a
+packing f (refusedAt e place) = packed e place 0
+
 -- `stilt_open` and `stilt_join`, which are open and join (R16.1): the number alone (R16.2)
 abbrev pub packedAnswer : Answer Unit → ℕ
-packedAnswer (done u) = packed 0 0 0
-packedAnswer (refusedAt e place) = packed e place 0
+packedAnswer a = packing (λ u. packed 0 0 0) a
 
 -- `stilt_offer`, which is offer (R16.1): how the page stands takes the place of a place (R16.2)
 abbrev pub packedKind : Answer ℕ → ℕ
-packedKind (done kind) = packed 0 kind 0
-packedKind (refusedAt e place) = packed e place 0
+packedKind a = packing (λ kind. packed 0 kind 0) a
 
 -- `stilt_finish`, which is finish (R16.1): the number of bytes written, or a place (R16.2)
 abbrev pub packedFinish : Answer ℕ → ℕ
-packedFinish (done n) = packed 0 0 n
-packedFinish (refusedAt e place) = packed e place 0
+packedFinish a = packing (λ n. packed 0 0 n) a
 
 -- `stilt_status`: 3 in the place where the totals disagree (R9.5); the total, and how many pages
 -- are held, missing and disputed, are a byte each, the lowest first (R16.3)
 abbrev pub packedNumbers : Answer Numbers → ℕ
-packedNumbers (done n) = packed 0 (n .stands) (n .total + 2 ^ 8 * n .held + 2 ^ 16 * n .missing + 2 ^ 24 * n .disputed)
-packedNumbers (refusedAt e place) = packed e place 0
+packedNumbers a = packing (λ n. packed 0 (n .stands) (n .total + 2 ^ 8 * n .held + 2 ^ 16 * n .missing + 2 ^ 24 * n .disputed)) a
 
 -- what `stilt_frame` decides: a frame that is read, whose id goes to the front of what was lent; 11
 -- where that has no room for it (R16.4)
@@ -43,14 +44,12 @@ seeing s out = then (frameOf s) (λ (f, next). demand (leb idSize (length out)) 
 
 -- `stilt_frame`: its index is the place, its total and its type are a byte each (R16.4)
 abbrev pub packedFrame : Answer Frame → ℕ
-packedFrame (done f) = packed 0 (f .index) (f .total + 2 ^ 8 * f .kind)
-packedFrame (refusedAt e place) = packed e place 0
+packedFrame a = packing (λ f. packed 0 (f .index) (f .total + 2 ^ 8 * f .kind)) a
 
 -- `stilt_base64`, which reads base64: the number of bytes written, of which 48 bits have room; no
 -- memory has more (R16.5)
 abbrev pub packedText : Answer ℕ → ℕ
-packedText (done n) = packed 0 0 (n % 2 ^ 48)
-packedText (refusedAt e place) = packed e place 0
+packedText a = packing (λ n. packed 0 0 (n % 2 ^ 48)) a
 
 -- ---- the same, read apart: stilt_number, stilt_place and stilt_count of the header
 
