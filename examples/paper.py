@@ -30,10 +30,12 @@ def words(pdf):
     return [line.strip() for line in ghostscript("txtwrite", pdf).decode("utf-8").splitlines()]
 
 
-def text_to_type(lines):
-    """Those of a sheet's lines that are to be typed: they stand between two others."""
-    above, = [at for at, line in enumerate(lines) if line.endswith(" letters and digits")]
-    return lines[above + 1:-1]
+def lines_to_type(lines):
+    """Those of a sheet's lines that are to be typed, which stand between two others: each as its
+    number and its text."""
+    above, = [at for at, line in enumerate(lines) if line.startswith("To type of page ")]
+    cut = (line.partition(" ") for line in lines[above + 1:-1])
+    return [(number, text.strip()) for number, _, text in cut]
 
 
 def picture(pdf, harm=UNHARMED):

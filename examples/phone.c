@@ -9,6 +9,10 @@
  * another pier, and is joined in. Each line of the input is the text of a code square. Once every
  * page is there, and together they are the document, the ciphertext goes to FILE.
  *
+ * A page whose square is torn is typed: a line with the word `typed`, then the lines of the sheet
+ * one by one, then an empty line. A line that is told as wrong is typed again, and only that one.
+ * Of a page that is half typed nothing is kept.
+ *
  * The exit status is 0 where the document is complete, 1 where it is not, and 2 where a word or a
  * file is wrong. Pages are counted from 0, as on the sheets. Two runs at once need two KEPTs.
  *
@@ -28,6 +32,7 @@
 #include "stiltbasket.h"
 
 enum { LINE_MOST = 1024, NAME_MOST = 4096 }; /* no longer name can be opened */
+static char *line; /* of the input */
 static uint8_t pages[STILT_COLLECTION_SIZE], saved[STILT_COLLECTION_SIZE]; /* now, and in KEPT */
 static uint8_t each[STILT_PAGES]; /* how each page stands */
 
@@ -101,17 +106,19 @@ static void join_pier(const char *name, const char *kept)
     tell_standing();
 }
 
-/* Told once it is saved, since a clerk puts away the sheet that is told as held. */
-static void scan(const char *line, size_t len, const char *kept)
+/*
+ * A frame and how its text was read. Told once it is saved, since a clerk puts away the sheet that
+ * is told as held.
+ */
+static void take(const uint8_t *frame, uint64_t text, const char *again, const char *kept)
 {
     static const char *const stands[] = {"missing", "held", "disputed", "not kept: two totals"};
-    uint8_t frame[STILT_FRAME_MOST], id[STILT_ID_SIZE];
-    uint64_t text = stilt_base64(line, len, frame, sizeof frame);
+    uint8_t id[STILT_ID_SIZE];
     uint64_t seen = stilt_number(text) ? text : stilt_frame(frame, stilt_count(text), id, sizeof id);
     uint64_t now = stilt_number(seen) ? seen : stilt_offer(pages, sizeof pages, frame, stilt_count(text));
     save_changes(kept);
     if (stilt_number(seen))
-        printf("not read (%u): scan it again", stilt_number(seen));
+        printf("not read (%u): %s it again", stilt_number(seen), again);
     else if (stilt_type(seen) != STILT_MAIN)
         printf("no page, but %s", stilt_type(seen) == STILT_KEY ? "a key shard" : "a signature");
     else if (stilt_number(now))
@@ -120,6 +127,59 @@ static void scan(const char *line, size_t len, const char *kept)
     else
         printf("page %u of %u is %s", stilt_place(seen), stilt_total(seen), stands[stilt_place(now)]);
     tell_standing();
+}
+
+static void scan(size_t len, const char *kept)
+{
+    uint8_t frame[STILT_FRAME_MOST];
+    take(frame, stilt_base64(line, len, frame, sizeof frame), "scan", kept);
+}
+
+/* The length of the next line without its line feed, or -1 where there is none. */
+static ssize_t next_line(void)
+{
+    static size_t room;
+    ssize_t len = getline(&line, &room, stdin);
+    return len > 0 && line[len - 1] == '\n' ? len - 1 : len;
+}
+
+static void tell_typed(unsigned number, unsigned which)
+{
+    const char *said = number == 0 ? "is right"
+        : number == STILT_E_MISTYPED ? "was mistyped: type it again"
+        : number == STILT_E_CHARACTER ? "has a character that no sheet has (0, 2, l, v, a capital): type it again"
+        : "is too long, too short, or one too many: type it again";
+    printf("line %u %s\n", which, said);
+}
+
+/*
+ * Each line is judged as the last of those so far. They are right, so what is refused is this one,
+ * and it is left out again. A refused call changes nothing, so `frame` always has the bytes of the
+ * lines that are right.
+ */
+static void type_page(const char *kept)
+{
+    static char text[(STILT_LINES + 1) * (LINE_MOST + 1)];
+    uint8_t frame[STILT_FRAME_MOST];
+    uint64_t right = 0;
+    size_t end = 0; /* behind the line feed of the last line that is right */
+    unsigned which = 1;
+    printf("type line 1; an empty line ends the page\n");
+    for (ssize_t len; (len = next_line()) > 0;) {
+        uint64_t answer = STILT_E_LENGTH;
+        if (len <= LINE_MOST) {
+            memcpy(text + end, line, (size_t)len);
+            answer = stilt_typed(text, end + (size_t)len, frame, sizeof frame);
+        }
+        tell_typed(stilt_number(answer), which);
+        if (stilt_number(answer) == 0) {
+            right = answer;
+            end += (size_t)len;
+            text[end++] = '\n';
+            which++;
+        }
+    }
+    take(frame, right, "type", kept);
 }
 
 static int finish(const char *name)
@@ -147,8 +207,6 @@ static int finish(const char *name)
 int main(int argc, char **argv)
 {
     uint8_t id[STILT_ID_SIZE];
-    char *line = NULL;
-    size_t room = 0;
     setvbuf(stdout, NULL, _IOLBF, BUFSIZ);
     if (argc < 4 || strspn(argv[1], "0123456789abcdef") != 16 || argv[1][16] || !strcmp(argv[2], argv[3]))
         stop("phone", "ID KEPT FILE [OTHER ..] < scans; ID is 16 small hex digits, FILE is not KEPT");
@@ -160,10 +218,12 @@ int main(int argc, char **argv)
     memcpy(saved, pages, sizeof saved);
     for (int i = 4; i < argc; i++)
         join_pier(argv[i], argv[2]);
-    for (ssize_t len; (len = getline(&line, &room, stdin)) > 0;)
-        if (len - (line[len - 1] == '\n') > LINE_MOST)
+    for (ssize_t len; (len = next_line()) >= 0;)
+        if (len > LINE_MOST)
             printf("too long for a code square: passed over\n");
+        else if (len == 5 && !memcmp(line, "typed", 5)) /* no bytes are five characters of base64 */
+            type_page(argv[2]);
         else
-            scan(line, (size_t)len, argv[2]);
+            scan((size_t)len, argv[2]);
     return finish(argv[3]);
 }

@@ -32,6 +32,7 @@ extern "C" {
 #define STILT_COLLECTION_SIZE 49664 /* a head and 96 pages, blocks of 512 bytes (R8.1) */
 #define STILT_CIPHERTEXT_MOST 46080 /* 96 pages of 480 bytes (R3.8) */
 #define STILT_FRAME_MOST 500        /* a page of 480 bytes as a frame (R17.1, P12) */
+#define STILT_LINES 20              /* a page that is typed has at most so many (R5.8) */
 #define STILT_PAGES 96              /* a document has at most so many (R3.1) */
 #define STILT_ID_SIZE 8             /* the id of a document (R3.8) */
 
@@ -48,15 +49,16 @@ static inline unsigned stilt_number(uint64_t answer)
 }
 
 /*
- * The number of a page, counted from 0: of stilt_finish with 15 and 16, and of stilt_frame. How the
- * offered page stands: of stilt_offer. STILT_DISAGREE or 0: of stilt_status.
+ * The number of a page, counted from 0: of stilt_finish with 15 and 16, and of stilt_frame. The
+ * number of a line, counted from 1: of stilt_typed with 23. How the offered page stands: of
+ * stilt_offer. STILT_DISAGREE or 0: of stilt_status.
  */
 static inline unsigned stilt_place(uint64_t answer)
 {
     return (unsigned)((answer >> 8) & 0xFF);
 }
 
-/* How many bytes were written: of stilt_finish and stilt_base64. */
+/* How many bytes were written: of stilt_finish, stilt_base64 and stilt_typed. */
 static inline uint64_t stilt_count(uint64_t answer)
 {
     return answer >> 16;
@@ -102,8 +104,8 @@ static inline unsigned stilt_disputed(uint64_t answer)
 #define STILT_AUTH 0x41 /* a signature */
 
 /* Why a call was refused (R2.2). The last word of 14, 15 and 16 is how a page stands. */
-#define STILT_E_CHARACTER 1   /* the text has a character that is none of base64's */
-#define STILT_E_LENGTH 2      /* no bytes have a text of this length or end: it was cut */
+#define STILT_E_CHARACTER 1   /* the text has a character that is none of its alphabet's */
+#define STILT_E_LENGTH 2      /* no bytes have such a text: it was cut; of stilt_typed: see there */
 #define STILT_E_CUT 3         /* the frame ends inside a field, or has bytes left over */
 #define STILT_E_MAGIC 4       /* not a frame */
 #define STILT_E_VERSION 5     /* a frame of another version */
@@ -120,6 +122,7 @@ static inline unsigned stilt_disputed(uint64_t answer)
 #define STILT_E_MISSING 16    /* a page is missing: stilt_place is the lowest */
 #define STILT_E_CIPHERTEXT 17 /* every page is held, but they are another document than the id's */
 #define STILT_E_ID 19         /* the id is not 8 bytes */
+#define STILT_E_MISTYPED 23   /* a line was mistyped: stilt_place is the first such line, from 1 */
 
 /* ---- a collection */
 
@@ -205,6 +208,30 @@ uint64_t stilt_frame(const uint8_t *frame, size_t frame_len, uint8_t *id, size_t
  * Refused with 1, then 2, then 11 (R5.5). Done: stilt_count is how many bytes were written.
  */
 uint64_t stilt_base64(const char *text, size_t text_len, uint8_t *out, size_t out_len);
+
+/*
+ * Writes the bytes of a page that a clerk typed, where a square is torn, to the front of `out`
+ * (R16.6). 500 bytes of `out` are always enough. The text is all lines of the page, with a line
+ * feed between each two and none behind the last: behind it there would be one more line, an empty
+ * one, which is refused, so take it off. Of no bytes at all it makes none.
+ *
+ * A sheet has up to 20 lines of 42 characters; the last may be shorter, down to 3. The last two of
+ * a line check the others and the line's place on the sheet: one character typed for another, two
+ * before the check exchanged, or two full lines exchanged are always found (R5.15).
+ * Spaces, tabs and dashes are skipped. A carriage return is not: take it off too (R5.11).
+ *
+ * Refused, in this order, with 1, 2, 23 (with the line in stilt_place, counted from 1), then again
+ * 2, then 11 (R5.12). Done: stilt_count is how many bytes were written.
+ *
+ * What to tell the clerk after
+ *      1  a character is on no sheet: 0, 2, l, v and capital letters are not
+ *      2  a line is too long or too short, or there are more than 20 lines
+ *     23  line stilt_place was mistyped: type that one again
+ * Only 23 names a line. If you call it after each line, with all lines so far, every refusal is of
+ * the line that was just typed (2 also where it stands behind a short one), and you ask for that
+ * one again: examples/phone.c does so.
+ */
+uint64_t stilt_typed(const char *text, size_t text_len, uint8_t *out, size_t out_len);
 
 /* ---- saving
  *

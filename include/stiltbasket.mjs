@@ -1,5 +1,5 @@
 /*
- * Stiltbasket for a web page on the phone: the seven functions of include/stiltbasket.h, over
+ * Stiltbasket for a web page on the phone: the eight functions of include/stiltbasket.h, over
  * the module phone.wasm that `tools/phone` makes. The header says what each does, what it refuses,
  * and what its numbers mean; here is only how JavaScript reaches them.
  *
@@ -10,8 +10,9 @@
  *     const { number, place } = stilt.offer(collection, frame);
  *
  * Each function takes two Uint8Arrays, in the order of the header and without their lengths, and
- * writes into the one that the header's function writes into. It answers an object with all that
- * can be read from the header's one number; which of it goes with which function, the header says.
+ * writes into the one that the header's function writes into. A text may be a string. It answers an
+ * object with all that can be read from the header's one number; which of it goes with which
+ * function, the header says.
  */
 
 /* The parts of the answer, as the header's inline functions read them. */
@@ -54,8 +55,8 @@ export async function load(bytes) {
     }
 
     const { stilt_open, stilt_offer, stilt_join, stilt_finish } = instance.exports;
-    const { stilt_status, stilt_frame, stilt_base64 } = instance.exports;
-    /* A character that is none of base64's becomes bytes that are none either. */
+    const { stilt_status, stilt_frame, stilt_base64, stilt_typed } = instance.exports;
+    /* A character that is not ASCII becomes bytes that no text may have. */
     const bytesOf = (text) => typeof text === "string" ? new TextEncoder().encode(text) : text;
     return {
         open: (id, collection) => call(stilt_open, id, collection, collection),
@@ -65,6 +66,7 @@ export async function load(bytes) {
         status: (collection, pages) => call(stilt_status, collection, pages, pages),
         frame: (frame, id) => call(stilt_frame, frame, id, id),
         base64: (text, out) => call(stilt_base64, bytesOf(text), out, out),
+        typed: (text, out) => call(stilt_typed, bytesOf(text), out, out),
         exports: instance.exports, /* what the module has itself: for measuring */
     };
 }

@@ -1,4 +1,4 @@
-"""A run of `press`, `pantry` or `pier`, what the second program says of it, and documents."""
+"""A run of one of the programs, what the second program says of it, and documents."""
 
 import functools
 import os
@@ -10,6 +10,7 @@ from second.pantry import NO_FILE, Done, pantry
 from second.pier import printed
 from second.press import WrongWord, press, shown
 from second.sums import doc_id
+from second.typist import typist
 
 KEPT, FILE = "kept", "file"
 
@@ -36,6 +37,8 @@ def due(run):
         done = pantry(run.given, run.words, dict(run.files), FAULTS, run.launched)
     elif run.program == "press":
         done = Done(*press(run.given, run.words, run.regular), dict(run.files))
+    elif run.program == "typist":
+        done = Done(*typist(run.given, run.words), dict(run.files))
     else:
         done = Done(*pier(run.given, run.words), dict(run.files))
     return done if run.launched else done._replace(status=0)

@@ -6,7 +6,8 @@ from second.pantry import NEW
 from runs import FILE, KEPT, Document, Run
 
 # Of the stored runs those that are also run without a launcher: each answer of each program.
-BARE = {"press": ("twelve_pages", "typed_last", "nothing_to_print", "unknown_word", "help", "version", "size_wrong_0"),
+BARE = {"typist": ("full_page", "line_7_mistyped", "nothing", "one_byte_too_many", "unknown_word", "help", "version"),
+        "press": ("twelve_pages", "typed_last", "nothing_to_print", "unknown_word", "help", "version", "size_wrong_0"),
         "pantry": ("in_order", "lacking_ninety_five", "two_versions_and_lacking", "totals_disagree", "id_of_another_ciphertext", "empty", "lines_of_all_kinds",
                    "kept_absent_and_complete", "kept_resumed", "kept_resumed_and_nothing_new", "kept_damaged_head", "kept_of_another_document",
                    "kept_in_no_folder", "kept_is_a_folder", "kept_of_a_long_name", "to_complete", "to_complete_over_a_file", "to_not_complete_beside_a_file",

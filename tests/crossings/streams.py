@@ -13,11 +13,12 @@ from runs import Document, Run, due
 # Runs on input that cannot be read to its end: each form of output, and each file to make and to
 # change.
 UNREAD = ("twelve_pages", "typed_all", "typed_first", "in_order", "lacking_three", "kept_absent_and_complete", "kept_resumed",
-          "to_resumed_and_complete_over_a_file", "pier: complete")
+          "to_resumed_and_complete_over_a_file", "pier: complete", "full_page", "line_7_mistyped")
 
 # Runs whose output cannot be written, of which the last print nothing, so that it does not matter.
 UNWRITTEN = ("twelve_pages", "typed_all", "typed_first", "in_order", "kept_absent_and_complete", "kept_resumed", "pier: complete", "pier: missing",
-             "nothing_to_print", "unknown_word", "help", "lacking_three", "kept_absent", "to_complete", "words_help", "words_to_alone", "pier: words")
+             "nothing_to_print", "unknown_word", "help", "lacking_three", "kept_absent", "to_complete", "words_help", "words_to_alone", "pier: words", "full_page",
+             "line_7_mistyped")
 
 
 def streams(programs, runs):
@@ -76,7 +77,8 @@ def typed_in(programs):
     """Runs at a terminal, which are told first what is waited for (R15.5, R15.11)."""
     slip = Document(random.Random(20261120), 20)
     for run in (Run("typed in", "press", (), b"a ciphertext of one line\n"), Run("typed in", "pantry", (), slip.given()), Run("typed in", "pier", (), slip.given()),
-                Run("a wrong word", "press", ("-x",), b""), Run("a wrong word", "pantry", ("-x",), b""), Run("a wrong word", "pier", ("-x",), b"")):
+                Run("a wrong word", "press", ("-x",), b""), Run("a wrong word", "pantry", ("-x",), b""), Run("a wrong word", "pier", ("-x",), b""),
+                Run("a wrong word", "typist", ("-x",), b"")):
         near, far = os.openpty()
         os.write(near, run.given + b"\x04")
         wanted = due(run)

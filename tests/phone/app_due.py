@@ -8,11 +8,12 @@ import random
 from collections import namedtuple
 
 from second import collection
-from second.answers import (MISSING, OTHER_DOCUMENT, PAGE_DISPUTED, TOTALS_DISAGREE, WRONG_ID,
-                            Refusal, lend)
+from second.answers import (BAD_CHARACTER, BAD_LENGTH, MISSING, MISTYPED, OTHER_DOCUMENT,
+                            PAGE_DISPUTED, TOTALS_DISAGREE, WRONG_ID, Refusal, lend, refuse_if)
 from second.forms import base64_read, base64_write
 from second.frames import AUTH, KEY, MAIN, Frame, frame_read, frame_write, page_write
 from second.sums import doc_id
+from second.typing_lines import read_typed, write_typed
 
 KEPT, FILE = "kept", "file"
 NEW = KEPT + ".new"  # where a collection is written first
@@ -27,6 +28,12 @@ ADVICE = {
     MISSING: "scan the pages that are missing",
     WRONG_ID: "not the id's document: compare the id; if it is right, a sheet is forged or of another "
               "print: scan a bundle that comes from the harbour as a whole into a new KEPT",
+}
+TYPED, LONGEST = b"typed", 1024  # the word, and the most characters of a line
+TYPE_AGAIN = {
+    BAD_CHARACTER: "has a character that no sheet has (0, 2, l, v, a capital): type it again",
+    BAD_LENGTH: "is too long, too short, or one too many: type it again",
+    MISTYPED: "was mistyped: type it again",
 }
 WORDS = "ID KEPT FILE [OTHER ..] < scans; ID is 16 small hex digits, FILE is not KEPT"
 
@@ -62,15 +69,13 @@ def troubles(saved):
     return {"totals"} if disagree else set(collection.indices_in(book, collection.DISPUTED))
 
 
-def scanned(saved, line):
-    """The collection after a line, and what the screen says of it."""
-    if len(line) > 1024:
-        return saved, "too long for a code square: passed over"
+def taken(saved, read, text, again):
+    """The collection after a text that is read so, and what the screen says of it."""
     try:
-        raw = lend(500, base64_read(line))
+        raw = lend(500, read(text))
         frame = frame_read(raw)
     except Refusal as refusal:
-        return saved, f"not read ({refusal.number}): scan it again{standing(saved)}"
+        return saved, f"not read ({refusal.number}): {again} it again{standing(saved)}"
     if frame.type != MAIN:
         return saved, f"no page, but {'a key shard' if frame.type == KEY else 'a signature'}{standing(saved)}"
     try:
@@ -80,18 +85,61 @@ def scanned(saved, line):
     return saved, f"page {frame.index} of {frame.total} is {STANDS[kind]}{standing(saved)}"
 
 
+def scanned(saved, line):
+    """The collection after a scan, and what the screen says of it."""
+    if len(line) > LONGEST:
+        return saved, "too long for a code square: passed over"
+    return taken(saved, base64_read, line, "scan")
+
+
+def typed_behind(right, line):
+    """The lines that are right after one more, and what the screen says of it."""
+    which = len(right) + 1
+    try:
+        refuse_if(len(line) > LONGEST, BAD_LENGTH)
+        read_typed(b"\n".join([*right, line]))
+    except Refusal as refusal:
+        return right, f"line {which} {TYPE_AGAIN[refusal.number]}"
+    return [*right, line], f"line {which} is right"
+
+
+def joins(saved, files, others):
+    """After each join the collection, and what the screen says."""
+    for name in others:
+        both = joined(saved, files, name)
+        worse = troubles(both) - troubles(saved)
+        saved = saved if worse else both
+        yield saved, f"{name} is {'not joined, since it brings a dispute' if worse else 'joined'}{standing(saved)}"
+
+
+def inputs(saved, lines):
+    """After each line of the input the collection, and what the screen says."""
+    rest = iter(lines)
+    for line in rest:
+        if line == TYPED:
+            yield saved, "type line 1; an empty line ends the page"
+            right = []
+            for one in iter(lambda: next(rest, b""), b""):
+                right, told = typed_behind(right, one)
+                yield saved, told
+            saved, told = taken(saved, read_typed, b"\n".join(right), "type")
+        else:
+            saved, told = scanned(saved, line)
+        yield saved, told
+
+
+def turns(saved, files, others, lines):
+    """The joins, and then the lines of the input."""
+    for saved, told in joins(saved, files, others):
+        yield saved, told
+    yield from inputs(saved, lines)
+
+
 def session(files, ident, lines, others, screen):
     """A run: the files become what it leaves, and the screen gets its lines. The exit status."""
     saved = collection.open_collection(ident, collection.SIZE)
     saved = last = joined(saved, files, KEPT) if KEPT in files else saved
-    for event in (*others, *lines):
-        if isinstance(event, str):
-            both = joined(saved, files, event)
-            worse = troubles(both) - troubles(saved)
-            saved = saved if worse else both
-            told = f"{event} is {'not joined, since it brings a dispute' if worse else 'joined'}{standing(saved)}"
-        else:
-            saved, told = scanned(saved, event)
+    for saved, told in turns(saved, files, others, lines):
         if saved != last:
             files[KEPT] = last = saved
             files.pop(NEW, None)  # whatever a killed run has left there
@@ -128,6 +176,11 @@ def document(pages, last=17):
 def line_of(ident, index, total, data, kind=MAIN):
     """The scan of a frame."""
     return base64_write(frame_write(Frame(kind, ident, index, total, data)))
+
+
+def typed_of(line):
+    """What a clerk types instead of this scan, without the empty line at the end."""
+    return [TYPED, *write_typed(base64_read(line)).split(b"\n")]
 
 
 def collected(ident, lines):

@@ -7,10 +7,15 @@ import shutil
 import signal
 import subprocess
 import threading
+from itertools import chain
 
-from app_due import FILE, KEPT, NEW, WORDS, Done, bad_lines, collected, document, due, line_of
+from app_due import (FILE, KEPT, NEW, TYPE_AGAIN, TYPED, WORDS, Done, bad_lines, collected,
+                     document, due, line_of, typed_of)
 from faults_scenes import read
+from second.forms import base64_read
+from second.frames import KEY
 from second.sums import doc_id
+from second.typing_lines import check_of, write_typed
 
 LONGEST = 60  # seconds, for what takes a part of one
 
@@ -136,6 +141,64 @@ def bad(stage):
     stage.play("cut by hand", paper.id, [b" \t".join((paper.lines[11][:99], paper.lines[11][99:])) + b"\r"])
 
 
+def typed(stage):
+    """Whole pages are typed, in groups too, among scans; and so are pages that cannot be taken."""
+    paper, stranger = document(12), document(3)
+    stage.lay()
+    near = (b"typed ", b" typed", b"typedy", b"type", b"Typed", b"typed\0", b"typed\r")
+    stage.play("not the word", paper.id, [*near, paper.lines[0]])
+    stage.play("typed alone", paper.id, [*chain(*((*typed_of(page), b"") for page in paper.lines))])
+    stage.lay()
+    groups = [b" ".join(line[at:at + 6] for at in range(0, 42, 6)) for line in typed_of(paper.lines[2])[1:]]
+    among = [*paper.lines[:2], TYPED, *groups, b"", b"", *paper.lines[3:11], *typed_of(paper.lines[2]), b""]
+    stage.play("typed among scans", paper.id, among)
+    stage.play("typed at the end", paper.id, typed_of(paper.lines[11]), end=b"")
+    raw = base64_read(paper.lines[0])
+    frames = [raw[:-1] + bytes([raw[-1] ^ 1]), raw[:-25], b"", bytes(500)]
+    pages = [stranger.lines[0], line_of(paper.id, 0, 1, b"shard", KEY), line_of(paper.id, 0, 12, b"another")]
+    sheets = [*([TYPED, *write_typed(frame).split(b"\n")] for frame in frames), *map(typed_of, pages)]
+    stage.play("typed and not held", paper.id, [*chain(*((*sheet, b"") for sheet in sheets))])
+
+
+def slips(line, number):
+    """A line of a sheet as it must not be typed."""
+    yield line[:1] + line  # one character twice
+    yield line[1:] if len(line) == 42 else line[-2:]
+    yield from (line[:7] + other + line[8:] for other in (b"0", b"v", b"Y", b"\r", b"\0", b"\xc3"))
+    yield from (line.ljust(1025), line * 200, b" ", b"--", TYPED, b"quit")
+    yield line[:-1] + (b"b" if line[-1:] == b"y" else b"y")
+    at = next(at for at in range(40) if line[at:at + 1] != line[at + 1:at + 2])
+    yield line[:at] + line[at + 1:at + 2] + line[at:at + 1] + line[at + 2:]
+    yield line[:-2] + check_of(number + 1, line[:-2])  # the line of another place
+
+
+def mistyped(stage):
+    """Every line of a page is mistyped in every way before it is right; so are some others."""
+    paper = document(12)
+    word, *sheet = typed_of(paper.lines[4])
+    lines = [line for number, right in enumerate(sheet, start=1) for line in (*slips(right, number), right.ljust(1024))]
+    stage.lay()
+    told = stage.play("mistyped", paper.id, [word, *lines, sheet[0], b"", *paper.lines[:4]]).out.decode()
+    numbers = {why: set(re.findall(rf"^line (\d+) {re.escape(why)}$", told, re.M)) for why in TYPE_AGAIN.values()}
+    assert all(len(found) >= 20 for found in numbers.values()), f"lines are told as {numbers}"
+    assert "page 4 of 12 is held" in told and "line 21 " in told, "the page that is typed again is not held"
+    word, *short = typed_of(paper.lines[11])
+    stage.play("behind a short line", paper.id, [word, *short, short[0], sheet[1], b"", *paper.lines[5:11]])
+
+
+def half_typed(stage):
+    """The input ends within a page that is typed, at a line's end or not: nothing of it is kept."""
+    paper = document(12)
+    sheet = typed_of(paper.lines[4])
+    stage.lay()
+    for length in (1, 2, 20):
+        for end in (b"", b"\n"):
+            stage.play("half typed", paper.id, sheet[:length], end=end)
+    stage.play("cut within a line", paper.id, [*sheet[:7], sheet[7][:11]], end=b"")
+    stage.play("scans from then on", paper.id, [*sheet[:5], b"", *paper.lines[:3]])
+    stage.play("scans within it", paper.id, [*sheet[:5], *paper.lines[5:7], *sheet[5:], b"", paper.lines[7]])
+
+
 def versions(stage):
     """A page in two versions, and two totals: both stay."""
     paper = document(12)
@@ -209,6 +272,7 @@ def by_chance(stage):
     """Sessions of scans and others by chance."""
     rng, paper = random.Random(20261117), document(9)
     odd = [*bad_lines(paper), line_of(paper.id, 4, 9, b"another"), *(paper.lines[:1] * 5)]
+    words = {line: [*typed_of(line), b""] for line in paper.lines}
     for _ in range(12):
         scans = [rng.sample(paper.lines, 4) + rng.sample(odd, 2) for _ in range(2)]
         names = ["one", "other"]
@@ -216,7 +280,9 @@ def by_chance(stage):
         for _ in range(3):
             lines = rng.sample(paper.lines, rng.randrange(6)) + rng.sample(odd, rng.randrange(4))
             rng.shuffle(lines)
-            stage.play("by chance", paper.id, lines, rng.sample(names, rng.randrange(3)))
+            given = (words[line] if line in words and rng.random() < 0.3 else [line] for line in lines)
+            stage.play("by chance", paper.id, [*chain(*given)], rng.sample(names, rng.randrange(3)))
 
 
-PLAYS = (whole, dropped, killed, bad, versions, other_ciphertext, piers, refused, words, by_chance)
+PLAYS = (whole, dropped, killed, bad, typed, mistyped, half_typed, versions, other_ciphertext, piers, refused, words,
+         by_chance)

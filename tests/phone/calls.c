@@ -19,7 +19,7 @@
 #include "stiltbasket.h"
 
 #define FILL 0xA5
-#define FLIP 7
+#define FLIP 255
 #define REGISTERS 6
 #define MARGIN 64
 #define MOST 131072
@@ -124,6 +124,7 @@ static void make_call(uint8_t which)
     case 4: answer = stilt_status(a.bytes, a.len, b.bytes, b.len); break;
     case 5: answer = stilt_frame(a.bytes, a.len, b.bytes, b.len); break;
     case 6: answer = stilt_base64((const char *)a.bytes, a.len, b.bytes, b.len); break;
+    case 7: answer = stilt_typed((const char *)a.bytes, a.len, b.bytes, b.len); break;
     default: fprintf(stderr, "no such function\n"); exit(EXIT_FAILURE);
     }
     sum = crc32(crc32(0, a.summed, a.summed_len), b.summed, b.summed_len);

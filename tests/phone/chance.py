@@ -2,21 +2,21 @@
 
 A session is the crossing of one document: registers are opened for it, its pages offered to them in
 any order, among frames that are none of its pages, and the registers joined, finished, damaged and
-restored. Between such calls stand cheap ones, of stilt_frame and stilt_base64.
+restored. Between such calls stand cheap ones, of stilt_frame, stilt_base64 and stilt_typed.
 """
 
 import struct
 import zlib
 
 import expected
-from second.cases import framing, plain_forms
+from second.cases import framing, mistyping, plain_forms
 from second.cases.common import damaged, some_bytes, some_length, some_room
 from second.collection import SIZE
 from second.forms import base64_write
 from second.frames import AUTH, KEY, MAIN, Frame, frame_write
 from second.sums import doc_id
 
-FILL, MARGIN, REGISTERS, FLIP = b"\xa5", 64, 6, 7  # as in calls.c
+FILL, MARGIN, REGISTERS, FLIP = b"\xa5", 64, 6, 255  # as in calls.c
 MOST = 131072
 NAMES = list(expected.FUNCTIONS)
 
@@ -96,25 +96,42 @@ def some_frames(rng):
                           framing.recovered(damaged(rng, raw).ljust(4, b"A"))))
 
 
-def text_by_chance(rng):
-    """A text and the room that it is given: good, spaced, damaged, of any characters."""
+def base64_by_chance(rng):
+    """A text in base64 and the room that it is given: good, spaced, damaged, of any characters."""
     form, data = plain_forms.BASE64, some_bytes(rng, some_length(rng, 600))
     text = base64_write(data)
     text = rng.choice((text, plain_forms.spaced(rng, form, text), damaged(rng, text),
                        text + b"=" * (-len(text) % 4), rng.randbytes(rng.randrange(20)),
                        plain_forms.some_text(rng, form, rng.randrange(40))))
-    return text, min(some_room(rng, len(data)), rng.choice((500, 600, 1000)))
+    return text, some_room(rng, len(data))
 
 
-def some_texts(rng):
-    """Every edge of base64 once, in any order, and then texts by chance without end."""
-    lines = (line.split() for line in plain_forms.text_edges(plain_forms.BASE64)(rng))
-    edges = [(bytes.fromhex(text.decode().strip("-")), int(length))
-             for verb, text, length in lines if verb == b"base64-read"]
-    rng.shuffle(edges)
-    yield from (edge for edge in edges if len(edge[0]) <= MOST)
+def typed_by_chance(rng):
+    """Typed lines and the room that they are given."""
+    data, text = mistyping.some_lines(rng)
+    return text, some_room(rng, len(data))
+
+
+def some_texts(rng, verb, edges, by_chance):
+    """Every edge of a verb of the desk once, in any order, and then texts by chance without end."""
+    calls = [(bytes.fromhex(text.decode().strip("-")), int(length))
+             for one, text, length in map(bytes.split, edges) if one == verb]
+    rng.shuffle(calls)
+    yield from (call for call in calls if len(call[0]) <= MOST)
     while True:
-        yield text_by_chance(rng)
+        text, length = by_chance(rng)
+        yield text, min(length, rng.choice((500, 600, 1000)))
+
+
+def some_base64(rng):
+    """Texts in base64."""
+    edges = plain_forms.text_edges(plain_forms.BASE64)(rng)
+    return some_texts(rng, b"base64-read", edges, base64_by_chance)
+
+
+def some_typed(rng):
+    """Typed lines."""
+    return some_texts(rng, b"typed-read", mistyping.edges(rng), typed_by_chance)
 
 
 # Calls on registers.
@@ -237,12 +254,14 @@ def sessions(rng, calls):
 
 def made(rng, count):
     """So many calls, or a few more."""
-    calls, frames, texts = Calls(), some_frames(rng), some_texts(rng)
+    calls, frames = Calls(), some_frames(rng)
+    texts = {"base64": some_base64(rng), "typed": some_typed(rng)}
     crossing = sessions(rng, calls)
     while len(calls.wanted) < count:
         next(crossing)
         length = rng.choice((8, 8, 8, rng.randrange(17)))
         calls.call("frame", next(frames) or None, room(rng, length))
-        text, length = next(texts)
-        calls.call("base64", text or None, room(rng, length))
+        for name, some in texts.items():
+            text, length = next(some)
+            calls.call(name, text or None, room(rng, length))
     return calls

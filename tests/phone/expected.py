@@ -8,6 +8,7 @@ from second import collection
 from second.answers import NO_ROOM, Refusal, lend, refuse_if
 from second.forms import base64_read
 from second.frames import MOST_PAGES, frame_read
+from second.typing_lines import read_typed
 
 
 def packed(number=0, place=0, *others):
@@ -82,6 +83,14 @@ def base64(text, lent):
     return judged(lent, work)
 
 
+def typed(text, lent):
+    """stilt_typed: 1, 2, 23 with the line's number, 2, then 11 (R16.6)."""
+    def work():
+        data = lend(len(lent), read_typed(text))
+        return len(data) << 16, data
+    return judged(lent, work)
+
+
 # In the order of the header: the function, which of its two slices it may write, and the numbers
 # that it can answer.
 FRAME_FAULTS = set(range(3, 11))
@@ -93,4 +102,5 @@ FUNCTIONS = {
     "status": (status, 1, {0, 11, 13}),
     "frame": (frame, 1, {0, 11} | FRAME_FAULTS),
     "base64": (base64, 1, {0, 1, 2, 11}),
+    "typed": (typed, 1, {0, 1, 2, 11, 23}),
 }

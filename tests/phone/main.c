@@ -1,54 +1,17 @@
 /*
- * The phone's seven functions (R16.1), called as an app would: a scan that is dropped and resumed,
- * two piers joined, a damaged file, a wrong size, null for an empty slice, what a screen shows.
- * Every byte that a call is lent is compared afterwards (R1.2).
+ * Six of the phone's eight functions (R16.1), called as an app would: a scan that is dropped and
+ * resumed, two piers joined, a damaged file, a wrong size, null for an empty slice, what a screen
+ * shows. Every byte that a call is lent is compared afterwards (R1.2). The two that read texts are
+ * in texts.c.
  *
  * The frames and what they come to are made by tests/phone/make, which knows nothing of the
  * library. The file is C99, C11 and C++17 at once, as the header is.
  */
-#include <stdio.h>
-#include <stdlib.h>
 #include <string.h>
 
 #include "stiltbasket.h"
 #include "pages.h"
-
-static int failed;
-
-#define EXPECT(condition)                                                     \
-    do {                                                                      \
-        if (!(condition)) {                                                   \
-            printf("FAILED  line %d: %s\n", __LINE__, #condition);            \
-            failed++;                                                         \
-        }                                                                     \
-    } while (0)
-
-#define FILL 0xA5
-
-/* A buffer with a margin on each side, so that a write outside is seen (R1.1). */
-struct lent {
-    uint8_t before[64];
-    uint8_t bytes[STILT_COLLECTION_SIZE];
-    uint8_t after[64];
-};
-
-static int all(const uint8_t *bytes, size_t n, uint8_t value)
-{
-    for (size_t i = 0; i < n; i++)
-        if (bytes[i] != value)
-            return 0;
-    return 1;
-}
-
-static void fill(struct lent *l)
-{
-    memset(l, FILL, sizeof *l);
-}
-
-static int margins(const struct lent *l)
-{
-    return all(l->before, sizeof l->before, FILL) && all(l->after, sizeof l->after, FILL);
-}
+#include "expect.h"
 
 static void open_ok(struct lent *c)
 {
@@ -334,48 +297,6 @@ static void frames(void)
     EXPECT(stilt_frame(NULL, 0, NULL, 0) == STILT_E_CUT);
 }
 
-/* The bytes of a text, in just enough room and in more (R16.5). */
-static void text_is(const char *text, const uint8_t *bytes, size_t count)
-{
-    static struct lent out;
-    const size_t rooms[] = {count, sizeof out.bytes};
-    for (size_t i = 0; i < 2; i++) {
-        fill(&out);
-        EXPECT(stilt_base64(text, strlen(text), out.bytes, rooms[i]) == (uint64_t)count << 16);
-        EXPECT(memcmp(out.bytes, bytes, count) == 0);
-        EXPECT(all(out.bytes + count, sizeof out.bytes - count, FILL) && margins(&out));
-    }
-}
-
-static void text_refused(const char *text, size_t len, size_t room, unsigned number)
-{
-    static struct lent out;
-    fill(&out);
-    EXPECT(stilt_base64(text, len, out.bytes, room) == number);
-    EXPECT(all((const uint8_t *)&out, sizeof out, FILL));
-}
-
-/* 1, then 2, then 11 (R5.5). The largest frame and its text are as long as the header says. */
-static void texts(void)
-{
-    size_t len = strlen(PAGE_0_TEXT);
-    EXPECT(PAGES[0].len == STILT_FRAME_MOST && len == 667);
-    text_is(PAGE_0_TEXT, PAGES[0].bytes, PAGES[0].len);
-    text_is(PAGE_0_SPACED, PAGES[0].bytes, PAGES[0].len);
-    text_is("QVA", (const uint8_t *)"AP", 2);
-    text_is(" \t\n\v\f\r", (const uint8_t *)"", 0);
-    text_refused("QVA=", 4, 10, STILT_E_CHARACTER);
-    text_refused("QV-_", 4, 10, STILT_E_CHARACTER);
-    text_refused("QVBB=", 5, 0, STILT_E_CHARACTER);
-    text_refused("QV\0B", 4, 10, STILT_E_CHARACTER);
-    text_refused("QVBBQ", 5, 0, STILT_E_LENGTH);
-    text_refused("QVB", 3, 0, STILT_E_LENGTH);
-    text_refused(PAGE_0_TEXT, len - 2, STILT_FRAME_MOST, STILT_E_LENGTH);
-    text_refused(PAGE_0_TEXT, len, PAGES[0].len - 1, STILT_E_ROOM);
-    EXPECT(stilt_base64(PAGE_0_TEXT, len, NULL, 0) == STILT_E_ROOM);
-    EXPECT(stilt_base64(NULL, 0, NULL, 0) == 0);
-}
-
 int main(void)
 {
     dropped_and_resumed();
@@ -387,10 +308,5 @@ int main(void)
     no_ciphertext();
     status_refusals();
     frames();
-    texts();
-    if (failed)
-        printf("%d expectations failed\n", failed);
-    else
-        puts("every expectation holds");
-    return failed ? EXIT_FAILURE : EXIT_SUCCESS;
+    return verdict();
 }

@@ -22,6 +22,7 @@ let paint = 0xA5;
 const functions = [
     [stilt.open, 1], [stilt.offer, 0], [stilt.join, 0], [stilt.finish, 1],
     [stilt.status, 1], [stilt.frame, 1], [(text, out) => stilt.base64(asString(text), out), 1],
+    [(text, out) => stilt.typed(asString(text), out), 1],
 ];
 
 /* A page has its text as a string; one with other bytes than ASCII cannot be such a string. */

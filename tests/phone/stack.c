@@ -1,5 +1,5 @@
 /*
- * How many bytes of stack each of the phone's seven functions needs. The memory that serves as the
+ * How many bytes of stack each of the phone's eight functions needs. The memory that serves as the
  * stack is painted, a call is made on it, and the lowest byte that lost its paint tells how deep
  * the call went. Two paints are tried, since a byte may be written with the value of one.
  *
@@ -19,9 +19,9 @@
 
 #define FRAME(page) (LARGE_PAGES + (page) * STILT_FRAME_MOST)
 
-enum which { OPEN, OFFER, JOIN, FINISH, STATUS, READ_FRAME, BASE64, FUNCTIONS, NOTHING };
+enum which { OPEN, OFFER, JOIN, FINISH, STATUS, READ_FRAME, BASE64, TYPED, FUNCTIONS, NOTHING };
 
-static const char *const NAMES[FUNCTIONS] = {"open", "offer", "join", "finish", "status", "frame", "base64"};
+static const char *const NAMES[FUNCTIONS] = {"open", "offer", "join", "finish", "status", "frame", "base64", "typed"};
 
 static size_t most[FUNCTIONS];
 
@@ -53,6 +53,7 @@ static __attribute__((noinline)) void make_call(void)
     case STATUS: asked.answer = stilt_status(read, n, written, m); break;
     case READ_FRAME: asked.answer = stilt_frame(read, n, written, m); break;
     case BASE64: asked.answer = stilt_base64((const char *)asked.read, n, written, m); break;
+    case TYPED: asked.answer = stilt_typed((const char *)asked.read, n, written, m); break;
     default: asked.answer = nothing(read, n, written, m); break;
     }
 }
@@ -160,6 +161,8 @@ int main(void)
     measure(STATUS, odd, sizeof odd, out, STILT_PAGES, (uint64_t)STILT_PAGES << 16 | (uint64_t)STILT_PAGES << 24);
     measure(READ_FRAME, FRAME(95), STILT_FRAME_MOST, out, STILT_ID_SIZE, (uint64_t)STILT_MAIN << 24 | (uint64_t)STILT_PAGES << 16 | 95 << 8);
     measure(BASE64, LARGE_TEXT, strlen(LARGE_TEXT), out, STILT_FRAME_MOST, (uint64_t)STILT_FRAME_MOST << 16);
+    measure(TYPED, LARGE_TYPED, strlen(LARGE_TYPED), out, STILT_FRAME_MOST, (uint64_t)STILT_FRAME_MOST << 16);
+    measure(TYPED, LARGE_MISTYPED, strlen(LARGE_MISTYPED), out, STILT_FRAME_MOST, STILT_LINES << 8 | STILT_E_MISTYPED);
     offer(odd, LARGE_AGAIN, STILT_DISPUTED);
     join(none, odd);
     offer(odd, LARGE_OTHER, STILT_DISAGREE);

@@ -1,5 +1,5 @@
 /*
- * The phone's seven functions over phone.wasm, so that a test that is written in C calls
+ * The phone's eight functions over phone.wasm, so that a test that is written in C calls
  * WebAssembly: each call goes through a pipe to node, which runs tests/phone/serve.mjs. It stands
  * in for libphone.a, and the test is run from the top of the tree.
  *
@@ -127,4 +127,9 @@ uint64_t stilt_frame(const uint8_t *frame, size_t frame_len, uint8_t *id, size_t
 uint64_t stilt_base64(const char *text, size_t text_len, uint8_t *out, size_t out_len)
 {
     return call(6, text, text_len, out, out_len, out, out_len);
+}
+
+uint64_t stilt_typed(const char *text, size_t text_len, uint8_t *out, size_t out_len)
+{
+    return call(7, text, text_len, out, out_len, out, out_len);
 }

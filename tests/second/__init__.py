@@ -6,6 +6,7 @@ subject of them, and each function that judges by a rule gives its number:
     answers     the numbers that a call may answer
     cursor      reading fields from left to right
     forms       varints and the two text forms
+    typing_lines  typed lines, written and read, and one line by itself
     sums        CRC-32, SHA-256, BLAKE2b, the document id
     frames      frames, printed pages, key and auth frames
     cbor        CBOR items, read and written
@@ -17,6 +18,7 @@ subject of them, and each function that judges by a rule gives its number:
     pier        the small program: scans in, a status line out
     press       the program of the harbour
     pantry      the program of the pantry
+    typist      the program that makes a scan of typed lines
     desk        the call desk: lines in, lines out
 
 The rest is for trying it out: `cases` makes calls, `stored` the run that is

@@ -10,6 +10,7 @@ from . import collection, envelope, forms, frames, payloads, sums
 from .answers import WITH_PLACE, Refusal, lend
 from .floats import float_read, float_write
 from .manifest import File, Manifest, manifest_read, manifest_write
+from .typing_lines import read_typed, write_typed
 from .verbs import ALL
 
 LONGEST_LINE = 262144  # D1.5
@@ -115,7 +116,7 @@ def varint_write(number, room):
 
 
 def through(function):
-    """A verb that turns bytes or text into the other within ROOM (D2.2)."""
+    """A verb that turns bytes or text into the other within ROOM (D2.2, D2.13)."""
     return lambda given, room: [lend(room, function(given))]
 
 
@@ -171,6 +172,8 @@ PLAIN = {
     "base64-write": ((BYTES, ROOM), through(forms.base64_write)),
     "zbase32-read": ((BYTES, ROOM), through(forms.zbase32_read)),
     "zbase32-write": ((BYTES, ROOM), through(forms.zbase32_write)),
+    "typed-read": ((BYTES, ROOM), through(read_typed)),
+    "typed-write": ((BYTES, ROOM), through(write_typed)),
     "crc": ((BYTES,), one(sums.crc)),
     "sha256": ((BYTES,), one(sums.sha256)),
     "blake2b": ((BYTES,), one(sums.blake2b)),
@@ -244,7 +247,7 @@ class Desk:
             return self.refused(refusal)
 
     def refused(self, refusal):
-        """The number, and the place for 15, 16 and 21 (D1.7)."""
+        """The number, and the place for 15, 16, 21 and 23 (D1.7)."""
         with_place = refusal.number in WITH_PLACE
         return f"{refusal.number} {refusal.place}" if with_place else f"{refusal.number}"
 

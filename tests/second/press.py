@@ -5,12 +5,14 @@ import re
 from itertools import chain
 
 from .answers import INDEX_TOTAL, OUT_OF_RANGE, TOO_LARGE, Refusal, refuse_if
-from .forms import base64_write, zbase32_write
+from .forms import base64_write
 from .frames import MOST_DATA, MOST_PAGES, page_write
 from .sums import doc_id
+from .typing_lines import write_typed
 
 MOST = MOST_PAGES * MOST_DATA  # R3.8
 FRAME_ROOM = 512
+GROUP = 6  # characters, R15.4
 DECIMAL = re.compile(r"[0-9]{1,4096}")  # R15.5
 
 
@@ -127,5 +129,11 @@ def id_line(ciphertext):
 
 
 def typed(pages, number):
-    """A page's place, counted from 0, and its text (R15.4)."""
-    return [b"page %d of %d" % (number, len(pages)), zbase32_write(pages[number])]
+    """A page's place, counted from 0, and its typed lines (R15.4)."""
+    lines = write_typed(pages[number]).split(b"\n")
+    return [b"page %d of %d" % (number, len(pages)), *map(grouped, lines)]
+
+
+def grouped(line):
+    """A line in groups with a space between them (R15.4)."""
+    return b" ".join(line[at:at + GROUP] for at in range(0, len(line), GROUP))

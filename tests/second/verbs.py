@@ -6,8 +6,8 @@ When verbs land, move them from LATER to LANDED, then run
 
 LANDED = [
     "varint-read", "varint-write", "base64-read", "base64-write", "zbase32-read",
-    "zbase32-write", "crc", "sha256", "blake2b", "doc-id", "frame-read", "page-write",
-    "key-write", "auth-frame-write",
+    "zbase32-write", "typed-read", "typed-write", "crc", "sha256", "blake2b", "doc-id",
+    "frame-read", "page-write", "key-write", "auth-frame-write",
     "float-read", "float-write",
     "load", "save", "open", "offer", "join", "finish", "mend", "status",
     "auth-read", "auth-write", "auth-signed", "shard-read", "shard-write", "shard-signed",
@@ -27,6 +27,8 @@ GIVES = {
     "base64-write": (0, 11),
     "zbase32-read": (0, 1, 2, 11),
     "zbase32-write": (0, 11),
+    "typed-read": (0, 1, 2, 11, 23),
+    "typed-write": (0, 9, 11),
     "crc": (0,),
     "sha256": (0,),
     "blake2b": (0,),

@@ -64,11 +64,13 @@ pub(crate) fn refused(out: &mut Reply, no: u8) -> usize {
     decimal(out, 0, no as u64)
 }
 
-// A refusal that may have a place: 15, 16 and 21 have one (D1.7).
+// A refusal that may have a place: 15, 16, 21 and 23 have one (D1.7).
 pub(crate) fn refused_at(out: &mut Reply, no: u8, place: u64) -> usize {
     let at = refused(out, no);
     match no {
-        wire::PAGE_DISPUTED | wire::PAGE_MISSING | wire::BAD_CONTENTS => number(out, at, place),
+        wire::PAGE_DISPUTED | wire::PAGE_MISSING | wire::BAD_CONTENTS | wire::MISTYPED => {
+            number(out, at, place)
+        }
         _ => at,
     }
 }

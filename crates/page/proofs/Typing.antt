@@ -20,8 +20,8 @@ use Rattle.varint.proofs.Lengths.{varint-length-two}
 use Rattle.document_id.specs.Id.{documentId}
 use Rattle.document_id.proofs.Ids.{id-length}
 use Rattle.frame.specs.Layout.{layout}
-use Rattle.frame.proofs.Lengths.{layout-length-short}
-use Rattle.page.specs.Page.{pageData, countOf, pageVerdict, typed}
+use Rattle.frame.proofs.Lengths.{layout-length, layout-length-short}
+use Rattle.page.specs.Page.{pageCount, pageData, pageFrame, countOf, pageVerdict, typed}
 use Rattle.page.proofs.Pages.{page-length}
 use Rattle.page.proofs.Cutting.{counted-facts}
 
@@ -38,6 +38,11 @@ frame-short c size number bs e =
         let f = counted-facts (length c) size n h in
         let d = page-length c size (f .1) number in
         omega (arith, f .2, f .4, layout-length-short 0x44 (documentId c) number n (pageData c size number) (id-length c) (omega (arith, f .4)) (omega (arith, f .4)), varint-length-two (length (pageData c size number)) (omega (arith, f .2)))
+
+-- and it is not empty
+pub frame-some : (c : List ℕ) (size number : ℕ) → 1 ≤ length (pageFrame c size number)
+unfolding pageFrame
+frame-some c size number = omega (arith, layout-length 0x44 (documentId c) number (pageCount (length c) size) (pageData c size number) (id-length c))
 
 -- for `search`, of both forms: made is what the frame's writer answered, and room' what it left in
 -- the room

@@ -113,8 +113,8 @@ pub fn write_base64(c: &[u8], size: usize, number: usize, out: &mut [u8]) -> Wro
     text::base64_write(&room[0..len], out)
 }
 
-// Page `number` of the document as the z-base-32 text that is typed below the square, at the front
-// of out; or 19, 9, 8, 11, in that order, and nothing changed.
+// Page `number` of the document as its z-base-32 text, at the front of out; or 19, 9, 8, 11, in
+// that order, and nothing changed.
 pub fn write_zbase32(c: &[u8], size: usize, number: usize, out: &mut [u8]) -> Wrote
     ensures { λ r. ⌜ Written 0 (typed zbase32 (pageVerdict (now (c .entry)) size number)) (now (out .entry)) (now (out .exit)) r ⌝ }
 {

@@ -1,13 +1,18 @@
 -- A call's answer as one number, over plain values. Assumes nothing.
-use Prim.Native.Nat.{ℕ, _≤_, _<_}
+use Prim.Native.Nat.{ℕ, _+_, _≤_, _<_}
 use mathlib.Core.Path.{_≡_, sym, ap, _∙_}
 use mathlib.Core.List.{List}
 use native.Mathlib.Omega.{arith}
 use lib.Dec.{leb}
 use lib.ListN.{length}
 use Rattle.wire.specs.Answer.{Answer, done, Change, answerOf, Kept}
+use Rattle.wire.specs.Writing.{writing}
 use Rattle.wire.proofs.Cases.{passed, then-done, done-value}
 use Rattle.lend.specs.Same.{same}
+use Rattle.typed.specs.Typed as T
+use Rattle.typed.specs.declared.TypedRead.{TypedRead}
+use Rattle.typed.specs.declared.TypedRead.the-variants as L
+use Rattle.typed.proofs.Round.{read-short}
 use Rattle.document_id.specs.Id.{documentId}
 use Rattle.model.proofs.Finished.{finish-short}
 use Rattle.book.specs.Read.{idOf, bookIn}
@@ -56,3 +61,13 @@ finish-most c out x r n k h =
     let t = then-done (F.delivering out (F.finished c out)) _ (sym (sym (ap F.told h) ∙ k .answer)) in
     let (d, e, q) = then-done (F.finished c out) _ (t .1) in
     omega (arith, finished-most c out d e, ap (λ p. p .1) (done-value q), done-value (t .2))
+
+-- ---- typed lines have at most 500 bytes
+
+pub typed-most : (cs out x : List ℕ) (r : TypedRead) (n : ℕ) → T.ReadLines (T.readTyped cs) out x r → r ≡ L.Done n → n < 0x1000000000000
+unfolding writing
+typed-most cs out x r n k h =
+    let t = then-done (writing 0 out (T.readTyped cs)) _ (sym (sym (ap T.told h) ∙ k .answer)) in
+    let (d, e, q) = then-done (T.readTyped cs) _ (t .1) in
+    let u = passed (leb (0 + length d) (length out)) _ 11 q in
+    omega (arith, read-short cs d e, ap (λ p. p .1) (done-value (u .1)), done-value (t .2))

@@ -51,6 +51,11 @@ packedFrame a = packing (λ f. packed 0 (f .index) (f .total + 2 ^ 8 * f .kind))
 abbrev pub packedText : Answer ℕ → ℕ
 packedText a = packing (λ n. packed 0 0 (n % 2 ^ 48)) a
 
+-- `stilt_typed`, which reads typed lines: the number of bytes written; the place is the number of
+-- the line that was mistyped (R16.6)
+abbrev pub packedTyped : Answer ℕ → ℕ
+packedTyped a = packing (λ n. packed 0 0 n) a
+
 -- ---- the same, read apart: stilt_number, stilt_place and stilt_count of the header
 
 abbrev pub numberIn : ℕ → ℕ

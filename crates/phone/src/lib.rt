@@ -6,16 +6,18 @@ ghost use Prim.Native.Nat.{_<_};
 ghost use Rattle.wire.specs.Answer.{bytesAfter, answerOf};
 ghost use Rattle.wire.specs.Writing.{writing};
 ghost use Rattle.text.specs.Text.{base64, readText};
+ghost use Rattle.typed.specs.Typed.{readTyped};
 ghost use Rattle.collection.specs.Collection.{opening, offering, joining};
 ghost use Rattle.collection.specs.Answer.{told};
 ghost use Rattle.finish.specs.Finish as F;
 ghost use Rattle.status.specs.Numbers.{standing};
-ghost use Rattle.phone.specs.Packed.{packed, packedAnswer, packedKind, packedFinish, packedNumbers, seeing, packedFrame, packedText};
+ghost use Rattle.phone.specs.Packed.{packed, packedAnswer, packedKind, packedFinish, packedNumbers, seeing, packedFrame, packedText, packedTyped};
 use collection::Answered;
 use collection::Offered;
 use finish::Finished;
 use frame::FrameRead;
 use status::standing::Standing;
+use typed::TypedRead;
 use wire::Wrote;
 
 // What a count may be, in 48 bits.
@@ -141,5 +143,19 @@ pub extern "C" fn stilt_base64(text: &[u8], out: &mut [u8]) -> u64
     match r {
         Wrote::Done { len } => pack(0, 0, (len as u64) % COUNTS),
         Wrote::Refused { no } => pack(no, 0, 0),
+    }
+}
+
+// What `typed::read` does, for C: its answer, with the length or the line's number, as one number,
+// and the bytes that it leaves in out.
+#[no_mangle]
+pub extern "C" fn stilt_typed(text: &[u8], out: &mut [u8]) -> u64
+    ensures { λ r. ⌜ r ≡ packedTyped (answerOf (writing 0 (now (out .entry)) (readTyped (now (text .entry))))) ⌝ }
+    ensures { λ _. ⌜ now (out .exit) ≡ bytesAfter (now (out .entry)) (writing 0 (now (out .entry)) (readTyped (now (text .entry)))) ⌝ }
+{
+    let r = typed::read(text, out);
+    match r {
+        TypedRead::Done { len } => pack(0, 0, len as u64),
+        TypedRead::Refused { no, line } => pack(no, line, 0),
     }
 }

@@ -1,5 +1,5 @@
 // Prints a document: standard input is the ciphertext, standard output what `pier` reads; or, asked
-// with `typed`, the text to be typed of all pages or of one (R15.4). The work is done by `sheet`;
+// with `typed`, the lines to be typed of all pages or of one (R15.4). The work is done by `sheet`;
 // here are only the words of the command, the reading and the writing.
 ghost use Prim.Native.Nat.{_≤_};
 

@@ -15,7 +15,7 @@ pub(crate) fn help() {
     say(b"press [typed [K]] [--size N] < FILE\n");
     say(b"prints a ciphertext for the crossing on paper: its id, and a line for each page\n\n");
     say(b"  (no word)   the text of each page's square, as pier and pantry read it\n");
-    say(b"  typed       for each page its place, and the text that is typed by hand\n");
+    say(b"  typed       for each page its place, and the lines that are typed by hand\n");
     say(b"  typed K     the same of page K alone; the first is page 0\n");
     say(b"  --size N    N bytes of the ciphertext to a page, 1 to 480; else 480\n");
     say(b"  --version   which press this is, and what it prints\n\n");

@@ -27,6 +27,7 @@ use Rattle.promises.specs.Demand2.{ReadAs, Framed, Scanned, Typed, pageO
 use Rattle.promises.proofs.Writers.{Stands, stands-front, wrote-done, written-room}
 use Rattle.promises.proofs.Formats.{frames-exact}
 use Rattle.promises.proofs.Texts.{scans-exact, typing-exact}
+use Rattle.promises.proofs.TypedLines.{lines-exact}
 use Rattle.promises.proofs.Payloads.{envelopes-exact, manifests-exact, auths-ruled, auths-exact, shards-ruled, shards-exact}
 use Rattle.promises.proofs.Links.Page.{page-write-base64-link, page-write-link, page-write-zbase32-link}
 use Rattle.promises.proofs.Links.PayloadFrame.{payload-frame-auth-link, payload-frame-key-link}
@@ -153,6 +154,7 @@ demand2 = record {
   signatures = auth-carries;
   scan = scans-exact;
   typed = typing-exact;
+  lines = lines-exact;
   envelope = envelopes-exact;
   manifest = manifests-exact;
   auth = auths-exact;

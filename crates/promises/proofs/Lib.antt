@@ -3,6 +3,7 @@ pub mod Links
 pub mod Answered
 pub mod Formats
 pub mod Texts
+pub mod TypedLines
 pub mod Payloads
 pub mod Demand2
 pub mod Interfaces

@@ -8,6 +8,7 @@ pub mod Status
 pub mod Phone
 pub mod Frame
 pub mod Text
+pub mod Typed
 pub mod Envelope
 pub mod Manifest
 pub mod Auth

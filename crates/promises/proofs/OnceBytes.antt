@@ -3,7 +3,7 @@
 use mathlib.Core.Path.{refl, sym, _∙_}
 use Rattle.promises.specs.Once.{Once}
 use Rattle.promises.proofs.Lasts.{here, past}
-use Rattle.wire.proofs.Writes.{written-once}
+use Rattle.wire.proofs.Writes.{kept-once, written-once}
 use Rattle.wire.proofs.Answers.{step-injective, number-injective}
 use Rattle.wire.proofs.StepRead.no as wire-StepRead-no
 use Rattle.wire.proofs.NumberRead.no as wire-NumberRead-no
@@ -32,6 +32,13 @@ use Rattle.text.proofs.base64_read as text-base64-read
 use Rattle.text.proofs.base64_write as text-base64-write
 use Rattle.text.proofs.zbase32_read as text-zbase32-read
 use Rattle.text.proofs.zbase32_write as text-zbase32-write
+use Rattle.text.proofs.zbase32_value as text-zbase32-value
+use Rattle.text.proofs.zbase32_letter as text-zbase32-letter
+use Rattle.typed.proofs.Once.{told-injective, line-told-injective}
+use Rattle.typed.proofs.read as typed-read
+use Rattle.typed.proofs.write as typed-write
+use Rattle.typed.proofs.line as typed-line
+use Rattle.typed.proofs.counted as typed-counted
 use Rattle.crc.proofs.crc32 as crc-crc32
 use Rattle.crc.proofs.sum as crc-sum
 use Rattle.sha256.proofs.sha256 as sha256-sha256
@@ -122,6 +129,24 @@ text-zbase32-read-once κs args x y u v p q = let e = written-once x y p q in (e
 
 pub text-zbase32-write-once : Once text-zbase32-write.Kinds.ps text-zbase32-write.Kinds.r text-zbase32-write.Reads.Learnt
 text-zbase32-write-once κs args x y u v p q = let e = written-once x y p q in (e .0, past (here (e .1)))
+
+pub text-zbase32-value-once : Once text-zbase32-value.Kinds.ps text-zbase32-value.Kinds.r text-zbase32-value.Reads.Learnt
+text-zbase32-value-once κs args x y u v p q = (p ∙ sym q, refl)
+
+pub text-zbase32-letter-once : Once text-zbase32-letter.Kinds.ps text-zbase32-letter.Kinds.r text-zbase32-letter.Reads.Learnt
+text-zbase32-letter-once κs args x y u v p q = (p ∙ sym q, refl)
+
+pub typed-read-once : Once typed-read.Kinds.ps typed-read.Kinds.r typed-read.Reads.Learnt
+typed-read-once κs args x y u v p q = let e = kept-once p q in (told-injective x y (e .0), past (here (e .1)))
+
+pub typed-write-once : Once typed-write.Kinds.ps typed-write.Kinds.r typed-write.Reads.Learnt
+typed-write-once κs args x y u v p q = let e = written-once x y p q in (e .0, past (here (e .1)))
+
+pub typed-line-once : Once typed-line.Kinds.ps typed-line.Kinds.r typed-line.Reads.Learnt
+typed-line-once κs args x y u v p q = (line-told-injective x y (p ∙ sym q), refl)
+
+pub typed-counted-once : Once typed-counted.Kinds.ps typed-counted.Kinds.r typed-counted.Reads.Learnt
+typed-counted-once κs args x y u v p q = (p ∙ sym q, refl)
 
 pub crc-crc32-once : Once crc-crc32.Kinds.ps crc-crc32.Kinds.r crc-crc32.Reads.Learnt
 crc-crc32-once κs args x y u v p q = (p ∙ sym q, refl)

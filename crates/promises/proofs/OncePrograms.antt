@@ -39,6 +39,12 @@ use Rattle.phone.proofs.stilt_finish as phone-stilt-finish
 use Rattle.phone.proofs.stilt_status as phone-stilt-status
 use Rattle.phone.proofs.stilt_frame as phone-stilt-frame
 use Rattle.phone.proofs.stilt_base64 as phone-stilt-base64
+use Rattle.phone.proofs.stilt_typed as phone-stilt-typed
+use Rattle.typed.proofs.Once.{told-injective as typed-injective}
+use Rattle.typing.proofs.scan as typing-scan
+use Rattle.typing.proofs.page_fault as typing-page-fault
+use Rattle.typing.proofs.line_fault as typing-line-fault
+use Rattle.typing.proofs.words as typing-words
 use Rattle.speed.proofs.speed_crc32 as speed-speed-crc32
 use Rattle.speed.proofs.speed_sha256 as speed-speed-sha256
 use Rattle.speed.proofs.speed_blake2b as speed-speed-blake2b
@@ -141,6 +147,9 @@ phone-stilt-frame-once κs args x y u v p q = (p .0 ∙ sym (q .0), past (here (
 pub phone-stilt-base64-once : Once phone-stilt-base64.Kinds.ps phone-stilt-base64.Kinds.r phone-stilt-base64.Reads.Learnt
 phone-stilt-base64-once κs args x y u v p q = (p .0 ∙ sym (q .0), past (here (p .1 ∙ sym (q .1))))
 
+pub phone-stilt-typed-once : Once phone-stilt-typed.Kinds.ps phone-stilt-typed.Kinds.r phone-stilt-typed.Reads.Learnt
+phone-stilt-typed-once κs args x y u v p q = (p .0 ∙ sym (q .0), past (here (p .1 ∙ sym (q .1))))
+
 pub speed-speed-crc32-once : Once speed-speed-crc32.Kinds.ps speed-speed-crc32.Kinds.r speed-speed-crc32.Reads.Learnt
 speed-speed-crc32-once κs args x y u v p q = (p ∙ sym q, refl)
 
@@ -155,3 +164,15 @@ speed-speed-base64-read-once κs args x y u v p q = (p .0 ∙ sym (q .0), past (
 
 pub speed-speed-base64-write-once : Once speed-speed-base64-write.Kinds.ps speed-speed-base64-write.Kinds.r speed-speed-base64-write.Reads.Learnt
 speed-speed-base64-write-once κs args x y u v p q = (p .0 ∙ sym (q .0), past (here (p .1 ∙ sym (q .1))))
+
+pub typing-scan-once : Once typing-scan.Kinds.ps typing-scan.Kinds.r typing-scan.Reads.Learnt
+typing-scan-once κs args x y u v p q = let e = kept-once p q in (typed-injective x y (e .0), past (here (e .1)))
+
+pub typing-page-fault-once : Once typing-page-fault.Kinds.ps typing-page-fault.Kinds.r typing-page-fault.Reads.Learnt
+typing-page-fault-once κs args x y u v p q = (p ∙ sym q, refl)
+
+pub typing-line-fault-once : Once typing-line-fault.Kinds.ps typing-line-fault.Kinds.r typing-line-fault.Reads.Learnt
+typing-line-fault-once κs args x y u v p q = (p ∙ sym q, refl)
+
+pub typing-words-once : Once typing-words.Kinds.ps typing-words.Kinds.r typing-words.Reads.Learnt
+typing-words-once κs args x y u v p q = let e = written-once x y p q in (e .0, past (here (e .1)))

@@ -1,15 +1,19 @@
 -- The second demand, R1.3, of every format: what was written is read as the same value, and all
 -- other bytes are refused, each with the number and the place that a format's `read` gives
 -- (Formats.antt).
-use Prim.Native.Nat.{ℕ, _≤_, _<_}
+use Prim.Native.Nat.{ℕ, suc, _≤_, _<_}
 use mathlib.Core.Path.{_≡_}
-use mathlib.Core.List.{List}
+use mathlib.Core.Bool.{true}
+use mathlib.Core.List.{List, _∷_, _++_}
 use lib.ListN.{length, take}
 use denote.Ref.{now}
 use borrow.Fn.Kinds.{Out}
-use Rattle.wire.specs.Answer.{Answer, done}
+use Rattle.wire.specs.Answer.{Answer, done, refusedAt}
+use Rattle.wire.specs.Every.{without}
 use Rattle.wire.specs.Number.{Bytes}
 use Rattle.wire.specs.Writing.{told}
+use Rattle.typed.specs.Typed.{isLetter, feed, linesOf}
+use Rattle.typed.specs.Slip.{lineAt, rest}
 use Rattle.document_id.specs.Id.{documentId}
 use Rattle.page.specs.Page.{pageCount, pageData, Printed, joined}
 use Rattle.page.proofs.write as page-write
@@ -18,7 +22,7 @@ use Rattle.page.proofs.write_zbase32 as page-write-zbase32
 use Rattle.payload_frame.proofs.key as payload-frame-key
 use Rattle.payload_frame.proofs.auth as payload-frame-auth
 use Rattle.promises.specs.Calls.{Call}
-use Rattle.promises.specs.Formats.{Format, Exact, Frame, frames, scans, typing, envelopes, manifests, auths, shards}
+use Rattle.promises.specs.Formats.{Format, Exact, Frame, frames, scans, typing, typedLines, envelopes, manifests, auths, shards}
 
 -- these bytes are read as this value: by every call of the reader
 abbrev pub ReadAs : {Place Value : Type 0} (f : Format Place Value) → List ℕ → Value → Type 0
@@ -98,11 +102,34 @@ pub record Demand2 : Type 0 where
   pub printed : (c : List ℕ) (size : ℕ) → Bytes c → Printed c size → Pages c size
   pub keys : Carries shards 0x4B Keyed
   pub signatures : Carries auths 0x41 Signed
-  -- both text forms
+  -- both text forms, and typed lines
   pub scan : Exact scans
   pub typed : Exact typing
+  pub lines : Exact typedLines
   -- envelope, manifest, auth and shard payloads
   pub envelope : Exact envelopes
   pub manifest : Exact manifests
   pub auth : Exact auths
   pub shard : Exact shards
+
+-- ---- what is told of a slip of the hand in typed lines that read
+
+-- these bytes were read, and those were answered so
+abbrev pub Lines : List ℕ → Answer (List ℕ) → Type 0
+Lines = typedLines .Reads
+
+-- whatever else stands in the text, each of these slips is told with its line (R5.15)
+pub record Slips : Type 0 where
+  -- one letter for another, among the data or in the check
+  pub replaced : (xs ys bs : List ℕ) (c d : ℕ) (a : Answer (List ℕ)) → Lines (xs ++ (c ∷ ys)) (done bs)
+      → isLetter c ≡ true → isLetter d ≡ true → (c ≡ d → ⊥)
+      → Lines (xs ++ (d ∷ ys)) a → a ≡ refusedAt 23 (lineAt xs)
+  -- two letters that differ, in each other's place on one line, both among the data: at least two
+  -- characters follow
+  pub exchanged : (xs ys zs bs : List ℕ) (c d : ℕ) (a : Answer (List ℕ)) → Lines (xs ++ (c ∷ ys) ++ (d ∷ zs)) (done bs)
+      → isLetter c ≡ true → isLetter d ≡ true → (c ≡ d → ⊥) → without feed ys ≡ true → 2 ≤ length (rest zs)
+      → Lines (xs ++ (d ∷ ys) ++ (c ∷ zs)) a → a ≡ refusedAt 23 (lineAt xs)
+  -- two lines of as many characters in each other's place: the first of the two places is told
+  pub moved : (s s' bs : List ℕ) (front : List (List ℕ)) (l : List ℕ) (between : List (List ℕ)) (m : List ℕ) (more : List (List ℕ)) (a : Answer (List ℕ))
+      → Lines s (done bs) → linesOf s ≡ front ++ (l ∷ between) ++ (m ∷ more) → linesOf s' ≡ front ++ (m ∷ between) ++ (l ∷ more) → length l ≡ length m
+      → Lines s' a → a ≡ refusedAt 23 (suc (length front))

@@ -14,6 +14,8 @@ use Rattle.wire.specs.Over.{over}
 use Rattle.wire.specs.Writing.{told}
 use Rattle.wire.specs.Span.{partAt}
 use Rattle.text.specs.Text.{Form, base64, zbase32, readText, kept}
+use Rattle.typed.specs.Typed.{plain, readTyped, mostTyped}
+use Rattle.typed.specs.Typed as lines
 use Rattle.frame.specs.Frame as F
 use Rattle.frame.specs.Allowed.{Allowed}
 use Rattle.frame.specs.Answer as frame
@@ -36,6 +38,8 @@ use Rattle.text.proofs.base64_read as text-base64-read
 use Rattle.text.proofs.base64_write as text-base64-write
 use Rattle.text.proofs.zbase32_read as text-zbase32-read
 use Rattle.text.proofs.zbase32_write as text-zbase32-write
+use Rattle.typed.proofs.read as typed-read
+use Rattle.typed.proofs.write as typed-write
 use Rattle.envelope.proofs.read as envelope-read
 use Rattle.envelope.proofs.write as envelope-write
 use Rattle.manifest.proofs.read as manifest-read
@@ -142,6 +146,23 @@ scans = texts base64 (TextCall text-base64-read.Reads.Learnt) (TextCall text-bas
 
 abbrev pub typing : Format (List ℕ) (List ℕ)
 typing = texts zbase32 (TextCall text-zbase32-read.Reads.Learnt) (TextCall text-zbase32-write.Reads.Learnt)
+
+-- ---- typed lines
+
+abbrev pub LinesCall : (s out x : List ℕ) (a : Answer ℕ) → Type 0
+LinesCall s out x a =
+    (k : Call typed-read.Kinds.ps typed-read.Kinds.r typed-read.Reads.Learnt)
+    × (now (k .args .0) ≡ s) × (now (k .args .1 .0) ≡ out) × (k .left .1 .0 ≡ x) × (lines.told (k .answer) ≡ a)
+
+-- the reader is lent as many bytes as typed lines can have
+abbrev pub typedLines : Format (List ℕ) (List ℕ)
+typedLines = record {
+  says = λ s bs. bs;
+  counting = plain;
+  read = readTyped;
+  Reads = λ s a. (out : List ℕ) × (x : List ℕ) × (r : Answer ℕ) × LinesCall s out x r × (mostTyped ≤ length out) × (textSaid r x ≡ a);
+  Writes = λ v out x a. Bytes v × TextCall typed-write.Reads.Learnt v out x a;
+}
 
 -- ---- the envelope
 

@@ -12,15 +12,13 @@ use Rattle.wire.specs.Answer.{done}
 use Rattle.wire.proofs.Cases.{passed, then-done, done-value}
 use Rattle.digits.specs.Decimal.{lineFeed}
 use Rattle.digits.proofs.Decimals.{decimal-short}
-use Rattle.text.specs.Text.{base64, zbase32, textOf}
-use Rattle.text.proofs.Forms.{base64-lawful, zbase32-lawful}
-use Rattle.text.proofs.Counts.{filled, filling-lt}
+use Rattle.text.specs.Text.{base64, textOf}
 use Rattle.page.specs.Page.{pageCount, pageFrame, countOf, joined}
-use Rattle.page.proofs.Typing.{frame-short}
-use Rattle.sheet.specs.Sheet.{idLine, textLine, scanLine, placeLine, typedLines, scanSheet, typedSheet, scanVerdict, typedVerdict, placeVerdict}
+use Rattle.sheet.specs.Sheet.{idLine, scanLine, placeLine, typedLines, scanSheet, typedSheet, scanVerdict, typedVerdict, placeVerdict}
 use Rattle.sheet.specs.Private.{There}
 use Rattle.sheet.proofs.Ids.{id-line-length}
-use Rattle.sheet.proofs.Texts.{text-length, frame-there, page-short}
+use Rattle.sheet.proofs.Texts.{square-short}
+use Rattle.sheet.proofs.Typing.{to-type-short}
 use Rattle.sheet.proofs.Sheets.{total-is, total-most, page-there}
 
 pub place-short : (k n : ℕ) → k < 100 → n < 100 → length (placeLine k n) ≤ 14
@@ -31,23 +29,15 @@ place-short k n h l =
 -- ---- the lines of a page that there is
 
 module _ (c : List ℕ) (size k : ℕ) (t : There c size k) where
-  -- the text of a code square: a line of at most 667 bytes, so never above 1,024
-  pub scan-text-short : length (textOf base64 (pageFrame c size k)) ≤ 667
-  unfolding base64
-  scan-text-short =
-      let n : ℕ = length (pageFrame c size k) in
-      let s : n ≤ 500 = frame-short c size k (pageFrame c size k) (frame-there c size k t) in
-      rw (text-length base64 (pageFrame c size k)) (omega (arith, filled base64 base64-lawful n, filling-lt base64 base64-lawful n))
-
   pub scan-line-short : length (scanLine c size k) ≤ 668
-  unfolding scanLine textLine
-  scan-line-short = omega (arith, length-append (textOf base64 (pageFrame c size k)) lineFeed, scan-text-short)
+  unfolding scanLine
+  scan-line-short = omega (arith, length-append (textOf base64 (pageFrame c size k)) lineFeed, square-short c size k t)
 
-  pub typed-lines-short : pageCount (length c) size ≤ 96 → length (typedLines c size k) ≤ 815
-  unfolding typedLines textLine
+  pub typed-lines-short : pageCount (length c) size ≤ 96 → length (typedLines c size k) ≤ 994
+  unfolding typedLines
   typed-lines-short m =
       let p = place-short k (pageCount (length c) size) (omega (arith, t .below)) (omega arith) in
-      simp length-append (omega (arith, page-short c size k t zbase32 zbase32-lawful))
+      simp length-append (omega (arith, to-type-short c size k))
 
 -- ---- a sheet
 
@@ -69,30 +59,30 @@ module _ (c : List ℕ) (size n : ℕ) (h : done n ≡ countOf (length c) size) 
   scan-sheet-short =
       omega (arith, length-append (idLine c) (joined (pageCount (length c) size) (scanLine c size)), id-line-length c, joined-short (pageCount (length c) size) 668 (scanLine c size) (λ k l. scan-line-short c size k (here k l)), few)
 
-  pub typed-sheet-short : length (typedSheet c size) ≤ 78257
+  pub typed-sheet-short : length (typedSheet c size) ≤ 95441
   unfolding typedSheet
   typed-sheet-short =
-      omega (arith, length-append (idLine c) (joined (pageCount (length c) size) (typedLines c size)), id-line-length c, joined-short (pageCount (length c) size) 815 (typedLines c size) (λ k l. typed-lines-short c size k (here k l) few), few)
+      omega (arith, length-append (idLine c) (joined (pageCount (length c) size) (typedLines c size)), id-line-length c, joined-short (pageCount (length c) size) 994 (typedLines c size) (λ k l. typed-lines-short c size k (here k l) few), few)
 
--- ---- so 78,257 bytes, which the program has, are room for all that is printed
+-- ---- so 95,441 bytes, which the program has, are room for all that is printed
 
 module _ (c : List ℕ) (size : ℕ) (bs : List ℕ) where
   -- For the reader: `sheet::scans` does not answer 11 then,
-  pub scan-room : scanVerdict c size ≡ done bs → length bs ≤ 78257
+  pub scan-room : scanVerdict c size ≡ done bs → length bs ≤ 95441
   unfolding scanVerdict
   scan-room e =
       let (n, h, q) = then-done (countOf (length c) size) _ e in
       omega (arith, scan-sheet-short c size n (sym h), ap length (done-value q))
 
   -- For the reader: nor does `sheet::typed`,
-  pub typed-room : typedVerdict c size ≡ done bs → length bs ≤ 78257
+  pub typed-room : typedVerdict c size ≡ done bs → length bs ≤ 95441
   unfolding typedVerdict
   typed-room e =
       let (n, h, q) = then-done (countOf (length c) size) _ e in
       omega (arith, typed-sheet-short c size n (sym h), ap length (done-value q))
 
   -- For the reader: nor `sheet::typed_page`
-  pub place-room : (k : ℕ) → placeVerdict c size k ≡ done bs → length bs ≤ 78257
+  pub place-room : (k : ℕ) → placeVerdict c size k ≡ done bs → length bs ≤ 95441
   unfolding placeVerdict
   place-room k e =
       let (n, h, t) = then-done (countOf (length c) size) _ e in

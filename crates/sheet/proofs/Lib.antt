@@ -1,8 +1,11 @@
 pub mod Ids
 pub mod Laying
 pub mod Texts
+pub mod Groups
+pub mod Typing
 pub mod Sheets
 pub mod Lengths
 pub mod OneLine
+pub mod Reading
 pub mod Words
 pub mod Refusals

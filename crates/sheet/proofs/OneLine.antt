@@ -1,5 +1,4 @@
--- What is read back: each line of a sheet is one line, and a scan's text is its page's frame.
--- Assumes nothing.
+-- Each line of a sheet is one line. Assumes nothing.
 use mathlib.Core.Path.{_≡_, refl, sym, ap, _∙_}
 use mathlib.Core.Bool.{Bool, true, false}
 use mathlib.Core.List.{List, [], _∷_, _++_, map}
@@ -9,19 +8,15 @@ use native.Mathlib.Omega.{arith}
 use borrow.Author.Tests.{ltb-false}
 use lib.Dec.{ltb, eqb}
 use lib.ListN.{length, getD}
-use Rattle.wire.specs.Answer.{choose, done}
-use Rattle.wire.specs.Number.{Bytes, Digits, digits, number}
+use Rattle.wire.specs.Answer.{choose}
+use Rattle.wire.specs.Number.{Digits, digits, number}
 use Rattle.wire.proofs.Digits.{digits-small}
 use Rattle.digits.specs.Decimal.{digit, decimal, lastDigits, numeral}
 use Rattle.digits.specs.Hex.{hexDigit, hexOf}
-use Rattle.text.specs.Text.{Form, base64, zbase32, skipped, letter, characters, filling, textOf, readText}
-use Rattle.text.proofs.Forms.{Lawful, base64-lawful, zbase32-lawful}
-use Rattle.page.specs.Page.{pageCount, pageFrame, Printed}
-use Rattle.page.proofs.Cutting.{counted-facts}
-use Rattle.page.proofs.Round.{page-typed}
+use Rattle.text.specs.Text.{Form, skipped, letter, characters, filling, textOf}
+use Rattle.text.proofs.Forms.{Lawful}
 use Rattle.sheet.specs.Sheet.{pageWord, ofWord}
 use Rattle.sheet.specs.Words.{tooLarge, wereGiven, pagesOf, bytesHold, splitIt, nothingRead, noSuchPage, notPrinted, givenWords, largeWords, reasonWords}
-use Rattle.sheet.specs.Private.{There}
 
 -- ---- no line feed inside a line
 
@@ -56,7 +51,8 @@ module _ (f : Form) (law : Lawful f) where
   letters-one [] all = one-none
   letters-one (v ∷ vs) all = one-cons (letter f v) (map (letter f) vs) (letter-no-feed v (all 0)) (letters-one vs (λ i. all (suc i)))
 
-  -- For the reader: no text of a page has a line feed inside
+  -- For the reader: no text of a code square has a line feed inside; for the lines to type it is
+  -- `to-type-letters` (Typing)
   pub text-one : (bs : List ℕ) → Single (textOf f bs)
   unfolding textOf
   text-one bs =
@@ -154,19 +150,3 @@ reason-one n size given =
     let last = choose (eqb n 8) noSuchPage notPrinted in
     let rest = choose (eqb n 9) (largeWords size given) last in
     either-one (eqb n 19) nothingRead rest (clear-one nothingRead refl) (either-one (eqb n 9) (largeWords size given) last (large-one size given) (either-one (eqb n 8) noSuchPage notPrinted (clear-one noSuchPage refl) (clear-one notPrinted refl)))
-
--- ---- a page's text is read as its frame, in either form
-
-module _ (c : List ℕ) (size k : ℕ) (t : There c size k) (all : Bytes c) where
-  can-print : Printed c size
-  can-print =
-      let f = counted-facts (length c) size (pageCount (length c) size) (t .counted) in
-      record { some = f .0; least = f .1; most = f .2; fits = f .4 }
-
-  -- For the reader: what a code square says reads back as the frame,
-  pub scan-reads : readText base64 (textOf base64 (pageFrame c size k)) ≡ done (pageFrame c size k)
-  scan-reads = page-typed c size can-print k (t .below) all base64 base64-lawful
-
-  -- For the reader: and so does what is typed below it
-  pub typed-reads : readText zbase32 (textOf zbase32 (pageFrame c size k)) ≡ done (pageFrame c size k)
-  typed-reads = page-typed c size can-print k (t .below) all zbase32 zbase32-lawful

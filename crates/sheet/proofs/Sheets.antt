@@ -14,15 +14,14 @@ use Rattle.wire.specs.Writing.{Written, writing}
 use Rattle.wire.specs.declared.Wrote.the-variants.{Refused}
 use Rattle.wire.proofs.Overs.{over-none}
 use Rattle.wire.proofs.Writes.{denied}
-use Rattle.text.specs.Text.{base64, zbase32}
 use Rattle.page.specs.Page.{pageCount, countOf, joined}
 use Rattle.page.specs.Answer.{told}
 use Rattle.page.specs.declared.PageCount.{PageCount}
 use Rattle.page.specs.declared.PageCount.the-variants.{Pages}
 use Rattle.page.specs.declared.PageCount.the-variants as page
 use Rattle.page.proofs.Cutting.{counted-facts}
-use Rattle.sheet.specs.Sheet.{idLine, placeLine, textLine, scanLine, typedLines, placeVerdict}
-use Rattle.sheet.specs.Private.{There, textForm, linesOf, sheetOf, sheetVerdict}
+use Rattle.sheet.specs.Sheet.{idLine, placeLine, scanLine, toType, printedLines, typedLines, placeVerdict}
+use Rattle.sheet.specs.Private.{There, linesOf, sheetOf, sheetVerdict}
 use Rattle.sheet.specs.declared.Form.{Form}
 use Rattle.sheet.specs.declared.Form.the-variants.{Square, Below}
 use Rattle.sheet.proofs.Ids.{id-line-length}
@@ -41,31 +40,31 @@ module _ (c : List ℕ) (size n : ℕ) (h : done n ≡ countOf (length c) size) 
   page-there k l = record { counted = ap done (sym total-is) ∙ h; below = omega (arith, total-is) }
 
   module _ (k at : ℕ) (l : List ℕ) where
-    pub scan-laid : (f : Form) (x : List ℕ) (r : ℕ) → f ≡ Square → Laid at 801 (textLine (textForm f) c size k) l x r → Laid at 815 (linesOf f c size k) l x r
-    unfolding scanLine
-    scan-laid f x r e p = rw e (laid-as at 801 815 r (textLine base64 c size k) (linesOf Square c size k) l x (rw e at p) refl (omega arith))
+    pub scan-laid : (f : Form) (x : List ℕ) (r : ℕ) → f ≡ Square → Laid at 668 (scanLine c size k) l x r → Laid at 994 (linesOf f c size k) l x r
+    scan-laid f x r e p = rw e (laid-as at 668 994 r (scanLine c size k) (linesOf Square c size k) l x p refl (omega arith))
 
-    pub typed-laid : (f : Form) (x y : List ℕ) (m r : ℕ) → f ≡ Below → at + 815 ≤ length l → Laid at 14 (placeLine k n) l x m
-        → Laid m 801 (textLine (textForm f) c size k) x y r → Laid at 815 (linesOf f c size k) l y r
+    pub typed-laid : (f : Form) (x y : List ℕ) (m r : ℕ) → f ≡ Below → at + 994 ≤ length l → Laid at 14 (placeLine k n) l x m
+        → Laid m 980 (printedLines (toType c size k)) x y r → Laid at 994 (linesOf f c size k) l y r
     unfolding typedLines
     typed-laid f x y m r e room p q =
+        let lines : List ℕ = printedLines (toType c size k) in
         rw e
-        (laid-as at 815 815 r (placeLine k n ++ textLine zbase32 c size k) (linesOf Below c size k) l y
-        (laid-then at 14 m 801 r (placeLine k n) (textLine zbase32 c size k) l x y p (rw e at q) (omega (arith, p .next, p .short)))
-        (ap (λ (i : ℕ). placeLine k i ++ textLine zbase32 c size k) total-is) (omega arith))
+        (laid-as at 994 994 r (placeLine k n ++ lines) (linesOf Below c size k) l y
+        (laid-then at 14 m 980 r (placeLine k n) lines l x y p q (omega (arith, p .next, p .short)))
+        (ap (λ (i : ℕ). placeLine k i ++ lines) total-is) (omega arith))
 
 -- ---- the loop
 
 -- the lines of the first k pages stand in x behind the id, and there is room for those of all
 pub record Stacked (f : Form) (c : List ℕ) (size n : ℕ) (l : List ℕ) (at k : ℕ) (x : List ℕ) : Type 0 where
   pub counted : done n ≡ countOf (length c) size
-  pub room : 78257 ≤ length l
+  pub room : 95441 ≤ length l
   pub most : k ≤ n
   pub whole : length x ≡ length l
-  pub laid : Laid 17 (k * 815) (joined k (linesOf f c size)) l x at
+  pub laid : Laid 17 (k * 994) (joined k (linesOf f c size)) l x at
 
 module _ (f : Form) (c : List ℕ) (size n : ℕ) (l : List ℕ) where
-  pub stacked-none : done n ≡ countOf (length c) size → 78257 ≤ length l → Stacked f c size n l 17 0 l
+  pub stacked-none : done n ≡ countOf (length c) size → 95441 ≤ length l → Stacked f c size n l 17 0 l
   unfolding joined
   stacked-none h room = record { counted = h; room = room; most = omega arith; whole = refl; laid = laid-one 17 0 [] l l 17 refl (omega arith) (sym (over-none 17 l)) }
 
@@ -73,13 +72,13 @@ module _ (f : Form) (c : List ℕ) (size n : ℕ) (l : List ℕ) where
     top : n ≤ 96
     top = total-most c size n (g .counted)
 
-    behind : at ≤ 17 + k * 815
+    behind : at ≤ 17 + k * 994
     behind = omega (arith, g .laid .next, g .laid .short)
 
-    pub stacked-room : k < n → at + 815 ≤ length x
+    pub stacked-room : k < n → at + 994 ≤ length x
     stacked-room h = omega (arith, top, behind, g .room, g .whole)
 
-    pub stacked-on : (r : ℕ) (y : List ℕ) → k < n → length y ≡ length x → Laid at 815 (linesOf f c size k) x y r → Stacked f c size n l r (k + 1) y
+    pub stacked-on : (r : ℕ) (y : List ℕ) → k < n → length y ≡ length x → Laid at 994 (linesOf f c size k) x y r → Stacked f c size n l r (k + 1) y
     unfolding joined
     stacked-on r y h s p =
         record {
@@ -87,19 +86,19 @@ module _ (f : Form) (c : List ℕ) (size n : ℕ) (l : List ℕ) where
           room = g .room;
           most = omega arith;
           whole = s ∙ g .whole;
-          laid = laid-as 17 (k * 815 + 815) ((k + 1) * 815) r (joined k (linesOf f c size) ++ linesOf f c size k) (joined (k + 1) (linesOf f c size)) l y
-              (laid-then 17 (k * 815) at 815 r (joined k (linesOf f c size)) (linesOf f c size k) l x y (g .laid) p (omega (arith, g .whole, stacked-room h))) (rw (add-one k)) (omega arith);
+          laid = laid-as 17 (k * 994 + 994) ((k + 1) * 994) r (joined k (linesOf f c size) ++ linesOf f c size k) (joined (k + 1) (linesOf f c size)) l y
+              (laid-then 17 (k * 994) at 994 r (joined k (linesOf f c size)) (linesOf f c size k) l x y (g .laid) p (omega (arith, g .whole, stacked-room h))) (rw (add-one k)) (omega arith);
         }
 
-    pub stacked-end : (l₀ : List ℕ) → 78257 ≤ length l₀ → l ≡ over 0 (idLine c) l₀ → n ≤ k → Laid 0 78257 (sheetOf f c size) l₀ x at
+    pub stacked-end : (l₀ : List ℕ) → 95441 ≤ length l₀ → l ≡ over 0 (idLine c) l₀ → n ≤ k → Laid 0 95441 (sheetOf f c size) l₀ x at
     unfolding sheetOf
     stacked-end l₀ room i o =
         let e : k ≡ pageCount (length c) size = omega (arith, g .most, total-is c size n (g .counted)) in
         let m : k ≤ 96 = omega (arith, g .most, top) in
         let d = id-line-length c in
         let first = laid-one 0 17 (idLine c) l₀ l 17 (omega arith) (omega arith) i in
-        laid-as 0 (17 + k * 815) 78257 at (idLine c ++ joined k (linesOf f c size)) (idLine c ++ joined (pageCount (length c) size) (linesOf f c size)) l₀ x
-        (laid-then 0 17 17 (k * 815) at (idLine c) (joined k (linesOf f c size)) l₀ l x first (g .laid) (omega arith))
+        laid-as 0 (17 + k * 994) 95441 at (idLine c ++ joined k (linesOf f c size)) (idLine c ++ joined (pageCount (length c) size) (linesOf f c size)) l₀ x
+        (laid-then 0 17 17 (k * 994) at (idLine c) (joined k (linesOf f c size)) l₀ l x first (g .laid) (omega arith))
         (ap (λ (i : ℕ). idLine c ++ joined i (linesOf f c size)) e) (omega arith)
 
 -- what was laid in front is what is given

@@ -1,13 +1,14 @@
 -- A document as it is printed, in pages of a size that is given: section 15 of docs/RULES.md.
-use Prim.Native.Nat.{ℕ}
-use mathlib.Core.List.{List, _++_}
-use lib.Dec.{ltb}
+use Prim.Native.Nat.{ℕ, suc}
+use mathlib.Core.List.{List, [], _∷_, _++_}
+use lib.Dec.{ltb, eqb}
 use lib.ListN.{length}
-use Rattle.wire.specs.Answer.{Answer, done, then, demand}
+use Rattle.wire.specs.Answer.{choose, Answer, done, then, demand}
 use Rattle.wire.specs.Ascii.{ascii}
 use Rattle.digits.specs.Decimal.{decimal, lineFeed}
 use Rattle.digits.specs.Hex.{hexOf}
-use Rattle.text.specs.Text.{Form, base64, zbase32, textOf}
+use Rattle.text.specs.Text.{base64, zbase32, textOf}
+use Rattle.typed.specs.Typed.{mostLines, rows, numbered}
 use Rattle.document_id.specs.Id.{documentId}
 use Rattle.page.specs.Page.{pageCount, pageFrame, countOf, joined}
 
@@ -15,13 +16,9 @@ use Rattle.page.specs.Page.{pageCount, pageFrame, countOf, joined}
 unfoldable pub idLine : List ℕ → List ℕ
 idLine c = hexOf (documentId c) ++ lineFeed
 
--- page k through a text form (R7.3), on one line without spaces (R5.4)
-unfoldable pub textLine : Form → List ℕ → ℕ → ℕ → List ℕ
-textLine f c size k = textOf f (pageFrame c size k) ++ lineFeed
-
--- a page as `pier` reads it: base64 (R15.4)
+-- a page as `pier` reads it: base64 (R15.4, R7.3), on one line without spaces (R5.4)
 unfoldable pub scanLine : List ℕ → ℕ → ℕ → List ℕ
-scanLine c size k = textLine base64 c size k
+scanLine c size k = textOf base64 (pageFrame c size k) ++ lineFeed
 
 -- `page `, ` of `: the words, with their spaces
 abbrev pub pageWord : List ℕ
@@ -34,15 +31,33 @@ ofWord = ascii " of "
 unfoldable pub placeLine : ℕ → ℕ → List ℕ
 placeLine k n = pageWord ++ decimal k ++ ofWord ++ decimal n ++ lineFeed
 
--- the place, and the text to be typed, z-base-32 (R15.4)
+-- the lines that are typed of page k: its frame in z-base-32, with the check of each line (R5.9)
+unfoldable pub toType : List ℕ → ℕ → ℕ → List (List ℕ)
+toType c size k = numbered 1 (rows mostLines (textOf zbase32 (pageFrame c size k)))
+
+-- a line in groups of six characters with a space between two of them, where n characters of its
+-- first group stand in front already (R15.4)
+unfoldable pub groupedFrom : ℕ → List ℕ → List ℕ
+groupedFrom n [] = []
+groupedFrom n (c ∷ cs) = choose (eqb n 6) (0x20 ∷ c ∷ groupedFrom 1 cs) (c ∷ groupedFrom (suc n) cs)
+
+abbrev pub grouped : List ℕ → List ℕ
+grouped l = groupedFrom 0 l
+
+-- lines in groups, and a line feed behind each (R15.4)
+unfoldable pub printedLines : List (List ℕ) → List ℕ
+printedLines [] = []
+printedLines (l ∷ ls) = grouped l ++ (lineFeed ++ printedLines ls)
+
+-- the place, and the lines to be typed (R15.4)
 unfoldable pub typedLines : List ℕ → ℕ → ℕ → List ℕ
-typedLines c size k = placeLine k (pageCount (length c) size) ++ textLine zbase32 c size k
+typedLines c size k = placeLine k (pageCount (length c) size) ++ printedLines (toType c size k)
 
 -- what is printed: the id and every page's line in order (R15.4)
 unfoldable pub scanSheet : List ℕ → ℕ → List ℕ
 scanSheet c size = idLine c ++ joined (pageCount (length c) size) (scanLine c size)
 
--- with `typed`: the id and two lines for every page (R15.4)
+-- with `typed`: the id, and for every page its place and its lines (R15.4)
 unfoldable pub typedSheet : List ℕ → ℕ → List ℕ
 typedSheet c size = idLine c ++ joined (pageCount (length c) size) (typedLines c size)
 

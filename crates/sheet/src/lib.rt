@@ -1,10 +1,12 @@
 // A document as it is printed (R15.4). One form is what the small program reads back, the other the
-// text that is typed where no square can be read.
+// lines that are typed where no square can be read.
 //
-// A page's text reads back as its frame (`scan-reads`, `typed-reads`: sheet, OneLine), no line has
-// a line feed inside, and with `sheet::ROOM` bytes lent 11 is never the answer (`scan-room`,
-// `typed-room`, `place-room`: sheet, Lengths; `refusal-room`: sheet, Refusals). The id's line reads
-// back as the document's id (`press-id`: promises, Printed).
+// What is printed of a page reads back as its frame (`scan-reads`, `typed-reads`: sheet, Reading),
+// no line has a line feed inside, and with `sheet::ROOM` bytes lent 11 is never the answer
+// (`scan-room`, `typed-room`, `place-room`: sheet, Lengths; `refusal-room`: sheet, Refusals). The
+// id's line reads back as the document's id (`press-id`: promises, Printed).
+mod below;
+
 ghost use mathlib.Core.Path.{_≡_};
 ghost use Prim.Native.Nat.{_+_, _*_, _≤_, _<_, min};
 ghost use lib.Dec.{ltb};
@@ -15,11 +17,10 @@ ghost use Rattle.wire.specs.Answer.{done, demand};
 ghost use Rattle.wire.specs.Sizes.{mostPages};
 ghost use Rattle.wire.specs.Writing.{Written};
 ghost use Rattle.digits.specs.Decimal.{numeral};
-ghost use Rattle.text.specs.Text.{textOf};
-ghost use Rattle.page.specs.Page.{countOf, pageFrame, pageVerdict};
-ghost use Rattle.page.specs.Page.{typed as textVerdict};
-ghost use Rattle.sheet.specs.Sheet.{idLine, placeLine, textLine, scanVerdict, typedVerdict, typedLines, placeVerdict};
-ghost use Rattle.sheet.specs.Private.{There, textForm, linesOf, sheetOf, sheetVerdict};
+ghost use Rattle.text.specs.Text.{base64, textOf};
+ghost use Rattle.page.specs.Page.{countOf, pageFrame};
+ghost use Rattle.sheet.specs.Sheet.{idLine, placeLine, scanLine, scanVerdict, typedVerdict, typedLines, placeVerdict};
+ghost use Rattle.sheet.specs.Private.{There, linesOf, sheetOf, sheetVerdict};
 ghost use Rattle.sheet.specs.Word.{askedOf};
 ghost use Rattle.sheet.specs.Words.{givenWords, largeWords, reasonWords, refusalWords};
 use page::PageCount;
@@ -28,11 +29,14 @@ use wire::Wrote;
 // The line of the document id: 16 digits and the line feed.
 const ID_LINE: usize = 17;
 
-// No text of a page has more characters.
-const TEXT_ROOM: usize = 800;
+// No text of a code square has more characters.
+const SCAN_ROOM: usize = 667;
 
-// No page's lines have more bytes: `page 95 of 96`, the text, and two line feeds.
-const PAGE_ROOM: usize = TEXT_ROOM + 15;
+// `page 95 of 96` and its line feed.
+const PLACE_LINE: usize = 14;
+
+// No page's lines have more bytes.
+const PAGE_ROOM: usize = PLACE_LINE + below::ROOM;
 
 // Room for every sheet.
 pub const ROOM: usize = ID_LINE + wire::MOST_PAGES * PAGE_ROOM;
@@ -44,7 +48,7 @@ const REFUSAL_ROOM: usize = 200;
 enum Form {
     // The text of its code square, base64 (R15.4).
     Square,
-    // The text that is typed below the square: its place, and z-base-32 (R15.4).
+    // What is typed that stands below the square: its place, and its typed lines (R15.4).
     Below,
 }
 
@@ -81,47 +85,39 @@ fn place(out: &mut [u8], at: usize, k: u8, n: u8) -> usize
 
 // ---- the lines of a page
 
-fn encode(form: Form, c: &[u8], size: usize, k: usize, out: &mut [u8]) -> Wrote
-    ensures { λ r. ⌜ Written 0 (textVerdict (textForm form) (pageVerdict (now (c .entry)) size k)) (now (out .entry)) (now (out .exit)) r ⌝ }
+// The text of the code square of a page that there is, at the front of out, where there is room: so
+// it is not refused.
+fn square(c: &[u8], size: usize, k: usize, out: &mut [u8]) -> usize
+    requires { ⌜ There (now c) size k × (667 ≤ length (now out)) ⌝ }
+    ensures { λ r. ⌜ Laid 0 667 (textOf base64 (pageFrame (now (c .entry)) size k)) (now (out .entry)) (now (out .exit)) r ⌝ }
 {
-    match form {
-        Form::Square => page::write_base64(c, size, k, out),
-        Form::Below => page::write_zbase32(c, size, k, out),
-    }
-}
-
-// The text of a page that there is, at the front of out, where there is room: so it is not refused.
-fn text(form: Form, c: &[u8], size: usize, k: usize, out: &mut [u8]) -> usize
-    requires { ⌜ There (now c) size k × (800 ≤ length (now out)) ⌝ }
-    ensures { λ r. ⌜ Laid 0 800 (textOf (textForm form) (pageFrame (now (c .entry)) size k)) (now (out .entry)) (now (out .exit)) r ⌝ }
-{
-    let made = encode(form, c, size, k, out);
+    let made = page::write_base64(c, size, k, out);
     let Wrote::Done { len } = made else {
         return 0;
     };
     len
 }
 
-fn text_line(form: Form, c: &[u8], size: usize, k: usize, out: &mut [u8], at: usize) -> usize
-    requires { ⌜ There (now c) size k × (at + 801 ≤ length (now out)) ⌝ }
-    ensures { λ r. ⌜ Laid at 801 (textLine (textForm form) (now (c .entry)) size k) (now (out .entry)) (now (out .exit)) r ⌝ }
+fn scan_line(c: &[u8], size: usize, k: usize, out: &mut [u8], at: usize) -> usize
+    requires { ⌜ There (now c) size k × (at + 668 ≤ length (now out)) ⌝ }
+    ensures { λ r. ⌜ Laid at 668 (scanLine (now (c .entry)) size k) (now (out .entry)) (now (out .exit)) r ⌝ }
 {
-    let mut line = [0u8; TEXT_ROOM];
-    let len = text(form, c, size, k, &mut line);
+    let mut line = [0u8; SCAN_ROOM];
+    let len = square(c, size, k, &mut line);
     lend::copy(out, at, &line[0..len]);
     lend::put(out, at + len, b'\n');
     at + len + 1
 }
 
 fn lines(form: Form, c: &[u8], size: usize, k: usize, n: usize, out: &mut [u8], at: usize) -> usize
-    requires { ⌜ (done n ≡ countOf (length (now c)) size) × (k < n) × (at + 815 ≤ length (now out)) ⌝ }
-    ensures { λ r. ⌜ Laid at 815 (linesOf form (now (c .entry)) size k) (now (out .entry)) (now (out .exit)) r ⌝ }
+    requires { ⌜ (done n ≡ countOf (length (now c)) size) × (k < n) × (at + 994 ≤ length (now out)) ⌝ }
+    ensures { λ r. ⌜ Laid at 994 (linesOf form (now (c .entry)) size k) (now (out .entry)) (now (out .exit)) r ⌝ }
 {
     match form {
-        Form::Square => text_line(form, c, size, k, out, at),
+        Form::Square => scan_line(c, size, k, out, at),
         Form::Below => {
             let next = place(out, at, k as u8, n as u8);
-            text_line(form, c, size, k, out, next)
+            below::lines(c, size, k, out, next)
         }
     }
 }
@@ -130,8 +126,8 @@ fn lines(form: Form, c: &[u8], size: usize, k: usize, n: usize, out: &mut [u8], 
 
 // The id and all pages, from the front of out on. Answers how many bytes they are.
 fn lay(form: Form, c: &[u8], size: usize, n: usize, out: &mut [u8]) -> usize
-    requires { ⌜ (done n ≡ countOf (length (now c)) size) × (17 + mostPages * 815 ≤ length (now out)) ⌝ }
-    ensures { λ r. ⌜ Laid 0 (17 + mostPages * 815) (sheetOf form (now (c .entry)) size) (now (out .entry)) (now (out .exit)) r ⌝ }
+    requires { ⌜ (done n ≡ countOf (length (now c)) size) × (17 + mostPages * 994 ≤ length (now out)) ⌝ }
+    ensures { λ r. ⌜ Laid 0 (17 + mostPages * 994) (sheetOf form (now (c .entry)) size) (now (out .entry)) (now (out .exit)) r ⌝ }
 {
     id_line(c, out);
     let mut at = ID_LINE;
@@ -145,7 +141,7 @@ fn lay(form: Form, c: &[u8], size: usize, n: usize, out: &mut [u8]) -> usize
 
 // The sheet is laid aside first, and given where there is room for all of it.
 fn all(form: Form, c: &[u8], size: usize, n: usize, aside: &mut [u8], out: &mut [u8]) -> Wrote
-    requires { ⌜ (done n ≡ countOf (length (now c)) size) × (17 + mostPages * 815 ≤ length (now aside)) ⌝ }
+    requires { ⌜ (done n ≡ countOf (length (now c)) size) × (17 + mostPages * 994 ≤ length (now aside)) ⌝ }
     ensures { λ r. ⌜ Written 0 (done (sheetOf form (now (c .entry)) size)) (now (out .entry)) (now (out .exit)) r ⌝ }
 {
     let len = lay(form, c, size, n, aside);
@@ -188,16 +184,16 @@ pub fn scans(c: &[u8], size: usize, out: &mut [u8]) -> Wrote
     sheet(Form::Square, c, size, out)
 }
 
-// The document id, and for each page of this size its place and its z-base-32 text, at the front of
-// out, and their length; or 19, 9, 11, and nothing changed.
+// The document id, and for each page of this size its place and its typed lines in groups of six
+// characters, at the front of out, and their length; or 19, 9, 11, and nothing changed.
 pub fn typed(c: &[u8], size: usize, out: &mut [u8]) -> Wrote
     ensures { λ r. ⌜ Written 0 (typedVerdict (now (c .entry)) size) (now (out .entry)) (now (out .exit)) r ⌝ }
 {
     sheet(Form::Below, c, size, out)
 }
 
-// The place and the z-base-32 text of page k of this size alone, without the id, at the front of
-// out, and their length; or 19, 9, 8, 11, and nothing changed.
+// The place and the typed lines of page k of this size alone, without the id, at the front of out,
+// and their length; or 19, 9, 8, 11, and nothing changed.
 pub fn typed_page(c: &[u8], size: usize, k: usize, out: &mut [u8]) -> Wrote
     ensures { λ r. ⌜ Written 0 (placeVerdict (now (c .entry)) size k) (now (out .entry)) (now (out .exit)) r ⌝ }
 {

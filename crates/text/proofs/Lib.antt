@@ -9,3 +9,4 @@ pub mod Reading
 pub mod Encoding
 pub mod Verdicts
 pub mod Entries
+pub mod Singles

@@ -9,9 +9,10 @@ mod read;
 mod tables;
 mod write;
 
+ghost use mathlib.Core.Path.{_≡_};
 ghost use Rattle.wire.specs.Answer.{done};
 ghost use Rattle.wire.specs.Writing.{Written};
-ghost use Rattle.text.specs.Text.{base64, zbase32, textOf, readText};
+ghost use Rattle.text.specs.Text.{base64, zbase32, value, letter, textOf, readText};
 use wire::Wrote;
 
 // The bytes of a base64 text at the front of out, and their number; or 1, then 2, then 11, each
@@ -45,4 +46,25 @@ pub fn zbase32_write(src: &[u8], out: &mut [u8]) -> Wrote
     ensures { λ r. ⌜ Written 0 (done (textOf zbase32 (now (src .entry)))) (now (out .entry)) (now (out .exit)) r ⌝ }
 {
     write::write(&tables::ZBASE32_LETTERS, 5, src, out)
+}
+
+// The value of a z-base-32 character, 0 to 31; 32 for a byte that is none.
+pub fn zbase32_value(c: u8) -> u8
+    ensures { λ r. ⌜ r ≡ value zbase32 c ⌝ }
+{
+    let v = tables::ZBASE32_VALUES[c as usize];
+    if v < 32 {
+        return v;
+    }
+    32
+}
+
+// The z-base-32 character of a value from 0 to 31; 0 for any other number.
+pub fn zbase32_letter(v: u8) -> u8
+    ensures { λ r. ⌜ r ≡ letter zbase32 v ⌝ }
+{
+    if v < 32 {
+        return tables::ZBASE32_LETTERS[v as usize];
+    }
+    0
 }

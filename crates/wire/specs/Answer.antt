@@ -14,7 +14,7 @@ pub data Answer (A : Type 0) : Type 0 where
   done : A → Answer A
   refusedAt : ℕ → ℕ → Answer A
 
--- the place is 0 for every refusal but 15, 16 and 21 (R2.3)
+-- the place is 0 for every refusal but 15, 16, 21 and 23 (R2.3)
 abbrev pub refused : {A : Type 0} → ℕ → Answer A
 refused e = refusedAt e 0
 

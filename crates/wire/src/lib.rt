@@ -32,6 +32,9 @@ pub const BAD_CHECKSUM: u8 = 10;
 
 pub const NO_ROOM: u8 = 11;
 
+// Of typed lines, with the number of the line.
+pub const MISTYPED: u8 = 23;
+
 // The answer of a call that writes into lent output (R2.4): how many bytes it wrote, or the
 // refusal, which wrote none. Its cases as a number and a value are `told` of specs/Writing.antt
 // (R18.5).

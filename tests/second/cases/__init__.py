@@ -6,9 +6,11 @@ until there are enough. The same seed gives the same lines.
 
 import random
 
-from . import collecting, digests, floating, framing, listing, malformed, paying, plain_forms
+from . import (collecting, digests, floating, framing, listing, malformed, mistyping, paying,
+               plain_forms)
 
-GROUPS = [group for module in (plain_forms, digests, framing, floating, paying, listing, collecting)
+GROUPS = [group for module in (plain_forms, mistyping, digests, framing, floating, paying, listing,
+                               collecting)
           for group in module.GROUPS]
 
 

@@ -1,6 +1,7 @@
 """`press` and `pantry`: what one prints the other gives back, and what is told of it."""
 
 import random
+import re
 from collections import Counter
 
 from .. import collection, forms, pier
@@ -9,6 +10,7 @@ from ..cases import collecting
 from ..pantry import (COMPLETE, KINDS, OTHER, SEEN, TAKEN, TOO_LONG, UNREADABLE, counted, fault_of,
                       order_of, pantry, set_of_pages)
 from ..press import WrongWord, press
+from ..typing_lines import read_typed
 from .common import check, same
 
 STRANGER = bytes(8)
@@ -88,6 +90,25 @@ def what_is_pressed_comes_back():
         ident = printed.splitlines(True)[0]
         done = pantry(ident + last, ("kept", "--to", "file"), done.files)
         same((done.printed, done.status, done.files["file"]), (b"", 0, ciphertext))
+
+
+@check
+def what_is_typed_is_what_is_scanned():
+    """R15.4: the lines below a page's place, typed as they are printed, stand for its scan; a line
+    is groups of six characters, seven at most, and only the last may be shorter."""
+    rng = random.Random(19)
+    for _ in range(30):
+        ciphertext = rng.randbytes(rng.randrange(1, 3000))
+        words = ("--size", str(rng.randrange(-(-len(ciphertext) // 96), 481)))
+        ident, *scans = press(ciphertext, words)[0].splitlines()
+        first, *below = re.split(rb"page (\d+ of \d+)\n", press(ciphertext, ("typed", *words))[0])
+        same(first, ident + b"\n")
+        same(below[::2], [b"%d of %d" % (number, len(scans)) for number in range(len(scans))])
+        for scan, text in zip(scans, below[1::2]):
+            same(read_typed(text.removesuffix(b"\n")), forms.base64_read(scan))
+            for line in text.splitlines():
+                *full, last = map(len, line.split(b" "))
+                same((full, 1 <= last <= 6), ([6] * min(len(full), 6), True), line)
 
 
 @check

@@ -6,9 +6,10 @@ beside the call, and the run is not made if this program answers otherwise.
 """
 
 from ..desk import Desk
-from . import digests, floats, forms, frames, lines, payloads, sessions
+from . import digests, floats, forms, frames, lines, payloads, sessions, typed_lines
 
-SECTIONS = [section for module in (forms, digests, frames, floats, payloads, sessions, lines)
+SECTIONS = [section for module in (forms, typed_lines, digests, frames, floats, payloads, sessions,
+                                   lines)
             for section in module.SECTIONS]
 
 OPENING = b"""\

@@ -5,8 +5,8 @@ use Rattle.sheet.proofs.Sheets.{page-there, total-most, scan-laid, type
 use Rattle.sheet.proofs.lines.Statement.{statement}
 use Rattle.sheet.proofs.lines.Tie as tie
 
-text-line-requires : tie.Need-text-line-requires
-text-line-requires c κs = (search page-there, search needs)
+scan-line-requires : tie.Need-scan-line-requires
+scan-line-requires c κs = (search page-there, search needs)
 
 cast-place : tie.Need-cast-place
 cast-place c =
@@ -24,8 +24,8 @@ place-requires c κs =
     let t = total-most (s .args .c .now) (s .args .size) (s .args .n) (s .pre .0) in
     (omega arith, omega arith, search needs)
 
-text-line-requires-2 : tie.Need-text-line-requires-2
-text-line-requires-2 c κs = (search page-there, search needs)
+lines-requires : tie.Need-lines-requires
+lines-requires c κs = (search page-there, search needs)
 
 returns : tie.Need-returns
 returns c = search scan-laid
@@ -52,12 +52,12 @@ lines-spec =
     tie.close
     (tie.spec
     enum-told
-    text-line-requires
+    scan-line-requires
     enum-told-2
     cast-place
     cast-place-2
     place-requires
-    text-line-requires-2
+    lines-requires
     same-length
     returns
     same-length-2
