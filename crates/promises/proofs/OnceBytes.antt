@@ -39,6 +39,7 @@ use Rattle.typed.proofs.read as typed-read
 use Rattle.typed.proofs.write as typed-write
 use Rattle.typed.proofs.line as typed-line
 use Rattle.typed.proofs.counted as typed-counted
+use Rattle.typed.proofs.skipped as typed-skipped
 use Rattle.crc.proofs.crc32 as crc-crc32
 use Rattle.crc.proofs.sum as crc-sum
 use Rattle.sha256.proofs.sha256 as sha256-sha256
@@ -144,6 +145,9 @@ typed-write-once κs args x y u v p q = let e = written-once x y p q in (e .0, p
 
 pub typed-line-once : Once typed-line.Kinds.ps typed-line.Kinds.r typed-line.Reads.Learnt
 typed-line-once κs args x y u v p q = (line-told-injective x y (p ∙ sym q), refl)
+
+pub typed-skipped-once : Once typed-skipped.Kinds.ps typed-skipped.Kinds.r typed-skipped.Reads.Learnt
+typed-skipped-once κs args x y u v p q = (p ∙ sym q, refl)
 
 pub typed-counted-once : Once typed-counted.Kinds.ps typed-counted.Kinds.r typed-counted.Reads.Learnt
 typed-counted-once κs args x y u v p q = (p ∙ sym q, refl)

@@ -13,9 +13,15 @@ ghost use mathlib.Core.Path.{_≡_};
 ghost use lib.ListN.{length};
 ghost use Rattle.wire.specs.Writing.{Written};
 ghost use Rattle.text.specs.Text.{zbase32, readText};
-ghost use Rattle.typed.specs.Typed.{plain, readTyped, readLine, writeTyped, ReadLines, lineTold};
+ghost use Rattle.typed.specs.Typed.{skipped, plain, readTyped, readLine, writeTyped, ReadLines, lineTold};
 use lines::Gathered;
 use wire::Wrote;
+
+// A page has at most so many lines.
+pub const MOST_LINES: u8 = 20;
+
+// A full line has so many characters, its check among them.
+pub const FULL_LINE: usize = 42;
 
 // The answer of the reader: how many bytes it wrote, or the refusal, with the number of the line
 // where it is 23 and else 0.
@@ -28,6 +34,19 @@ pub enum TypedRead {
 pub enum LineRead {
     Right,
     Refused { no: u8, line: u8 },
+}
+
+// Whether a character between the others is skipped: the space, the tab and the dash are.
+pub fn skipped(c: u8) -> bool
+    ensures { λ r. ⌜ r ≡ skipped c ⌝ }
+{
+    if c == b' ' {
+        return true;
+    }
+    if c == b'\t' {
+        return true;
+    }
+    c == b'-'
 }
 
 // The bytes of the joined data, or its refusal.
@@ -94,7 +113,7 @@ pub fn line(text: &[u8], number: u8, last: bool) -> LineRead
             line: 0,
         };
     }
-    let mut kept = [0u8; lines::LINE_ROOM];
+    let mut kept = [0u8; FULL_LINE];
     let n = lines::squeeze(text, &mut kept);
     if !lines::possible(number, last, n) {
         return LineRead::Refused {

@@ -12,32 +12,16 @@ ghost use Rattle.typed.specs.Typed.{skipped, plain};
 ghost use Rattle.typed.specs.Private.{typable, possible, Fits, held, wrongAfter, closed, stepped, stepTold, Going, ran, start, ending, gatheredTold, Ample};
 use super::check;
 
-// A full line, and the data of all lines.
-pub(super) const LINE_ROOM: usize = 42;
-
+// The data of all lines.
 pub(super) const DATA_ROOM: usize = 800;
 
-const MOST_LINES: u8 = 20;
-
 const FEED: u8 = b'\n';
-
-pub(super) fn skipped(c: u8) -> bool
-    ensures { λ r. ⌜ r ≡ skipped c ⌝ }
-{
-    if c == b' ' {
-        return true;
-    }
-    if c == b'\t' {
-        return true;
-    }
-    c == b'-'
-}
 
 // Whether a text may have this character; a line by itself may have no line feed.
 fn may(c: u8, feeds: bool) -> bool
     ensures { λ r. ⌜ r ≡ (skipped c || typable feeds c) ⌝ }
 {
-    if skipped(c) {
+    if super::skipped(c) {
         return true;
     }
     if c == FEED {
@@ -65,7 +49,7 @@ fn keep(kept: &mut [u8], n: usize, c: u8) -> usize
     requires { ⌜ n + 1 < 2 ^ 64 ⌝ }
     ensures { λ r. ⌜ (r ≡ n + length (plain (c ∷ []))) × (now (kept .exit) ≡ over n (plain (c ∷ [])) (now (kept .entry))) ⌝ }
 {
-    if skipped(c) {
+    if super::skipped(c) {
         return n;
     }
     lend::put(kept, n, c);
@@ -93,13 +77,13 @@ pub(super) fn possible(number: u8, last: bool, n: usize) -> bool
     if number < 1 {
         return false;
     }
-    if MOST_LINES < number {
+    if super::MOST_LINES < number {
         return false;
     }
     if last {
-        return (3 <= n) & (n <= LINE_ROOM);
+        return (3 <= n) & (n <= super::FULL_LINE);
     }
-    n == LINE_ROOM
+    n == super::FULL_LINE
 }
 
 // What has been read so far: the number of this line and how many characters it has; the number of
@@ -154,21 +138,21 @@ fn feed(t: Typing, c: u8, line: &mut [u8], contents: &mut [u8]) -> Step
     ensures { λ r. ⌜ (stepTold r (now (line .exit)) (now (contents .exit)) ≡ stepped (held t (now (line .entry)) (now (contents .entry))) c) × Going r ⌝ }
 {
     if c == FEED {
-        if t.at < LINE_ROOM {
+        if t.at < super::FULL_LINE {
             return Step::Bad;
         }
-        if MOST_LINES <= t.n {
+        if super::MOST_LINES <= t.n {
             return Step::Bad;
         }
         return Step::On {
             typing: close(t, line, contents),
         };
     }
-    if skipped(c) {
+    if super::skipped(c) {
         return Step::On { typing: t };
     }
     let at = t.at;
-    if LINE_ROOM <= at {
+    if super::FULL_LINE <= at {
         return Step::Bad;
     }
     line[at] = c;
@@ -218,7 +202,7 @@ pub(super) fn gather(text: &[u8], contents: &mut [u8]) -> Gathered
     requires { ⌜ length (now contents) ≡ 800 ⌝ }
     ensures { λ r. ⌜ (gatheredTold r (now (contents .exit)) ≡ then (ran (start 1) (now (text .entry))) ending) × Ample r ⌝ }
 {
-    let mut line = [0u8; LINE_ROOM];
+    let mut line = [0u8; super::FULL_LINE];
     let Step::On { typing } = run(text, &mut line, contents) else {
         return Gathered::Bad;
     };

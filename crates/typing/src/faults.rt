@@ -2,28 +2,12 @@
 ghost use mathlib.Core.Path.{_≡_};
 ghost use Prim.Native.Nat.{_≤_, _<_};
 ghost use lib.ListN.{length};
-ghost use Rattle.typed.specs.Typed.{skipped, countRight, linesOf};
+ghost use Rattle.typed.specs.Typed.{countRight, linesOf};
 ghost use Rattle.typing.specs.Typing.{mayStand, lineAfter, oddLine, countFault};
 ghost use Rattle.typing.specs.Private.{stepped, ended};
 use crate::Fault;
 
 const FEED: u8 = b'\n';
-
-const MOST_LINES: u8 = 20;
-
-const FULL_LINE: usize = 42;
-
-fn skipped(c: u8) -> bool
-    ensures { λ r. ⌜ r ≡ skipped c ⌝ }
-{
-    if c == b' ' {
-        return true;
-    }
-    if c == b'\t' {
-        return true;
-    }
-    c == b'-'
-}
 
 // ---- a character that may not stand there
 
@@ -33,7 +17,7 @@ fn may_stand(c: u8) -> bool
     if c == FEED {
         return true;
     }
-    if skipped(c) {
+    if typed::skipped(c) {
         return true;
     }
     text::zbase32_value(c) < 32
@@ -88,9 +72,9 @@ fn fits(count: usize, last: bool) -> bool
         if count < 3 {
             return false;
         }
-        return count <= FULL_LINE;
+        return count <= typed::FULL_LINE;
     }
-    count == FULL_LINE
+    count == typed::FULL_LINE
 }
 
 // The line ends, and another follows.
@@ -107,7 +91,7 @@ fn close(a: At) -> Step
             },
         };
     }
-    if a.n == MOST_LINES {
+    if a.n == typed::MOST_LINES {
         return Step::Found {
             fault: Fault::Surplus,
         };
@@ -127,7 +111,7 @@ fn feed(a: At, c: u8) -> Step
     if c == FEED {
         return close(a);
     }
-    if skipped(c) {
+    if typed::skipped(c) {
         return Step::On { at: a };
     }
     Step::On {

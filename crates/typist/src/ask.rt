@@ -4,10 +4,6 @@ use crate::told;
 use libc::STDIN_FILENO;
 use typing::Fault;
 
-const MOST_LINES: u8 = 20;
-
-const FULL_LINE: usize = 42;
-
 // Room for a line: more bytes than these are told as too long.
 const LINE_ROOM: usize = 512;
 
@@ -69,7 +65,7 @@ fn read_line(line: &mut [u8]) -> Typed {
 
 // The page with one more line, which is right, and its line feed. There is room for 20.
 fn with_line(p: Page, line: &[u8], page: &mut [u8]) -> Page {
-    if MOST_LINES <= p.n {
+    if typed::MOST_LINES <= p.n {
         return p;
     }
     if page.len() < p.len {
@@ -104,16 +100,16 @@ fn without_last(p: Page) -> Page {
         n: p.n - 1,
         len: p.start,
         start: p.start,
-        count: FULL_LINE,
+        count: typed::FULL_LINE,
     }
 }
 
 // The page after a line that is not empty, which is told where it is wrong.
 fn taken(p: Page, line: &[u8], page: &mut [u8]) -> Page {
-    if p.count < FULL_LINE {
+    if p.count < typed::FULL_LINE {
         return without_last(p);
     }
-    if MOST_LINES <= p.n {
+    if typed::MOST_LINES <= p.n {
         return p;
     }
     let fault = typing::line_fault(line, p.n + 1);
@@ -127,13 +123,13 @@ fn taken(p: Page, line: &[u8], page: &mut [u8]) -> Page {
 }
 
 fn asks(n: u8) {
-    if n < MOST_LINES {
+    if n < typed::MOST_LINES {
         told::prompt(n + 1);
     }
 }
 
 fn long(n: u8) {
-    if n < MOST_LINES {
+    if n < typed::MOST_LINES {
         told::too_long(n + 1);
     }
 }
@@ -183,11 +179,11 @@ fn lines(line: &mut [u8], page: &mut [u8]) -> Asked {
         n: 0,
         len: 0,
         start: 0,
-        count: FULL_LINE,
+        count: typed::FULL_LINE,
     };
     let mut turns = u64::MAX;
     while turns > 0 {
-        if MOST_LINES <= p.n {
+        if typed::MOST_LINES <= p.n {
             return whole_page(p);
         }
         match turn(p, line, page) {
