@@ -101,7 +101,7 @@ pub enum Step {
     Bad,
 }
 
-// This line's number, where no line before was wrong and this one is.
+// The number of the first wrong line, once this one has ended, or 0.
 fn first_wrong(t: Typing, line: &[u8]) -> u8
     requires { ⌜ Fits t × (2 ≤ t .at) × (length (now line) ≡ 42) ⌝ }
     ensures { λ r. ⌜ r ≡ wrongAfter (t .n) (t .wrong) (take (t .at) (now (line .entry))) ⌝ }
