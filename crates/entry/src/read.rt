@@ -9,7 +9,6 @@ use super::File;
 use super::FileRead;
 use super::Mtime;
 use super::MtimeRead;
-use super::write::part;
 use cbor::BYTES;
 use cbor::HeadRead;
 use cbor::INTEGER;
@@ -72,7 +71,7 @@ fn path_field(s: &[u8], at: usize, prev: &[u8]) -> StringRead
     let StringRead::Value { start, len, next } = p else {
         return StringRead::Refused { no: p.no() };
     };
-    let text = part(s, Span { start, len });
+    let text = lend::part(s, Span { start, len });
     if !path::allowed(text) {
         return StringRead::Refused { no: BAD_PATH };
     }

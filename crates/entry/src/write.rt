@@ -3,7 +3,6 @@ ghost use mathlib.Core.Path.{_≡_};
 ghost use Prim.Native.Nat.{_+_, _≤_};
 ghost use lib.ListN.{length};
 ghost use Rattle.wire.specs.Writing.{told, outcome};
-ghost use Rattle.wire.specs.Span.{partAt};
 ghost use Rattle.path.specs.Path.{pathMost};
 ghost use Rattle.cbor.specs.Put.{Put};
 ghost use Rattle.entry.specs.Writing.{integerOf, fileOf, held, digestIn, pathIn, mtimeAllowed, fileVerdict, formOf};
@@ -18,23 +17,6 @@ use wire::BAD_PATH;
 use wire::OUT_OF_RANGE;
 use wire::Span;
 use wire::Wrote;
-
-// The bytes at a place of the pool; of a place that reaches past the pool those that are there.
-pub fn part(pool: &[u8], p: Span) -> &[u8]
-    ensures { λ r. ⌜ now r ≡ partAt (now (pool .entry)) p ⌝ }
-{
-    let start = p.start;
-    let len = p.len;
-    let all = pool.len();
-    if all < start {
-        return &pool[all..all];
-    }
-    if all - start < len {
-        return &pool[start..all];
-    }
-    let end = start + len;
-    &pool[start..end]
-}
 
 fn holds(pool: &[u8], p: Span) -> bool
     ensures { λ r. ⌜ r ≡ held (now (pool .entry)) p ⌝ }
@@ -64,7 +46,7 @@ fn path_fits(pool: &[u8], prev: &[u8], p: Span) -> bool
     if !holds(pool, p) {
         return false;
     }
-    let bs = part(pool, p);
+    let bs = lend::part(pool, p);
     if !path::allowed(bs) {
         return false;
     }
@@ -153,8 +135,8 @@ fn file_fitting(pool: &[u8], f: File, out: &mut [u8], at: usize) -> usize
     let path = f.path;
     let mtime = f.mtime;
     let a = cbor::write::fixed(out, at, b"\xA4");
-    let b = cbor::write::string_field(out, a, b"hash", BYTES, part(pool, hash));
-    let c = cbor::write::string_field(out, b, b"path", TEXT, part(pool, path));
+    let b = cbor::write::string_field(out, a, b"hash", BYTES, lend::part(pool, hash));
+    let c = cbor::write::string_field(out, b, b"path", TEXT, lend::part(pool, path));
     let d = cbor::write::number_field(out, c, b"size", f.size);
     mtime_fitting(mtime, out, d)
 }

@@ -53,7 +53,7 @@ fn digests_hold(
         let hash = f.hash;
         let end = at + (f.size as usize);
         let digest = sha256::sha256(&payload[at..end]);
-        if !lend::equal(&digest, entry::write::part(manifest, hash)) {
+        if !lend::equal(&digest, lend::part(manifest, hash)) {
             return Judge::Faulty {
                 no: BAD_CONTENTS,
                 place: i,

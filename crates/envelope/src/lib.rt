@@ -10,7 +10,6 @@ ghost use Rattle.envelope.specs.Envelope.{envelopeAt, verdict};
 ghost use Rattle.envelope.specs.Answer.{readTold, EnvelopeWritten};
 ghost use Rattle.envelope.specs.Private.{wroteAs};
 use cover::CoverRead;
-use entry::write::part;
 use judge::Judge;
 use wire::Span;
 use wire::Wrote;
@@ -41,7 +40,7 @@ pub fn read(s: &[u8]) -> EnvelopeRead
             place: 0,
         };
     };
-    let j = judge::parts(part(s, manifest), part(s, payload));
+    let j = judge::parts(lend::part(s, manifest), lend::part(s, payload));
     if let Judge::Faulty { no, place } = j {
         return EnvelopeRead::Refused { no, place };
     }

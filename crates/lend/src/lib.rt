@@ -1,14 +1,16 @@
-// Writes into lent buffers and comparison of them. Each function takes any arguments: a write that
-// does not fit changes nothing.
+// Writes into lent buffers, comparison and parts of them. Each function takes any arguments: a
+// write that does not fit changes nothing.
 ghost use mathlib.Core.Path.{_≡_};
 ghost use mathlib.Core.List.{[], _∷_, map};
 ghost use Prim.Native.Nat.{_+_, _≤_};
 ghost use lib.ListN.{length, replicate};
 ghost use Rattle.wire.specs.Over.{over};
+ghost use Rattle.wire.specs.Span.{partAt};
 ghost use Rattle.wire.specs.Answer.{done};
 ghost use Rattle.wire.specs.Writing.{Written};
 ghost use Rattle.lend.specs.Plain.{plainByte};
 ghost use Rattle.lend.specs.Same.{same};
+use wire::Span;
 use wire::Wrote;
 
 // The byte b stands at the index. Nothing changes where that index is outside.
@@ -127,4 +129,21 @@ pub fn plain(word: &mut [u8])
         word[i] = plain_byte(word[i]);
         i += 1;
     }
+}
+
+// The bytes at a place of the pool; of a place that reaches past the pool those that are there.
+pub fn part(pool: &[u8], p: Span) -> &[u8]
+    ensures { λ r. ⌜ now r ≡ partAt (now (pool .entry)) p ⌝ }
+{
+    let start = p.start;
+    let len = p.len;
+    let all = pool.len();
+    if all < start {
+        return &pool[all..all];
+    }
+    if all - start < len {
+        return &pool[start..all];
+    }
+    let end = start + len;
+    &pool[start..end]
 }

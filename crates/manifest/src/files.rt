@@ -10,7 +10,6 @@ use super::FilesRead;
 use super::blank_files;
 use cbor::ARRAY;
 use entry::FileRead;
-use entry::write::part;
 use wire::NumberRead;
 use wire::OUT_OF_RANGE;
 use wire::Span;
@@ -36,7 +35,7 @@ fn run(s: &[u8], at: usize, count: usize) -> FilesRead
     let mut p = at;
     let mut last = Span { start: 0, len: 0 };
     while i < count {
-        let r = entry::read::file(s, p, part(s, last));
+        let r = entry::read::file(s, p, lend::part(s, last));
         let FileRead::Value { file, next } = r else {
             return no_files(r.no());
         };

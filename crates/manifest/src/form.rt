@@ -25,7 +25,7 @@ fn seed_field(pool: &[u8], seed: Seed, out: &mut [u8], at: usize) -> usize
     let Seed::Bytes { span } = seed else {
         return cbor::write::fixed(out, a, b"\xF6");
     };
-    cbor::write::string(out, a, BYTES, entry::write::part(pool, span))
+    cbor::write::string(out, a, BYTES, lend::part(pool, span))
 }
 
 fn created_field(created: Created, out: &mut [u8], at: usize) -> usize
@@ -59,7 +59,7 @@ fn list(pool: &[u8], m: Manifest, out: &mut [u8], at: usize) -> usize
     let mut last = Span { start: 0, len: 0 };
     while i < count {
         let f = m.files[i];
-        p = entry::write::file(pool, entry::write::part(pool, last), f, out, p);
+        p = entry::write::file(pool, lend::part(pool, last), f, out, p);
         last = f.path;
         i += 1;
     }

@@ -64,7 +64,7 @@ fn list(pool: &[u8], m: Manifest) -> Wrote
     let mut last = Span { start: 0, len: 0 };
     while i < count {
         let f = m.files[i];
-        let j = entry::write::judge(pool, entry::write::part(pool, last), f);
+        let j = entry::write::judge(pool, lend::part(pool, last), f);
         let Wrote::Done { len } = j else {
             return j;
         };

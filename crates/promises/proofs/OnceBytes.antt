@@ -1,7 +1,8 @@
 -- One answer, by each contract itself: lent buffers, digits, numbers, texts, paths and digests.
 -- Assumes nothing.
 use mathlib.Core.Path.{refl, sym, _∙_}
-use Rattle.promises.specs.Once.{Once}
+use denote.Ref.{now}
+use Rattle.promises.specs.Once.{Once, OnceSeen}
 use Rattle.promises.proofs.Lasts.{here, past}
 use Rattle.wire.proofs.Writes.{kept-once, written-once}
 use Rattle.wire.proofs.Answers.{step-injective, number-injective}
@@ -14,6 +15,7 @@ use Rattle.lend.proofs.clear as lend-clear
 use Rattle.lend.proofs.equal as lend-equal
 use Rattle.lend.proofs.give as lend-give
 use Rattle.lend.proofs.plain as lend-plain
+use Rattle.lend.proofs.part as lend-part
 use Rattle.digits.proofs.decimal as digits-decimal
 use Rattle.digits.proofs.refused_line as digits-refused-line
 use Rattle.digits.proofs.number as digits-number
@@ -76,6 +78,9 @@ lend-give-once κs args x y u v p q = let e = written-once x y p q in (e .0, pas
 
 pub lend-plain-once : Once lend-plain.Kinds.ps lend-plain.Kinds.r lend-plain.Reads.Learnt
 lend-plain-once κs args x y u v p q = (refl, here (p ∙ sym q))
+
+pub lend-part-once : OnceSeen lend-part.Kinds.ps lend-part.Kinds.r (λ κs x. now x) lend-part.Reads.Learnt
+lend-part-once κs args x y u v p q = (p ∙ sym q, refl)
 
 pub digits-decimal-once : Once digits-decimal.Kinds.ps digits-decimal.Kinds.r digits-decimal.Reads.Learnt
 digits-decimal-once κs args x y u v p q = (p .0 ∙ sym (q .0), here (p .2 ∙ sym (q .2)))

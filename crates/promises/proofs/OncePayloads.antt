@@ -1,8 +1,7 @@
 -- One answer, by each contract itself: payloads. Assumes nothing.
 use mathlib.Core.Path.{refl, sym, _∙_}
-use Rattle.promises.specs.Once.{Once, OnceSeen}
+use Rattle.promises.specs.Once.{Once}
 use Rattle.promises.proofs.Lasts.{here, past, past3}
-use denote.Ref.{now}
 use Rattle.wire.proofs.Writes.{told-injective, written-once}
 use Rattle.cbor.proofs.Answers.{head-injective}
 use Rattle.cbor.proofs.Runs.{put-once}
@@ -23,7 +22,6 @@ use Rattle.shard.proofs.signed as shard-signed
 use Rattle.entry.proofs.FileRead.no as entry-FileRead-no
 use Rattle.entry.proofs.read.integer as entry-read-integer
 use Rattle.entry.proofs.read.file as entry-read-file
-use Rattle.entry.proofs.write.part as entry-write-part
 use Rattle.entry.proofs.write.digest as entry-write-digest
 use Rattle.entry.proofs.write.judge as entry-write-judge
 use Rattle.entry.proofs.write.integer as entry-write-integer
@@ -73,9 +71,6 @@ pub entry-read-file-once : Once entry-read-file.Kinds.ps entry-read-file.Kinds.r
 entry-read-file-once κs args x y u v p q = (file-injective x y (p ∙ sym q), refl)
 
 -- a part of the pool is lent back: its bytes are fixed, not its place
-pub entry-write-part-once : OnceSeen entry-write-part.Kinds.ps entry-write-part.Kinds.r (λ κs x. now x) entry-write-part.Reads.Learnt
-entry-write-part-once κs args x y u v p q = (p ∙ sym q, refl)
-
 pub entry-write-digest-once : Once entry-write-digest.Kinds.ps entry-write-digest.Kinds.r entry-write-digest.Reads.Learnt
 entry-write-digest-once κs args x y u v p q = (p ∙ sym q, refl)
 

@@ -71,6 +71,17 @@ pub const BAD_PATH: u8 = 20;
 
 pub const BAD_CONTENTS: u8 = 21;
 
+// Of the wardens' slips.
+pub const TOO_FEW_SLIPS: u8 = 26;
+
+pub const UNLIKE_SLIPS: u8 = 27;
+
+pub const SLIP_TWICE: u8 = 28;
+
+pub const OFF_THE_CURVE: u8 = 29;
+
+pub const BAD_PADDING: u8 = 30;
+
 // ---- the sizes of R3.1 to R3.8: specs/Sizes.antt has a line on each.
 pub const MOST_PAGES: usize = 96;
 

@@ -1,9 +1,9 @@
--- `entry::write::part` meets its contract: all of the place, what is left of it, or nothing.
+-- `lend::part` meets its contract: all of the place, what is left of it, or nothing.
 -- Assumes nothing.
-use Rattle.entry.proofs.Writers.{part-none, part-rest, part-whole}
+use Rattle.lend.proofs.Parts.{part-none, part-rest, part-whole}
 use borrow.Author.Needs.{needs}
-use Rattle.entry.proofs.write.part.Statement.{statement}
-use Rattle.entry.proofs.write.part.Tie as tie
+use Rattle.lend.proofs.part.Statement.{statement}
+use Rattle.lend.proofs.part.Tie as tie
 
 returns : tie.Need-returns
 returns c = search part-none

@@ -1,0 +1,9 @@
+pub mod Differences
+pub mod Slips
+pub mod Judging
+pub mod Turns
+pub mod Filling
+pub mod Verdicts
+pub mod Back
+pub mod Changed
+pub mod Secrecy

@@ -1,0 +1,3 @@
+pub mod Recover
+pub mod Private
+pub mod Claims

@@ -1,0 +1,4 @@
+pub mod Sharing
+pub mod Values
+pub mod Turns
+pub mod Verdicts
