@@ -58,16 +58,27 @@ def build(output, sources, *more, **options):
     return output if done.returncode == 0 else None
 
 
-def archive(crate, root):
-    """A crate's archive, proved and built where it is lacking or older than a source."""
-    path = os.path.join(root, "target", "staticlib", f"lib{crate}.a")
+def made(root, path, *words):
+    """What `rt` makes with these words, proved and built where it is lacking or older than a
+    source."""
+    path = os.path.join(root, "target", path)
     sources = glob.glob(os.path.join(root, "crates", "*", "src", "**", "*.rt"), recursive=True)
     if not os.path.exists(path) or os.path.getmtime(path) < max(map(os.path.getmtime, sources)):
-        done = subprocess.run(["rt", "staticlib", crate], cwd=root, text=True, check=False,
+        done = subprocess.run(["rt", *words], cwd=root, text=True, check=False,
                               capture_output=True)
         if done.returncode != 0:
-            raise SystemExit(f"rt staticlib {crate} failed: {done.stderr.strip()[-300:]}")
+            raise SystemExit(f"rt {' '.join(words)} failed: {done.stderr.strip()[-300:]}")
     return path
+
+
+def archive(crate, root):
+    """A crate's archive."""
+    return made(root, os.path.join("staticlib", f"lib{crate}.a"), "staticlib", crate)
+
+
+def desk():
+    """The call desk, as a program."""
+    return made(ROOT, os.path.join("bin", "desk"), "check", "desk")
 
 
 def build_plain(folder):

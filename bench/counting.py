@@ -24,11 +24,14 @@ def runner(processor=PROCESSOR):
     return [] if X86 else ["qemu-x86_64", "-cpu", processor]
 
 
-def said(command, **more):
-    """What a command writes to standard error. It has next to no environment, whose size would show
-    in the counts: where memory begins decides how the C library copies."""
-    done = subprocess.run(command, text=True, check=False, stdout=subprocess.DEVNULL,
-                          stderr=subprocess.PIPE, env={"PATH": os.environ["PATH"], **more})
+def said(command, given=os.devnull, **more):
+    """What a command writes to standard error, with a file on standard input: how much a pipe gives
+    at a time would show in the counts. It has next to no environment, whose size would too: where
+    memory begins decides how the C library copies."""
+    with open(given, "rb") as file:
+        done = subprocess.run(command, text=True, check=False, stdin=file,
+                              stdout=subprocess.DEVNULL, stderr=subprocess.PIPE,
+                              env={"PATH": os.environ["PATH"], **more})
     if done.returncode != 0:
         raise SystemExit(f"{' '.join(command)} failed: {done.stderr.strip()[-300:]}")
     return done.stderr
@@ -40,9 +43,14 @@ class Counter:
     def __init__(self, name, prefix, number):
         self.name, self.prefix, self.number = name, prefix, re.compile(number, re.MULTILINE)
 
-    def count(self, command):
+    def count(self, command, given):
         """The instructions of one run, the program's start included."""
-        return int(self.number.search(said([*self.prefix, *command])).group(1))
+        return int(self.number.search(said([*self.prefix, *command], given)).group(1))
+
+    def within(self, function):
+        """The same for callgrind, of what runs within one function alone."""
+        return Counter(f"{self.name} --toggle-collect={function}",
+                       [*self.prefix, f"--toggle-collect={function}"], self.number.pattern)
 
     def works(self):
         """Whether it counts a program that does nothing."""
@@ -97,9 +105,9 @@ def version(program):
     return done.stdout.split("\n", maxsplit=1)[0]
 
 
-def instructions(way, command, times):
+def instructions(way, command, times, given=lambda times: os.devnull):
     """Instructions of one run: 2 R runs less R runs, so that the start cancels out."""
-    once, twice = way.count(command(times)), way.count(command(2 * times))
+    once, twice = (way.count(command(runs), given(runs)) for runs in (times, 2 * times))
     return (twice - once) / times
 
 

@@ -12,6 +12,7 @@ subject of them, and each function that judges by a rule gives its number:
     cbor        CBOR items, read and written
     floats      floating-point numbers of three widths
     payloads    auth and shard payloads, and the bytes that get signed
+    sharing     a secret split into shares, and recovered from slips
     manifest    paths, file entries, the manifest
     envelope    the envelope
     collection  the collection of pages, which is also the saved file

@@ -6,7 +6,7 @@ a library that keeps R1.2 gives no cause for it, and a desk that prints it diffe
 
 import re
 
-from . import collection, envelope, forms, frames, payloads, sums
+from . import collection, envelope, forms, frames, payloads, sharing, sums
 from .answers import WITH_PLACE, Refusal, lend
 from .floats import float_read, float_write
 from .manifest import File, Manifest, manifest_read, manifest_write
@@ -16,6 +16,7 @@ from .verbs import ALL
 LONGEST_LINE = 262144  # D1.5
 MOST_ROOM = 65536  # D1.6
 MOST_ENTRIES = 65  # D2.10
+MOST_SLIPS = 300  # D2.14
 
 HEX = re.compile(rb"(?:[0-9a-f]{2})+")
 DIGITS = re.compile(rb"[0-9]{1,40}")
@@ -121,7 +122,7 @@ def through(function):
 
 
 def one(function):
-    """A verb whose answer is one value (D2.3, D2.5, D2.6, D2.11, D2.12)."""
+    """A verb whose answer is one value (D2.3, D2.5, D2.6, D2.11, D2.12, D2.14)."""
     return lambda *arguments: [function(*arguments)]
 
 
@@ -193,6 +194,7 @@ PLAIN = {
     "manifest-read": ((BYTES,), manifest_values),
     "envelope-read": ((BYTES,), envelope.envelope_read),
     "envelope-write": ((BYTES, BYTES, ROOM), one(envelope.envelope_write)),
+    "split": ((BYTES, NUMBER, NUMBER, BYTES, ROOM), one(sharing.split)),
 }
 
 ENTRY = (BYTES, BYTES, NUMBER, or_null(SIGNED))
@@ -215,6 +217,13 @@ def manifest_write_parsed(arguments):
     values = parsed(ENTRY * count, arguments[4:-1])
     files = tuple(File(*values[i:i + 4]) for i in range(0, 4 * count, 4))
     return Manifest(seed, files, sealed, created), room
+
+
+def recover_parsed(arguments):
+    """ROOM, and behind it up to 300 slips (D2.14)."""
+    slips = len(arguments) - 1
+    demand(0 <= slips <= MOST_SLIPS)
+    return parsed((ROOM, *[BYTES] * slips), arguments)
 
 
 class Desk:
@@ -263,6 +272,8 @@ class Desk:
         """What is printed after the 0."""
         if verb == "manifest-write":
             return [manifest_write(*manifest_write_parsed(arguments))]
+        if verb == "recover":
+            return [sharing.recover(*recover_parsed(arguments))]
         argument_forms, function = PLAIN.get(verb) or self.register_calls[verb]
         return function(*parsed(argument_forms, arguments))
 

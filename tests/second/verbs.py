@@ -12,6 +12,7 @@ LANDED = [
     "load", "save", "open", "offer", "join", "finish", "mend", "status",
     "auth-read", "auth-write", "auth-signed", "shard-read", "shard-write", "shard-signed",
     "manifest-read", "manifest-write", "envelope-read", "envelope-write",
+    "split", "recover",
 ]
 
 LATER = []
@@ -57,4 +58,6 @@ GIVES = {
     "manifest-write": (0, 9, 11, 19, 20),
     "envelope-read": (0, 3, 4, 5, 7, 9, 18, 19, 20, 21),
     "envelope-write": (0, 3, 9, 11, 18, 19, 20, 21),
+    "split": (0, 11, 19),
+    "recover": (0, 3, 11, 18, 19, 26, 27, 28, 29, 30),
 }

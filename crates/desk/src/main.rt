@@ -3,8 +3,9 @@
 // answers of the libraries.
 //
 // A verb is a row of a table (its name and the form of its arguments) and the arm of that number:
-// in `read` where the call only reads, in `writers` or `listings` where it writes into the room, in
-// `registers` where it is about collections. The short function behind it stands with its like.
+// in `read` where the call only reads, in `writers`, `listings` or `secrets` where it writes into
+// the room, in `registers` where it is about collections. The short function behind it stands with
+// its like.
 //
 // What lasts from line to line are arrays of `main`: `input` for what was read, `shelf` and `lens`
 // for the registers, and `out` for the replies that are not written out yet. A line has arrays of
@@ -20,6 +21,7 @@ mod reading;
 mod registers;
 mod reply;
 mod said;
+mod secrets;
 mod shards;
 mod sums;
 mod values;
@@ -99,11 +101,15 @@ fn call(
     if n > 0 {
         return n;
     }
-    listings::call(line, starts, pool, room, out)
+    let n = listings::call(line, starts, pool, room, out);
+    if n > 0 {
+        return n;
+    }
+    secrets::call(line, starts, pool, room, out)
 }
 
-// The reply to a line of these words; 0 where it is of no known form (D1.5). ROOM is always the
-// last argument, so the room is cut to it here, once for every verb (D1.6).
+// The reply to a line of these words; 0 where it is of no known form (D1.5). The room is cut to
+// what the line asks for here, once for every verb (D1.6).
 fn answer_words(
     line: &[u8],
     starts: &[usize],
@@ -117,7 +123,7 @@ fn answer_words(
         return n;
     }
     let mut room = words::room();
-    let lent = words::last_room(line, starts);
+    let lent = words::room_asked(line, starts);
     if lent > words::ROOM_MOST as usize {
         return 0;
     }

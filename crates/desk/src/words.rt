@@ -13,11 +13,11 @@ use crate::values;
 use wire::Span;
 
 // The letters of a form, which say what a verb asks of each argument, as b"br" for BYTES ROOM.
-const BYTES: u8 = b'b';
+pub(crate) const BYTES: u8 = b'b';
 
 const NUMBER: u8 = b'n';
 
-const ROOM: u8 = b'r';
+pub(crate) const ROOM: u8 = b'r';
 
 const BYTES_OR_NULL: u8 = b'z';
 
@@ -128,12 +128,26 @@ pub(crate) fn number(line: &[u8], starts: &[usize], k: usize) -> u64 {
     values::number(word(line, starts, k))
 }
 
-// What the last word asks for as a ROOM; 0 where it is none.
-pub(crate) fn last_room(line: &[u8], starts: &[usize]) -> usize {
+// Whether the verb is recover, of whatever form.
+pub(crate) fn recovers(line: &[u8], starts: &[usize]) -> bool {
+    lend::equal(word(line, starts, 0), b"recover")
+}
+
+// Which word is ROOM: the first argument of recover, which any number of slips follow (D2.14), and
+// the last of every other verb.
+fn room_word(line: &[u8], starts: &[usize]) -> usize {
+    if recovers(line, starts) {
+        return 1;
+    }
     if starts.len() < 2 {
         return 0;
     }
-    let k = starts.len() - 2;
+    starts.len() - 2
+}
+
+// What the line asks for as its ROOM; 0 where that word is none.
+pub(crate) fn room_asked(line: &[u8], starts: &[usize]) -> usize {
+    let k = room_word(line, starts);
     if values::is_at_most(word(line, starts, k), ROOM_MOST) {
         return number(line, starts, k) as usize;
     }

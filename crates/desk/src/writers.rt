@@ -1,7 +1,9 @@
-// The verbs that write into the room, but for those of manifests, envelopes and registers.
+// The verbs that write into the room, but for those of manifests, envelopes and registers, and for
+// recover.
 use crate::frames;
 use crate::reply;
 use crate::reply::Reply;
+use crate::secrets;
 use crate::shards;
 use crate::values;
 use crate::words;
@@ -9,7 +11,7 @@ use typed::TypedRead;
 use wire::Wrote;
 
 // The row of the one verb here whose refusal has a place.
-const TYPED_READ: usize = 15;
+const TYPED_READ: usize = 16;
 
 // The verbs of one argument: both texts, read and written (D2.2), and typed lines, written (D2.13).
 fn of_one(verb: usize, s: &[u8], room: &mut [u8]) -> Wrote {
@@ -32,7 +34,7 @@ fn of_two(verb: usize, one: &[u8], two: &[u8], room: &mut [u8]) -> Wrote {
 }
 
 // The verbs that take numbers, or more: varints (D2.1), pages (D2.5), auth payloads (D2.7), shards
-// (D2.8) and floats (D2.12).
+// (D2.8), floats (D2.12) and secrets (D2.14).
 fn of_more(verb: usize, line: &[u8], starts: &[usize], pool: &[u8], room: &mut [u8]) -> Wrote {
     let one = words::bytes(pool, starts, 1);
     match verb {
@@ -46,7 +48,8 @@ fn of_more(verb: usize, line: &[u8], starts: &[usize], pool: &[u8], room: &mut [
         ),
         12 => shards::shard_write(line, starts, pool, room),
         13 => shards::shard_signed(line, starts, pool, room),
-        _ => cbor::write::float_alone(values::double(words::word(line, starts, 1)), room),
+        14 => cbor::write::float_alone(values::double(words::word(line, starts, 1)), room),
+        _ => secrets::split(line, starts, pool, room),
     }
 }
 
@@ -93,6 +96,7 @@ pub(crate) fn call(
           shard-write bbbbbnnnnr,\
           shard-signed bbbbnnnnr,\
           float-write dr,\
+          split bnnbr,\
           typed-read br",
     );
     if verb < 1 {

@@ -7,10 +7,10 @@ until there are enough. The same seed gives the same lines.
 import random
 
 from . import (collecting, digests, floating, framing, listing, malformed, mistyping, paying,
-               plain_forms)
+               plain_forms, recovering, splitting)
 
 GROUPS = [group for module in (plain_forms, mistyping, digests, framing, floating, paying, listing,
-                               collecting)
+                               collecting, splitting, recovering)
           for group in module.GROUPS]
 
 

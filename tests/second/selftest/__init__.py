@@ -1,7 +1,8 @@
 """This program held to the standards, to the examples of the rules, and to itself (R18.7)."""
 
 # each adds its checks
-from . import comparing, crossing, floating, mistyping, rounds, sets, standards  # noqa: F401
+from . import (comparing, crossing, floating, mistyping, rounds, sets, sharing,  # noqa: F401
+               standards)
 from .common import CHECKS
 
 

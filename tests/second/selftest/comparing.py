@@ -64,7 +64,7 @@ def lines_are_parted():
 def verbs_that_have_not_landed_are_unknown():
     """An unknown verb prints `?` (D1.5), and every verb that is listed is written here."""
     same(desk.Desk(["crc"]).answer(b"sha256 -"), "?")
-    written = {*desk.PLAIN, *desk.Desk().register_calls, "status", "manifest-write"}
+    written = {*desk.PLAIN, *desk.Desk().register_calls, "status", "manifest-write", "recover"}
     same(sorted(ALL), sorted(written))
 
 

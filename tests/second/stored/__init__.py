@@ -6,10 +6,10 @@ beside the call, and the run is not made if this program answers otherwise.
 """
 
 from ..desk import Desk
-from . import digests, floats, forms, frames, lines, payloads, sessions, typed_lines
+from . import digests, floats, forms, frames, lines, payloads, sessions, sharing, typed_lines
 
-SECTIONS = [section for module in (forms, typed_lines, digests, frames, floats, payloads, sessions,
-                                   lines)
+SECTIONS = [section for module in (forms, typed_lines, digests, frames, floats, payloads, sharing,
+                                   sessions, lines)
             for section in module.SECTIONS]
 
 OPENING = b"""\
