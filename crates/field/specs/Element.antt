@@ -4,7 +4,7 @@ use mathlib.Core.List.{List, [], _∷_}
 use lib.ListN.{getD}
 use Rattle.wire.specs.Number.{number}
 
--- the element of two halves, the high powers first (R18.7)
+-- the element of two halves, the high powers first (R18.8)
 abbrev pub joined : List ℕ → ℕ
 joined e = getD e 0 0 * 2 ^ 64 + getD e 1 0
 

@@ -1,5 +1,5 @@
 // The field with 2^128 elements, of which secrets are split and recovered (R19.1). An element is
-// two halves by value, the high powers first (R18.7).
+// two halves by value, the high powers first (R18.8).
 //
 // How long a call takes depends on the second factor alone, and a table is read at it alone: above
 // this crate that is a slip's number, or the inverse of a difference of two, which stand on the

@@ -6,6 +6,7 @@ pub mod Texts
 pub mod TypedLines
 pub mod Payloads
 pub mod Demand2
+pub mod Secrets
 pub mod Interfaces
 pub mod Demand3
 mod Ranges
@@ -17,6 +18,7 @@ pub mod Lasts
 pub mod OnceBytes
 pub mod OnceItems
 pub mod OncePayloads
+pub mod OnceSecrets
 pub mod OncePages
 pub mod OnceCollection
 pub mod OncePrograms

@@ -13,6 +13,7 @@ pub mod Envelope
 pub mod Manifest
 pub mod Auth
 pub mod Shard
+pub mod Secrets
 pub mod Page
 pub mod PayloadFrame
 pub mod Scan

@@ -20,6 +20,7 @@ use Rattle.scan.proofs.session.report as scan-session-report
 use Rattle.sheet.proofs.scans as sheet-scans
 use Rattle.sheet.proofs.typed as sheet-typed
 use Rattle.sheet.proofs.typed_page as sheet-typed-page
+use Rattle.sheet.proofs.in_groups as sheet-in-groups
 use Rattle.sheet.proofs.number_asked as sheet-number-asked
 use Rattle.sheet.proofs.refusal as sheet-refusal
 use Rattle.told.proofs.lines as told-lines
@@ -45,6 +46,13 @@ use Rattle.typing.proofs.scan as typing-scan
 use Rattle.typing.proofs.page_fault as typing-page-fault
 use Rattle.typing.proofs.line_fault as typing-line-fault
 use Rattle.typing.proofs.words as typing-words
+use Rattle.slips.proofs.Once.{told-once as slip-once}
+use Rattle.slips.proofs.line_end as slips-line-end
+use Rattle.slips.proofs.next as slips-next
+use Rattle.slips.proofs.feeds as slips-feeds
+use Rattle.slips.proofs.read as slips-read
+use Rattle.slips.proofs.repeated as slips-repeated
+use Rattle.slips.proofs.hex as slips-hex
 use Rattle.speed.proofs.speed_crc32 as speed-speed-crc32
 use Rattle.speed.proofs.speed_sha256 as speed-speed-sha256
 use Rattle.speed.proofs.speed_blake2b as speed-speed-blake2b
@@ -82,6 +90,9 @@ sheet-scans-once κs args x y u v p q = let e = written-once x y p q in (e .0, p
 
 pub sheet-typed-once : Once sheet-typed.Kinds.ps sheet-typed.Kinds.r sheet-typed.Reads.Learnt
 sheet-typed-once κs args x y u v p q = let e = written-once x y p q in (e .0, past (past (here (e .1))))
+
+pub sheet-in-groups-once : Once sheet-in-groups.Kinds.ps sheet-in-groups.Kinds.r sheet-in-groups.Reads.Learnt
+sheet-in-groups-once κs args x y u v p q = let e = written-once x y p q in (e .0, past (here (e .1)))
 
 pub sheet-typed-page-once : Once sheet-typed-page.Kinds.ps sheet-typed-page.Kinds.r sheet-typed-page.Reads.Learnt
 sheet-typed-page-once κs args x y u v p q = let e = written-once x y p q in (e .0, past (past (past (here (e .1)))))
@@ -173,6 +184,24 @@ typing-page-fault-once κs args x y u v p q = (p ∙ sym q, refl)
 
 pub typing-line-fault-once : Once typing-line-fault.Kinds.ps typing-line-fault.Kinds.r typing-line-fault.Reads.Learnt
 typing-line-fault-once κs args x y u v p q = (p ∙ sym q, refl)
+
+pub slips-line-end-once : Once slips-line-end.Kinds.ps slips-line-end.Kinds.r slips-line-end.Reads.Learnt
+slips-line-end-once κs args x y u v p q = (p ∙ sym q, refl)
+
+pub slips-next-once : Once slips-next.Kinds.ps slips-next.Kinds.r slips-next.Reads.Learnt
+slips-next-once κs args x y u v p q = (p ∙ sym q, refl)
+
+pub slips-feeds-once : Once slips-feeds.Kinds.ps slips-feeds.Kinds.r slips-feeds.Reads.Learnt
+slips-feeds-once κs args x y u v p q = (p ∙ sym q, refl)
+
+pub slips-read-once : Once slips-read.Kinds.ps slips-read.Kinds.r slips-read.Reads.Learnt
+slips-read-once κs args x y u v p q = let e = slip-once p q in (e .0, past (past (here (e .1))))
+
+pub slips-repeated-once : Once slips-repeated.Kinds.ps slips-repeated.Kinds.r slips-repeated.Reads.Learnt
+slips-repeated-once κs args x y u v p q = (p ∙ sym q, refl)
+
+pub slips-hex-once : Once slips-hex.Kinds.ps slips-hex.Kinds.r slips-hex.Reads.Learnt
+slips-hex-once κs args x y u v p q = let e = written-once x y p q in (e .0, past (past (here (e .1))))
 
 pub typing-words-once : Once typing-words.Kinds.ps typing-words.Kinds.r typing-words.Reads.Learnt
 typing-words-once κs args x y u v p q = let e = written-once x y p q in (e .0, past (here (e .1)))

@@ -1,6 +1,7 @@
 pub mod Calls
 pub mod Formats
 pub mod Demand2
+pub mod Secrets
 pub mod Collecting
 pub mod Demand3
 pub mod Programs

@@ -44,9 +44,6 @@ pub counted : (s starts lens : List ℕ) (n : ℕ) → n ≡ min (length starts)
 counted s starts lens n e =
     record { starts-long = omega arith; lens-long = omega arith; all = slips-long s starts lens ∙ sym e }
 
-pub in-starts : {n : ℕ} {s starts lens : List ℕ} (i : ℕ) → Counted n s starts lens → i < n → (i < length starts) × (i < length lens)
-in-starts i k h = (omega (arith, k .starts-long), omega (arith, k .lens-long))
-
 -- ---- what a payload says
 
 module _ (s : List ℕ) (r : ShardRead) (h : shardTold r ≡ shardAt s) where

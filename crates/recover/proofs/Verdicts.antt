@@ -28,7 +28,7 @@ use Rattle.recover.proofs.Filling.{values-long}
 
 -- ---- the secret and what fills its last block
 
-over-front-of : (bs l : List ℕ) → length bs ≤ length l → over 0 bs l ≡ bs ++ drop (length bs) l
+pub over-front-of : (bs l : List ℕ) → length bs ≤ length l → over 0 bs l ≡ bs ++ drop (length bs) l
 unfolding over
 over-front-of bs l h = rw (le-leb (0 + length bs) (length l) (omega arith)) (ap (λ (n : ℕ). bs ++ drop n l) (let e : 0 + length bs ≡ length bs = omega arith in e))
 

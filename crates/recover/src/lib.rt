@@ -135,12 +135,14 @@ fn combine(
             no: wire::TOO_FEW_SLIPS,
         };
     }
-    if !judge::all_alike(s, starts, lens, n) {
+    let alike = judge::all_alike(s, starts, lens, n);
+    let distinct = judge::all_distinct(s, starts, lens, n);
+    if !alike {
         return Wrote::Refused {
             no: wire::UNLIKE_SLIPS,
         };
     }
-    if !judge::all_distinct(s, starts, lens, n) {
+    if !distinct {
         return Wrote::Refused {
             no: wire::SLIP_TWICE,
         };

@@ -94,9 +94,9 @@ pub(super) fn fits(
 {
     let mut i = t;
     while i < n {
-        let p = slip::of(s, starts, lens, i);
-        let there = value(xs, ds, slip::index(p));
-        if !same(there, slip::block(p, k)) {
+        let further = slip::of(s, starts, lens, i);
+        let there = value(xs, ds, slip::index(further));
+        if !same(there, slip::block(further, k)) {
             return false;
         }
         i += 1;

@@ -3,6 +3,7 @@ pub mod Laying
 pub mod Texts
 pub mod Groups
 pub mod Typing
+pub mod Printing
 pub mod Sheets
 pub mod Lengths
 pub mod OneLine

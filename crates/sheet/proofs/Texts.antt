@@ -87,18 +87,23 @@ module _ (c : List ℕ) (size k : ℕ) (t : There c size k) where
       pub square-laid : (n : ℕ) → r ≡ Done n → Laid 0 667 (textOf base64 (pageFrame c size k)) x y n
       square-laid = front 667 (textOf base64 (pageFrame c size k)) x y square-short room r (rw frame-there at w)
 
-    -- z holds the frame in front
-    module _ (z : List ℕ) (m : ℕ) (p : Laid 0 500 (pageFrame c size k) (replicate 500 0) z m) (room : 859 ≤ length x) (w : Written 0 (writeTyped (take (m - 0) (drop 0 z))) x y r) where
-      lines-meant : writeTyped (take (m - 0) (drop 0 z)) ≡ done (typedOf (pageFrame c size k))
-      unfolding writeTyped
-      lines-meant =
-          rw (laid-part 500 m (pageFrame c size k) (replicate 500 0) z (omega (arith, length-replicate {A = ℕ} 500 0)) p, le-leb (length (pageFrame c size k)) 500 page-short)
+-- where z holds the frame in front, what is spelt of it is the page's
+pub lines-laid : (c : List ℕ) (size k m n : ℕ) (z x y : List ℕ) → Laid 0 500 (pageFrame c size k) (replicate 500 0) z m
+    → Laid 0 859 (typedOf (take (m - 0) (drop 0 z))) x y n → Laid 0 859 (typedOf (pageFrame c size k)) x y n
+lines-laid c size k m n z x y p q = rw (laid-part 500 m (pageFrame c size k) (replicate 500 0) z (omega (arith, length-replicate {A = ℕ} 500 0)) p) at q
 
-      pub lines-never : (e : ℕ) → r ≡ Refused e → Laid 0 859 (typedOf (pageFrame c size k)) x y 0
-      lines-never = never 859 (typedOf (pageFrame c size k)) x y (typed-short (pageFrame c size k) page-short) room r (rw lines-meant at w)
+-- ---- bytes that can be typed
 
-      pub lines-laid : (n : ℕ) → r ≡ Done n → Laid 0 859 (typedOf (pageFrame c size k)) x y n
-      lines-laid = front 859 (typedOf (pageFrame c size k)) x y (typed-short (pageFrame c size k) page-short) room r (rw lines-meant at w)
+module _ (bs x y : List ℕ) (h : length bs ≤ 500) (room : 859 ≤ length x) (r : Wrote) (w : Written 0 (writeTyped bs) x y r) where
+  spelt-is : writeTyped bs ≡ done (typedOf bs)
+  unfolding writeTyped
+  spelt-is = rw (le-leb (length bs) 500 h)
+
+  pub spelt-never : (e : ℕ) → r ≡ Refused e → Laid 0 859 (typedOf bs) x y 0
+  spelt-never = never 859 (typedOf bs) x y (typed-short bs h) room r (rw spelt-is at w)
+
+  pub spelt-laid : (n : ℕ) → r ≡ Done n → Laid 0 859 (typedOf bs) x y n
+  spelt-laid = front 859 (typedOf bs) x y (typed-short bs h) room r (rw spelt-is at w)
 
 -- the text of a square, with its line feed, is the line
 pub line-laid : (c : List ℕ) (size k n at : ℕ) (y l u v : List ℕ) → v ≡ over (at + n) lineFeed u → u ≡ over at (take (n - 0) (drop 0 y)) l

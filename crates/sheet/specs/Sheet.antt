@@ -1,14 +1,14 @@
 -- A document as it is printed, in pages of a size that is given: section 15 of docs/RULES.md.
 use Prim.Native.Nat.{ℕ, suc}
 use mathlib.Core.List.{List, [], _∷_, _++_}
-use lib.Dec.{ltb, eqb}
+use lib.Dec.{ltb, leb, eqb}
 use lib.ListN.{length}
 use Rattle.wire.specs.Answer.{choose, Answer, done, then, demand}
 use Rattle.wire.specs.Ascii.{ascii}
 use Rattle.digits.specs.Decimal.{decimal, lineFeed}
 use Rattle.digits.specs.Hex.{hexOf}
 use Rattle.text.specs.Text.{base64, zbase32, textOf}
-use Rattle.typed.specs.Typed.{mostLines, rows, numbered}
+use Rattle.typed.specs.Typed.{mostLines, mostTyped, rows, numbered}
 use Rattle.document_id.specs.Id.{documentId}
 use Rattle.page.specs.Page.{pageCount, pageFrame, countOf, joined}
 
@@ -31,9 +31,13 @@ ofWord = ascii " of "
 unfoldable pub placeLine : ℕ → ℕ → List ℕ
 placeLine k n = pageWord ++ decimal k ++ ofWord ++ decimal n ++ lineFeed
 
--- the lines that are typed of page k: its frame in z-base-32, with the check of each line (R5.9)
+-- the lines that are typed of bytes: their z-base-32, with the check of each line (R5.9)
+abbrev pub toTypeOf : List ℕ → List (List ℕ)
+toTypeOf bs = numbered 1 (rows mostLines (textOf zbase32 bs))
+
+-- of page k: those of its frame
 unfoldable pub toType : List ℕ → ℕ → ℕ → List (List ℕ)
-toType c size k = numbered 1 (rows mostLines (textOf zbase32 (pageFrame c size k)))
+toType c size k = toTypeOf (pageFrame c size k)
 
 -- a line in groups of six characters with a space between two of them, where n characters of its
 -- first group stand in front already (R15.4)
@@ -48,6 +52,10 @@ grouped l = groupedFrom 0 l
 unfoldable pub printedLines : List (List ℕ) → List ℕ
 printedLines [] = []
 printedLines (l ∷ ls) = grouped l ++ (lineFeed ++ printedLines ls)
+
+-- the lines to be typed of any bytes, in print: more than 500 are 9 (R5.13)
+unfoldable pub groupsVerdict : List ℕ → Answer (List ℕ)
+groupsVerdict bs = demand (leb (length bs) mostTyped) 9 (done (printedLines (toTypeOf bs)))
 
 -- the place, and the lines to be typed (R15.4)
 unfoldable pub typedLines : List ℕ → ℕ → ℕ → List ℕ

@@ -6,7 +6,8 @@ ghost use lib.ListN.{length};
 ghost use Rattle.digits.specs.Private.{Laid};
 ghost use Rattle.typed.specs.Typed.{typedOf};
 ghost use Rattle.page.specs.Page.{pageFrame};
-ghost use Rattle.sheet.specs.Sheet.{printedLines, toType};
+ghost use Rattle.wire.specs.Writing.{Written};
+ghost use Rattle.sheet.specs.Sheet.{printedLines, toType, groupsVerdict};
 ghost use Rattle.sheet.specs.Private.{There, standing, begins, shown, spread};
 use wire::Wrote;
 
@@ -76,7 +77,39 @@ fn groups(text: &[u8], out: &mut [u8], at: usize) -> usize
     to + 1
 }
 
-// ---- the lines of a page that there is, each time where there is room: so nothing is refused
+// ---- the lines of bytes that can be typed, each time where there is room: so nothing is refused
+
+fn spell(bytes: &[u8], out: &mut [u8]) -> usize
+    requires { ⌜ (length (now bytes) ≤ 500) × (859 ≤ length (now out)) ⌝ }
+    ensures { λ r. ⌜ Laid 0 859 (typedOf (now (bytes .entry))) (now (out .entry)) (now (out .exit)) r ⌝ }
+{
+    let made = typed::write(bytes, out);
+    let Wrote::Done { len } = made else {
+        return 0;
+    };
+    len
+}
+
+// The lines in print, of any bytes. No bytes are no line, and more than 500 are not typed.
+pub(super) fn printed(bytes: &[u8], out: &mut [u8]) -> Wrote
+    ensures { λ r. ⌜ Written 0 (groupsVerdict (now (bytes .entry))) (now (out .entry)) (now (out .exit)) r ⌝ }
+{
+    if bytes.len() == 0 {
+        return Wrote::Done { len: 0 };
+    }
+    if FRAME_ROOM < bytes.len() {
+        return Wrote::Refused {
+            no: wire::TOO_LARGE,
+        };
+    }
+    let mut room = [0u8; TEXT_ROOM];
+    let mut aside = [0u8; ROOM];
+    let len = spell(bytes, &mut room);
+    let end = groups(&room[0..len], &mut aside, 0);
+    lend::give(&aside[0..end], out)
+}
+
+// ---- the lines of a page that there is
 
 fn frame(c: &[u8], size: usize, k: usize, out: &mut [u8]) -> usize
     requires { ⌜ There (now c) size k × (500 ≤ length (now out)) ⌝ }
@@ -95,11 +128,7 @@ fn text(c: &[u8], size: usize, k: usize, out: &mut [u8]) -> usize
 {
     let mut room = [0u8; FRAME_ROOM];
     let long = frame(c, size, k, &mut room);
-    let made = typed::write(&room[0..long], out);
-    let Wrote::Done { len } = made else {
-        return 0;
-    };
-    len
+    spell(&room[0..long], out)
 }
 
 pub(super) fn lines(c: &[u8], size: usize, k: usize, out: &mut [u8], at: usize) -> usize

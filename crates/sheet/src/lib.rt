@@ -19,7 +19,7 @@ ghost use Rattle.wire.specs.Writing.{Written};
 ghost use Rattle.digits.specs.Decimal.{numeral};
 ghost use Rattle.text.specs.Text.{base64, textOf};
 ghost use Rattle.page.specs.Page.{countOf, pageFrame};
-ghost use Rattle.sheet.specs.Sheet.{idLine, placeLine, scanLine, scanVerdict, typedVerdict, typedLines, placeVerdict};
+ghost use Rattle.sheet.specs.Sheet.{idLine, placeLine, scanLine, scanVerdict, typedVerdict, groupsVerdict, typedLines, placeVerdict};
 ghost use Rattle.sheet.specs.Private.{There, linesOf, sheetOf, sheetVerdict};
 ghost use Rattle.sheet.specs.Word.{askedOf};
 ghost use Rattle.sheet.specs.Words.{givenWords, largeWords, reasonWords, refusalWords};
@@ -182,6 +182,14 @@ pub fn scans(c: &[u8], size: usize, out: &mut [u8]) -> Wrote
     ensures { λ r. ⌜ Written 0 (scanVerdict (now (c .entry)) size) (now (out .entry)) (now (out .exit)) r ⌝ }
 {
     sheet(Form::Square, c, size, out)
+}
+
+// The typed lines of bytes, each in groups of six characters and with a line feed behind it, at the
+// front of out, and their length; or 9 for more than 500 bytes, 11, and nothing changed.
+pub fn in_groups(bytes: &[u8], out: &mut [u8]) -> Wrote
+    ensures { λ r. ⌜ Written 0 (groupsVerdict (now (bytes .entry))) (now (out .entry)) (now (out .exit)) r ⌝ }
+{
+    below::printed(bytes, out)
 }
 
 // The document id, and for each page of this size its place and its typed lines in groups of six

@@ -14,7 +14,8 @@ returns : tie.Need-returns
 returns c =
     let f = c .before .before .before .before .before in
     let l = f .before .before .before .before .before .before in
-    let g = l .before .before .before .before .before .before .before .pre in
+    let m = l .before .before .before in
+    let g = m .before .before .before .before .pre in
     (f .fits2 .ensures, laid-value _ _ _ _ (omega (arith, g .2)) (omega (arith, g .2)) (l .before .lay .ensures) (c .value .result) _ (c .value .ensures))
 
 -- Found by search:

@@ -1,5 +1,5 @@
--- `recover::combine` meets its contract: 26, 27, 28, or what the fitting slips give. Assumes
--- nothing.
+-- `recover::combine` meets its contract: 26, 27, 28, or what the fitting slips give.
+-- Assumes nothing.
 use Rattle.recover.proofs.Verdicts.{too-few, of-two-secrets, one-twice, as-fitted}
 use borrow.Author.Needs.{needs}
 use Rattle.recover.proofs.combine.Statement.{statement}
@@ -37,8 +37,8 @@ combine-spec =
     (tie.spec
     returns
     all-alike-requires
-    returns-2
     all-distinct-requires
+    returns-2
     returns-3
     secret-requires
     same-length

@@ -26,7 +26,8 @@ combine-requires : tie.Need-combine-requires
 combine-requires c κs =
     let p = c .before .before .of .ensures in
     let t = c .before .terms .ensures in
-    let n = c .before .before .before .before .before .before .before .count in (
+    let e = c .before .before .before .before in
+    let n = e .before .before .before .count in (
       counted _ _ _ _ (n .ensures),
       omega arith,
       t .0 ∙ ap (λ l. slipIn l .threshold) p,
@@ -37,7 +38,8 @@ combine-requires c κs =
 
 returns-3 : tie.Need-returns-3
 returns-3 c =
-    let e = c .before .before .before .before .before .before .before in
+    let f = c .before .before .before .before .before .before in
+    let e = f .before in
     let r = e .before .before in
     all-read-then _ _ _ (r .all-read .ensures) _ (e .enum-told .given .1) _ _ (c .before .before .combine .result) (c .before .before .combine .ensures)
 

@@ -1,0 +1,5 @@
+pub mod Lines
+pub mod Finding
+pub mod Repeats
+pub mod Seeing
+pub mod Once
