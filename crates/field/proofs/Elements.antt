@@ -5,9 +5,7 @@ use Prim.Native.Nat.{ℕ, zero, suc, _+_, _*_, _/_, _%_, _^_, _<_}
 use native.Mathlib.Nat.{mod-lt, zero-add}
 use native.Mathlib.Omega.{arith}
 use lib.Bits.{bitXor, xor-block, xor-shifted, xor-zero-r, xor-lt}
-use lib.Arith.{digits-lt}
 use lib.Pow.{split, high, low, pow-pos, shr-shr, shr-lt, shr-mod, mod-pow-add}
-use lib.ListN.{length, getD}
 use Rattle.field.specs.Field.{plus, timesX, pick}
 use Rattle.field.specs.Element.{joined, halves}
 
@@ -17,18 +15,6 @@ joined-halves a = split a 64
 -- the halves of a number that is put together of two
 pub two-halves : (h l : ℕ) → l < 2 ^ 64 → halves (h * 2 ^ 64 + l) ≡ h ∷ l ∷ []
 two-halves h l g = ap₂ {C = List ℕ} (λ (x y : ℕ). x ∷ y ∷ []) (high h 64 g) (low h 64 g)
-
-pub halves-joined : (e : List ℕ) → length e ≡ 2 → getD e 1 0 < 2 ^ 64 → halves (joined e) ≡ e
-halves-joined [] n g = absurd (omega arith)
-halves-joined (h ∷ []) n g = absurd (omega arith)
-halves-joined (h ∷ l ∷ []) n g = two-halves h l g
-halves-joined (h ∷ l ∷ x ∷ e) n g = absurd (omega arith)
-
-pub halves-injective : (a b : ℕ) → halves a ≡ halves b → a ≡ b
-halves-injective a b e = sym (joined-halves a) ∙ ap joined e ∙ joined-halves b
-
-pub joined-good : (e : List ℕ) → getD e 0 0 < 2 ^ 64 → getD e 1 0 < 2 ^ 64 → joined e < 2 ^ 128
-joined-good e h l = digits-lt h l
 
 -- ---- what the code makes
 

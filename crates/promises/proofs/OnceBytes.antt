@@ -79,6 +79,7 @@ lend-give-once κs args x y u v p q = let e = written-once x y p q in (e .0, pas
 pub lend-plain-once : Once lend-plain.Kinds.ps lend-plain.Kinds.r lend-plain.Reads.Learnt
 lend-plain-once κs args x y u v p q = (refl, here (p ∙ sym q))
 
+-- a part of the pool is lent back: its bytes are fixed, not its place
 pub lend-part-once : OnceSeen lend-part.Kinds.ps lend-part.Kinds.r (λ κs x. now x) lend-part.Reads.Learnt
 lend-part-once κs args x y u v p q = (p ∙ sym q, refl)
 

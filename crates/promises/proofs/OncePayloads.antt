@@ -70,7 +70,6 @@ entry-read-integer-once κs args x y u v p q = (head-injective x y (p ∙ sym q)
 pub entry-read-file-once : Once entry-read-file.Kinds.ps entry-read-file.Kinds.r entry-read-file.Reads.Learnt
 entry-read-file-once κs args x y u v p q = (file-injective x y (p ∙ sym q), refl)
 
--- a part of the pool is lent back: its bytes are fixed, not its place
 pub entry-write-digest-once : Once entry-write-digest.Kinds.ps entry-write-digest.Kinds.r entry-write-digest.Reads.Learnt
 entry-write-digest-once κs args x y u v p q = (p ∙ sym q, refl)
 

@@ -228,7 +228,7 @@ changed-byte-told kind hash key secret t n cs shares before v after j b bytes co
 
 -- ---- of any slips
 
--- where a secret is recovered, each slip is on the curves that gave it
+-- For the reader: where a secret is recovered, each slip is on the curves that gave it
 pub done-fits : (v : Slip) (vs : List Slip) (s : List ℕ) → Each (λ w. (w .index < 256) × Bytes (w .share)) (v ∷ vs) → combined (v ∷ vs) ≡ done s
     → (k : ℕ) → k < blocksIn (v .len) → Each (λ w. throughAt (v .threshold) (points k (v ∷ vs)) (w .index) ≡ blockOf k w) (v ∷ vs)
 unfolding combined points blockOf

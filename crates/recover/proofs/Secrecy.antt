@@ -216,7 +216,7 @@ module _ (secret : List ℕ) (t : ℕ) (given : List (ℕ × List ℕ)) (all : B
       (subst (λ (m : ℕ). Each (λ g. shareOf (blocksIn (length secret)) m secret cs (g .0) ≡ shareOf (blocksIn (length secret)) m secret ds (g .0)) given) (sym more)
       (each-with (λ g e f. e ∙ sym f) given (p .shares) (q .shares)))
 
--- they are coefficients that a split takes
+-- For the reader: they are coefficients that a split takes
 pub explains-done : (secret : List ℕ) (t n : ℕ) (given : List (ℕ × List ℕ)) (cs : List ℕ) → quorumAllowed t n ≡ true → 1 ≤ length secret → length secret ≤ mostShare
     → Explains secret t given cs → splitVerdict secret t n cs ≡ done (sharesOf secret t n cs)
 unfolding splitVerdict

@@ -104,8 +104,8 @@ pub fn feeds(s: &[u8]) -> usize
 }
 
 // The frame of a slip at the front of out, and where in it the payload stands; or what the text is
-// instead, and nothing changed. What is no text, no frame, no key frame and no shard is told in this
-// order, and a short output last.
+// instead, and nothing changed. What is no text, no frame, no key frame and no shard is told in
+// this order, and a short output last.
 pub fn read(text: &[u8], typed: bool, out: &mut [u8]) -> SlipRead
     ensures { λ r. ⌜ Told (slipSeen typed (now (text .entry))) (now (out .entry)) (now (out .exit)) r ⌝ }
 {

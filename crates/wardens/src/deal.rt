@@ -208,8 +208,8 @@ fn past(input: &[u8], end: usize) -> usize {
     end
 }
 
-// The signatures of all slips, a line each, from this index of the input on. The first that lacks or
-// is none is told.
+// The signatures of all slips, a line each, from this index of the input on. The first that lacks
+// or is none is told.
 fn sign_all(count: u64, input: &[u8], from: usize, signatures: &mut [u8]) -> bool {
     let mut at = from;
     let mut i = 0;
@@ -287,8 +287,8 @@ fn unread() -> u8 {
     FAILED
 }
 
-// The signatures, and then the slips. The input holds so many bytes, of which the secret's line ends
-// at this index.
+// The signatures, and then the slips. The input holds so many bytes, of which the secret's line
+// ends at this index.
 fn finish(
     d: Deal,
     len: usize,

@@ -32,8 +32,8 @@ pub(crate) enum Task {
     Wrong { at: usize, why: Why },
 }
 
-// What the words ask for so far. A number of 0 is none. Where `--key` or `--document` came last, and
-// waits for its digits, there is its index, and else 0.
+// What the words ask for so far. A number of 0 is none. Where `--key` or `--document` came last,
+// and waits for its digits, there is its index, and else 0.
 pub(crate) struct Order {
     pub(crate) task: Task,
     pub(crate) threshold: u16,
