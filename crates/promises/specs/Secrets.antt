@@ -54,7 +54,7 @@ pub record Secrets : Type 0 where
       → (j b : ℕ) → j < length (v .share) → b < 256 → (b ≡ getD (v .share) j 0 → ⊥)
       → (payloads : List (List ℕ)) → readSlips payloads ≡ done (before ++ (withShare (set (v .share) j b) v ∷ after))
       → (out x : List ℕ) (a : Answer ℕ) → RecoverCall payloads out x a → (a ≡ refused 29) × (x ≡ out)
-  -- of one slip fewer than the threshold nothing follows: whatever their shares are, every secret of
-  -- that length has coefficients that give them, and one choice of these alone (R19.12)
+  -- of one slip fewer than the threshold nothing follows: whatever their shares are, every secret
+  -- of that length has coefficients that give them, and one choice of these alone (R19.12)
   pub hidden : (secret : List ℕ) (given : List (ℕ × List ℕ)) → Bytes secret → Each (Given (length secret)) given → distinct (map (λ g. g .0) given) ≡ true
       → (cs : List ℕ) × Explains secret (suc (length given)) given cs × ((ds : List ℕ) → Explains secret (suc (length given)) given ds → cs ≡ ds)

@@ -1,5 +1,5 @@
--- From the contracts of `split` and `recover` in the source to the definitions that R19.10 to R19.12
--- cite. Assumes nothing.
+-- From the contracts of `split` and `recover` in the source to the definitions that R19.10 to
+-- R19.12 cite. Assumes nothing.
 use denote.Ref.{now}
 use Rattle.wire.specs.Writing.{Written}
 use Rattle.split.specs.Split.{splitVerdict}
