@@ -1,5 +1,5 @@
 // Splitting a secret into shares (R19.2 to R19.5): any `threshold` of them give it back, and fewer
-// tell nothing of it but its length (`secrecy`: promises, Secrets). Each block of 16 bytes is split
+// tell nothing of it but its length (`secrets`: promises, Secrets). Each block of 16 bytes is split
 // by itself, by a curve that has the block as its value at 0; share i is the curve's value at i.
 ghost use mathlib.Core.Path.{_≡_};
 ghost use mathlib.Core.List.{_∷_};
