@@ -102,7 +102,7 @@ unfolding slopes
 apart-slopes u y [] a = tt
 apart-slopes u y (p ∷ ps) a = (far-slopes (p .0) u y ps (a .0), apart-slopes u y ps (a .1))
 
-length-slopes : (u y : ℕ) (ps : List (ℕ × ℕ)) → length (slopes u y ps) ≡ length ps
+pub length-slopes : (u y : ℕ) (ps : List (ℕ × ℕ)) → length (slopes u y ps) ≡ length ps
 unfolding slopes
 length-slopes u y [] = refl
 length-slopes u y (p ∷ ps) = ap suc (length-slopes u y ps)

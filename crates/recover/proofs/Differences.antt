@@ -8,6 +8,7 @@ use native.Mathlib.Omega.{arith}
 use lib.ListN.{length, getD, take}
 use Rattle.field.specs.Field.{plus, product, over}
 use Rattle.curve.specs.Curve.{slopes, throughAt}
+use Rattle.curve.proofs.Curves.{length-slopes}
 use Rattle.recover.specs.Private.{places, differences, left, newtonAt}
 
 -- slopes stand at the places of their points
@@ -22,11 +23,6 @@ unfolding slopes
 slope-at u y [] i h = absurd (not-suc-le-zero h)
 slope-at u y (p ∷ ps) zero h = refl
 slope-at u y (p ∷ ps) (suc i) h = slope-at u y ps i (le-of-suc-le-suc h)
-
-length-slopes : (u y : ℕ) (ps : List (ℕ × ℕ)) → length (slopes u y ps) ≡ length ps
-unfolding slopes
-length-slopes u y [] = refl
-length-slopes u y (p ∷ ps) = ap suc (length-slopes u y ps)
 
 pub newton-through : (n : ℕ) (ps : List (ℕ × ℕ)) (x : ℕ) → newtonAt (take n (places ps)) (differences n ps) x ≡ throughAt n ps x
 unfolding newtonAt differences throughAt

@@ -44,7 +44,8 @@ module _ (t : ℕ) (ps : List (ℕ × ℕ)) (xs : List ℕ) (ds : List (List ℕ
 
 -- ---- block by block
 
-every-map : (f : Slip → Bool) (ps : List (List ℕ)) (t : ℕ) → every (λ p. f (slipIn p)) (drop t ps) ≡ every f (drop t (map slipIn ps))
+-- a test of all slips from t on, of their payloads or of what was read
+pub every-map : (f : Slip → Bool) (ps : List (List ℕ)) (t : ℕ) → every (λ p. f (slipIn p)) (drop t ps) ≡ every f (drop t (map slipIn ps))
 unfolding every
 every-map f [] zero = refl
 every-map f [] (suc t) = refl

@@ -1,6 +1,6 @@
 -- What is answered, over plain lists: each judgement in turn, then the secret. Assumes nothing.
 use mathlib.Core.Path.{_≡_, refl, sym, ap, ap₂, _∙_, subst}
-use mathlib.Core.Bool.{Bool, true, false, not, _&&_, false≢true}
+use mathlib.Core.Bool.{Bool, true, false, not, false≢true}
 use mathlib.Core.List.{List, [], _∷_, _++_, map}
 use Prim.Native.Nat.{ℕ, suc, _+_, _-_, _*_, _<_, _≤_}
 use native.Mathlib.Omega.{arith}
@@ -24,7 +24,7 @@ use Rattle.split.specs.Split.{blocksIn}
 use Rattle.recover.specs.Recover.{Slip, slipOf, readSlips, alike, distinct, onCurves, valuesAt0, unfilled, combined, recovered, holds, ofOneSecret}
 use Rattle.recover.specs.Private.{isDone, reads, shardFrom, shardIn, slipIn, indexIn, asFirst}
 use Rattle.recover.proofs.Judging.{past}
-use Rattle.recover.proofs.Filling.{values-long}
+use Rattle.recover.proofs.Filling.{values-long, every-map}
 
 -- ---- the secret and what fills its last block
 
@@ -74,11 +74,6 @@ module _ (t len : ℕ) (vs : List Slip) (r : Bool) (l l' : List ℕ) (most : len
 
 -- ---- slips that were read
 
-every-read : (f : Slip → Bool) (ps : List (List ℕ)) → every (λ p. f (slipIn p)) ps ≡ every f (map slipIn ps)
-unfolding every
-every-read f [] = refl
-every-read f (p ∷ ps) = ap (λ (b : Bool). f (slipIn p) && b) (every-read f ps)
-
 indexes-read : (ps : List (List ℕ)) → map indexIn ps ≡ map (λ w. w .index) (map slipIn ps)
 indexes-read [] = refl
 indexes-read (p ∷ ps) = ap {B = List ℕ} (λ (l : List ℕ). indexIn p ∷ l) (indexes-read ps)
@@ -94,7 +89,7 @@ module _ (slips : List (List ℕ)) (n : ℕ) (q : length slips ≡ n) (some : 0 
       go (p ∷ ps) e u v =
           sym (ap₂ (λ (a b : ℕ). demand (leb a n) 26 (demand (asFirst (p ∷ ps)) 27 (demand (distinct (map indexIn (p ∷ ps))) 28 (fitted a b (map slipIn (p ∷ ps)))))) u v
           ∙ ap₂ (λ (a : ℕ) (b : Bool). demand (leb (slipIn p .threshold) a) 26 (demand b 27 (demand (distinct (map indexIn (p ∷ ps))) 28 (fitted (slipIn p .threshold) (slipIn p .len) (map slipIn (p ∷ ps))))))
-          (sym e ∙ ap suc (sym (length-map ps slipIn))) (every-read (alike (slipIn p)) ps)
+          (sym e ∙ ap suc (sym (length-map ps slipIn))) (every-map (alike (slipIn p)) ps 0)
           ∙ ap (λ (xs : List ℕ). demand (leb (slipIn p .threshold) (suc (length (map slipIn ps)))) 26 (demand (every (alike (slipIn p)) (map slipIn ps)) 27 (demand (distinct xs) 28 (fitted (slipIn p .threshold) (slipIn p .len) (map slipIn (p ∷ ps))))))
           (indexes-read (p ∷ ps)))
 
