@@ -5,6 +5,8 @@
 // Both round trips are in proofs/Round.antt (`read_written`, `Written-Read`). Which slips are
 // always found is in proofs/Slips.antt: one character for another, two exchanged, and two lines in
 // each other's place.
+#![tactic(auto)]
+
 mod check;
 mod lay;
 mod lines;

@@ -85,7 +85,7 @@ pub(super) fn possible(number: u8, last: bool, n: usize) -> bool
 
 // What has been read so far: the number of this line and how many characters it has; the number of
 // the first line whose check is wrong, or 0; and how many characters of data the lines before have.
-#[derive(Drop)]
+#[derive(Clone, Copy)]
 pub struct Typing {
     pub n: u8,
     pub at: usize,
