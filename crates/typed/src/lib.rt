@@ -27,14 +27,14 @@ pub const FULL_LINE: usize = 42;
 
 // The answer of the reader: how many bytes it wrote, or the refusal, with the number of the line
 // where it is 23 and else 0.
-#[derive(Drop)]
+#[derive(Clone, Copy)]
 pub enum TypedRead {
     Done { len: usize },
     Refused { no: u8, line: u8 },
 }
 
 // The answer on one line.
-#[derive(Drop)]
+#[derive(Clone, Copy)]
 pub enum LineRead {
     Right,
     Refused { no: u8, line: u8 },

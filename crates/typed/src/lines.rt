@@ -93,7 +93,7 @@ pub struct Typing {
     pub made: usize,
 }
 
-#[derive(Drop)]
+#[derive(Clone, Copy)]
 pub enum Step {
     On { typing: Typing },
     // The line has another number of characters than it may have, or is one too many.
@@ -187,7 +187,7 @@ fn run(text: &[u8], line: &mut [u8], contents: &mut [u8]) -> Step
     Step::On { typing: t }
 }
 
-#[derive(Drop)]
+#[derive(Clone, Copy)]
 pub(super) enum Gathered {
     // So many characters of data stand in the buffer.
     Data { len: usize },
