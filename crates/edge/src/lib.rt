@@ -80,6 +80,7 @@ pub fn read(rt: HostRuntime, buffer: &mut [u8]) -> Result<usize, Error>
     rt.stdin().read(buffer)
 }
 
+// Whether a person types the input.
 pub fn input_is_terminal(rt: HostRuntime) -> bool {
     rt.stdin().is_terminal()
 }
