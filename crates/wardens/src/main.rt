@@ -111,8 +111,14 @@ fn answer(rt: HostRuntime, typed: bool, input: &[u8], cells: &mut [u8]) -> u8 {
     unite::recover(rt, g.n, input, cells, &places, &starts, &lens, &numbers)
 }
 
+// A call gives the array, since one of this length that is written out where it is lent as a slice
+// is too long for the prover.
+fn blank() -> [u8; INPUT] {
+    [0; INPUT]
+}
+
 fn read_slips(rt: HostRuntime, typed: bool) -> u8 {
-    let mut input = [0u8; INPUT];
+    let mut input = blank();
     let mut cells = [0u8; CELLS];
     told::waiting(rt, true);
     let taken = take_all(rt, &mut input);
