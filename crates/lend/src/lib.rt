@@ -1,5 +1,7 @@
 // Writes into lent buffers, comparison and parts of them. Each function takes any arguments: a
 // write that does not fit changes nothing.
+#![tactic(auto)]
+
 ghost use Rattle.std.specs.Prelude.{◌≡◌, [], ◌∷◌, map, ◌+◌, ◌≤◌, length, replicate};
 ghost use Rattle.wire.specs.Over.{over};
 ghost use Rattle.wire.specs.Span.{part_at};
