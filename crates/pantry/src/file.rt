@@ -399,13 +399,7 @@ fn keep_at(
 
 // Joins the file's collection into c, and keeps what that gives there. Answers 0 or the number of a
 // refusal: the join's, or 11 for a file that the system does not let us read or write.
-pub(crate) fn keep(
-    rt: HostRuntime,
-    name: &[u8],
-    launched: bool,
-    s: Session,
-    c: &mut [u8],
-) -> u8 {
+pub(crate) fn keep(rt: HostRuntime, name: &[u8], launched: bool, s: Session, c: &mut [u8]) -> u8 {
     let mut real = [0u8; PATH_MAX];
     let n = meant(rt, name, &mut real);
     if n == 0 {

@@ -151,7 +151,15 @@ fn give(rt: HostRuntime, s: Session, c: &[u8], notes: &[u64], to: usize, launche
 }
 
 // The file is written before anything is given out: a ciphertext that came out is kept (R15.7).
-fn keep(rt: HostRuntime, s: Session, c: &mut [u8], notes: &[u64], kept: usize, to: usize, launched: bool) -> u8 {
+fn keep(
+    rt: HostRuntime,
+    s: Session,
+    c: &mut [u8],
+    notes: &[u64],
+    kept: usize,
+    to: usize,
+    launched: bool,
+) -> u8 {
     let mut name = [0u8; PATH_MAX];
     let word = edge::arg(rt, kept, &mut name);
     let no = file::keep(rt, &name[..word.len], launched, s, c);

@@ -81,22 +81,34 @@ pub(crate) fn failed(rt: HostRuntime, name: &[u8], error: Error) {
 
 pub(crate) fn no_file(rt: HostRuntime, name: &[u8]) {
     say_name(rt, name);
-    say(rt, b": the name is too long, ends with .pantry-new, or is a link that leads in a circle\n");
+    say(
+        rt,
+        b": the name is too long, ends with .pantry-new, or is a link that leads in a circle\n",
+    );
 }
 
 pub(crate) fn no_folder(rt: HostRuntime, name: &[u8]) {
     say_name(rt, name);
-    say(rt, b": its folder is not there: make it, or name another file\n");
+    say(
+        rt,
+        b": its folder is not there: make it, or name another file\n",
+    );
 }
 
 // The new file of another run is there (R15.7).
 pub(crate) fn busy(rt: HostRuntime, beside: &[u8]) {
     say_name(rt, beside);
-    say(rt, b" is there: another pantry is at work, or one was killed; where none is, remove it\n");
+    say(
+        rt,
+        b" is there: another pantry is at work, or one was killed; where none is, remove it\n",
+    );
 }
 
 pub(crate) fn nothing_new(rt: HostRuntime) {
-    say(rt, b"nothing new: the kept file had every page that was scanned\n");
+    say(
+        rt,
+        b"nothing new: the kept file had every page that was scanned\n",
+    );
 }
 
 pub(crate) fn waiting(rt: HostRuntime) {
@@ -110,12 +122,30 @@ pub(crate) fn waiting(rt: HostRuntime) {
 
 pub(crate) fn help(rt: HostRuntime) {
     say(rt, b"pantry [KEPT] [--to FILE] < SCANS\n");
-    say(rt, b"gives a ciphertext back from scanned pages, once every page is there\n\n");
-    say(rt, b"  SCANS       the document's id on the first line, then a scan on each\n");
-    say(rt, b"  KEPT        the file in which the pages are kept from run to run\n");
-    say(rt, b"  --to FILE   the ciphertext goes there, whole or not at all; else to standard output\n");
-    say(rt, b"  --version   which pantry this is, and what it reads\n\n");
-    say(rt, b"The status is 0 where the ciphertext was given out, 1 where pages lack or something\n");
+    say(
+        rt,
+        b"gives a ciphertext back from scanned pages, once every page is there\n\n",
+    );
+    say(
+        rt,
+        b"  SCANS       the document's id on the first line, then a scan on each\n",
+    );
+    say(
+        rt,
+        b"  KEPT        the file in which the pages are kept from run to run\n",
+    );
+    say(
+        rt,
+        b"  --to FILE   the ciphertext goes there, whole or not at all; else to standard output\n",
+    );
+    say(
+        rt,
+        b"  --version   which pantry this is, and what it reads\n\n",
+    );
+    say(
+        rt,
+        b"The status is 0 where the ciphertext was given out, 1 where pages lack or something\n",
+    );
     say(rt, b"was refused, and 2 for a wrong word.\n");
 }
 

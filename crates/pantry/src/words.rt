@@ -27,7 +27,7 @@ pub(crate) enum Asked {
 
 // What the words ask for so far. Where `--to` came last, and waits for its name, there is its
 // index, and else 0.
-#[derive(Drop)]
+#[derive(Clone, Copy)]
 struct Order {
     kept: usize,
     to: usize,
