@@ -7,9 +7,9 @@ import sys
 ROOT = os.path.dirname(os.path.dirname(os.path.realpath(__file__)))
 sys.path.insert(0, os.path.join(ROOT, "tests"))
 from definitions import files, in_order  # noqa: E402
-from sources import ANY, METHODS, PUBLIC, rattle_files  # noqa: E402
+from sources import ANY, ASKS_SYSTEM, METHODS, PUBLIC, body_at, rattle_files  # noqa: E402
 
-CONTRACT = re.compile(r"^\s*(?:requires|ensures) \{(.*)\}$", re.MULTILINE)
+CONTRACT = re.compile(r"^\s*(?:requires|ensures)(?: \w+)? \{(.*?)\}$", re.MULTILINE | re.DOTALL)
 PARAMETER = re.compile(r"(\w+):")
 PROGRAMS = {path for path, program in rattle_files(ROOT) if program}
 
@@ -21,14 +21,12 @@ def contracts(path):
     for number, line in enumerate(lines):
         impl = METHODS.match(line)
         owner = impl[1] + "::" if impl else "" if line == "}" else owner
-        found, end = ANY.match(line), number
-        while found and lines[end].strip() != "{" and not lines[end].endswith(" {"):
-            end += 1
+        found = ANY.match(line)
         if found:
-            head = "\n".join(lines[number:end])
-            own = set(PARAMETER.findall(head))
-            said = [word for word in in_order(" ".join(CONTRACT.findall(head))) if word not in own]
-            yield owner + found[1], bool(PUBLIC.match(line)), said
+            head = "\n".join(lines[number:body_at(lines, number)])
+            own = {"result", *PARAMETER.findall(head)}
+            said = [word for word in in_order(" ".join(CONTRACT.findall(head))) if word.split(".")[0] not in own]
+            yield owner + found[1], bool(PUBLIC.match(line)) and not ASKS_SYSTEM.search(head), said
 
 
 class House:
