@@ -3,6 +3,8 @@
 // What is written reads back, and what is read is exactly the written form of its value
 // (`auth_back`, `auth_only`, `auth_once`: auth, Rounds). The payload has 157 bytes (`auth_length`:
 // auth, Lengths), so the writer does not look whether it fits a page.
+#![tactic(auto)]
+
 ghost use Rattle.std.specs.Prelude.{◌≡◌, ◌≤◌, length};
 ghost use Rattle.wire.specs.Answer.{number_of};
 ghost use Rattle.wire.specs.Over.{over};

@@ -1,4 +1,6 @@
 // BLAKE2b with no key and a digest of 32 bytes (R7.1): RFC 7693, whose sections the comments name.
+#![tactic(auto)]
+
 ghost use Rattle.std.specs.Prelude.{◌≡◌, ◌+◌, ◌-◌, ◌*◌, ◌<◌, ◌≤◌, true, false, ◌++◌, length, drop, replicate};
 ghost use Rattle.bits.specs.Word as W;
 ghost use Rattle.blake2b.specs.Blake2b as B;

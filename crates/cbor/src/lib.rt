@@ -7,6 +7,8 @@
 // A float has one form for each value over all three widths (`float_once`: cbor, Only), and no
 // shorter one (`shortest_least`: cbor, Shortest). Widening keeps the number (`widened_worth`: cbor,
 // Floats).
+#![tactic(auto)]
+
 pub mod float;
 pub mod read;
 mod short;
@@ -63,7 +65,7 @@ impl StringRead {
 }
 
 // The three widths of a float (R10.8).
-#[derive(Drop)]
+#[derive(Clone, Copy)]
 pub enum Width {
     Half,
     Single,

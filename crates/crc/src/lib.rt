@@ -1,5 +1,7 @@
 // CRC-32/ISO-HDLC: the checksum of a frame (R6.3) and of a block of the collection (R8.2). The
 // definition takes one bit at a time; here eight leave the register at once, by a table.
+#![tactic(auto)]
+
 mod table;
 
 ghost use Rattle.std.specs.Prelude.{◌≡◌, ℕ, ◌<◌, get_or};

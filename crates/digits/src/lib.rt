@@ -3,6 +3,8 @@
 //
 // What is written in hex reads back, for all bytes (`hex_back`: digits, Hexes). A number has at
 // most three digits, since it is a byte (`length_decimal`: digits, Decimals).
+#![tactic(auto)]
+
 ghost use Rattle.std.specs.Prelude.{◌≡◌, true, [], ◌∷◌, ◌+◌, ◌*◌, ◌/◌, ◌≤◌, ◌<◌, length, drop};
 ghost use Rattle.wire.specs.Over.{over};
 ghost use Rattle.wire.specs.Answer.{done};

@@ -1,4 +1,6 @@
 // The id of a document (R7.1). Printing and finishing both compute it.
+#![tactic(auto)]
+
 ghost use Rattle.std.specs.Prelude.{◌≡◌};
 ghost use Rattle.document_id.specs.Id.{id_from, document_id_of};
 

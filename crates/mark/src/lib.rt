@@ -2,6 +2,8 @@
 // R14.1).
 //
 // What is laid out is read (`mark_reads`), and what is read is exactly that (`mark_was`).
+#![tactic(auto)]
+
 ghost use Rattle.std.specs.Prelude.{◌≡◌};
 ghost use Rattle.wire.specs.Over.{over};
 ghost use Rattle.wire.specs.Reading.{step_told};

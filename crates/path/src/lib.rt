@@ -12,6 +12,8 @@
 //
 // Byte order is code point order on allowed paths (`code_point_order`), and a strict total order
 // (`below_irreflexive`, `below_transitive`, `below_total`).
+#![tactic(auto)]
+
 ghost use Rattle.std.specs.Prelude.{◌≡◌, ◌<◌, length};
 ghost use Rattle.path.specs.Utf8.{two_bytes};
 ghost use Rattle.path.specs.Order.{below};

@@ -1,4 +1,6 @@
 // SHA-256, FIPS 180-4, of any slice of bytes (R14.5).
+#![tactic(auto)]
+
 ghost use Rattle.std.specs.Prelude.{◌≡◌, ◌+◌, ◌-◌, ◌*◌, ◌/◌, ◌%◌, ◌^◌, ◌<◌, ◌≤◌, length, take, drop, get_or};
 ghost use Rattle.wire.specs.Number.{number};
 ghost use Rattle.bits.specs.Word as W;
@@ -57,7 +59,7 @@ fn small1(x: u32) -> u32
 }
 
 // The eight words of a hash value, and the working variables that start as it.
-#[derive(Drop)]
+#[derive(Clone, Copy)]
 struct State {
     a: u32,
     b: u32,

@@ -1,8 +1,8 @@
 -- Characters and their values, each from the other. Assumes nothing.
-use Prim.Native.Nat.{ℕ, zero, suc, ◌+◌, ◌^◌, ◌≤◌, ◌<◌}
+use Prim.Native.Nat.{ℕ, zero, suc, ◌^◌, ◌≤◌, ◌<◌}
 use mathlib.Core.Path.{◌≡◌, refl, sym, ap, ap₂, ◌∙◌}
 use mathlib.Core.Bool.{Bool, true, false}
-use mathlib.Core.List.{List, [], ◌∷◌, ◌++◌, map, map_append}
+use mathlib.Core.List.{List, [], ◌∷◌, ◌++◌, map, map-append}
 use native.Mathlib.Nat.{le_of_suc-le-suc}
 use native.Mathlib.Omega.{arith}
 use borrow.Author.Tests.{lt-ltb, le-ltb, ltb-true, eqb-true}
@@ -76,7 +76,7 @@ kept_append f (x ∷ xs) ys = ap (λ (r : List ℕ). choose (skipped f x) r (x �
 
 pub values_append : (f : Form) (xs ys : List ℕ) → values f (xs ++ ys) ≡ values f xs ++ values f ys
 unfolding values
-values_append f xs ys = ap (map (value f)) (kept_append f xs ys) ∙ map_append (value f) (kept f xs) (kept f ys)
+values_append f xs ys = ap (map (value f)) (kept_append f xs ys) ∙ map-append (value f) (kept f xs) (kept f ys)
 
 pub values_skipped : (f : Form) (c : ℕ) → skipped f c ≡ true → values f (c ∷ []) ≡ []
 unfolding values kept

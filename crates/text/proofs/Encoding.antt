@@ -2,7 +2,7 @@
 -- Assumes nothing.
 use Prim.Native.Nat.{ℕ, zero, suc, ◌+◌, ◌-◌, ◌*◌, ◌/◌, ◌%◌, ◌^◌, ◌≤◌, ◌<◌}
 use mathlib.Core.Path.{◌≡◌, refl, sym, ap, ◌∙◌}
-use mathlib.Core.Logic.{◌⊎◌, ⊎_elim}
+use mathlib.Core.Logic.{⊎_elim}
 use mathlib.Core.Bool.{Bool, true, false}
 use mathlib.Core.List.{List, [], ◌∷◌, ◌++◌, map}
 use native.Mathlib.Nat.{mul-le-mul_left, mul_assoc, add-zero, div-one, mul-one, mul-suc}
@@ -13,7 +13,7 @@ use lib.Dec.{leb}
 use lib.ListN.{length, take, get_or, length-append, get_or-append, get_or-eq_default}
 use lib.Pow.{pow-add, shl-shr}
 use lib.Seq.{take_all, take-suc, take-append_seam, length-take-le, get_or-append-add}
-use Rattle.wire.specs.Answer.{choose, done}
+use Rattle.wire.specs.Answer.{choose}
 use Rattle.wire.specs.Number.{digits, number, Bytes}
 use Rattle.wire.proofs.Cases.{lt_or_le}
 use Rattle.wire.proofs.Digits.{number_snoc}

@@ -1,6 +1,6 @@
 -- Shifts that lose nothing, at the few bits that pass from characters to bytes and back.
 -- Assumes nothing.
-use Prim.Native.Nat.{ℕ, ◌+◌, ◌-◌, ◌*◌, ◌/◌, ◌%◌, ◌^◌, ◌≤◌, ◌<◌}
+use Prim.Native.Nat.{ℕ, ◌+◌, ◌*◌, ◌/◌, ◌%◌, ◌^◌, ◌≤◌, ◌<◌}
 use mathlib.Core.Path.{◌≡◌, ◌∙◌}
 use native.Mathlib.Nat.{one-mul, suc-mul, mul-le-mul_right, lt_of_lt_of_le}
 use native.Mathlib.Omega.{arith}

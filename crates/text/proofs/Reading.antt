@@ -1,6 +1,6 @@
 -- Reading character by character: what has been read of a text, and one character more.
 -- Assumes nothing.
-use Prim.Native.Nat.{ℕ, suc, ◌+◌, ◌-◌, ◌*◌, ◌/◌, ◌^◌, ◌≤◌, ◌<◌}
+use Prim.Native.Nat.{ℕ, suc, ◌+◌, ◌*◌, ◌/◌, ◌^◌, ◌≤◌, ◌<◌}
 use mathlib.Core.Path.{◌≡◌, refl, sym, ap, ◌∙◌}
 use mathlib.Core.Bool.{Bool, true, false}
 use mathlib.Core.List.{List, [], ◌∷◌, ◌++◌, append-nil}
@@ -12,7 +12,7 @@ use lib.Dec.{ltb}
 use lib.ListN.{length, take, drop, get_or, length-append, length-take, take-append-drop}
 use lib.Pow.{pow_pos}
 use lib.Seq.{take_all, take-suc, split_at}
-use Rattle.wire.specs.Answer.{choose, done}
+use Rattle.wire.specs.Answer.{choose}
 use Rattle.wire.specs.Number.{Digits}
 use Rattle.wire.proofs.Digits.{length_digits, small_snoc}
 use Rattle.wire.specs.Every.{within}

@@ -4,6 +4,8 @@
 // Both round trips are in proofs/Round.antt, once for every form: `read_written` (reading what was
 // written gives the bytes) and `Written-Read` (a text that is read is, with the skipped characters
 // taken out, the written form of its bytes).
+#![tactic(auto)]
+
 mod pack;
 mod read;
 mod tables;

@@ -11,7 +11,7 @@ use wire::Wrote;
 
 // What has been read so far: the bits that are not yet a byte and their number, how many bytes were
 // made, and whether the last character made one, and which.
-#[derive(Drop)]
+#[derive(Clone, Copy)]
 pub struct Seen {
     pub bits: u32,
     pub count: u32,

@@ -5,7 +5,7 @@ use Prim.Native.Nat.{ℕ, suc, ◌+◌, ◌≤◌, ◌<◌}
 use mathlib.Core.Path.{◌≡◌, refl, sym, ap, ap₂, ◌∙◌}
 use mathlib.Core.Logic.{⊎_elim}
 use mathlib.Core.Bool.{Bool, true, false, not, false≢true}
-use mathlib.Core.List.{List, [], ◌∷◌, ◌++◌, map, map_append, append_assoc, append-nil}
+use mathlib.Core.List.{List, [], ◌∷◌, ◌++◌, map, map-append, append_assoc, append-nil}
 use native.Mathlib.Omega.{arith}
 use borrow.Author.Tests.{ne_eqb}
 use lib.Dec.{eqb}
@@ -209,5 +209,5 @@ lines_exchanged cs cs' bs front l between m more reads e e' same =
     let letters : every (every is_letter) (between ++ (l ∷ more)) ≡ true =
     every_append (every is_letter) between (l ∷ more) ∙ hold_both _ _ flat.0 (hold_both _ _ k.letters j.behind) in
     let lengths : map length (between ++ (l ∷ more)) ≡ map length (between ++ (m ∷ more)) =
-    map_append length between (l ∷ more) ∙ ap (λ (x : ℕ). map length between ++ (x ∷ map length more)) same ∙ sym (map_append length between (m ∷ more)) in
+    map-append length between (l ∷ more) ∙ ap (λ (x : ℕ). map length between ++ (x ∷ map length more)) same ∙ sym (map-append length between (m ∷ more)) in
     found cs cs' bs front l m (between ++ (m ∷ more)) (between ++ (l ∷ more)) reads first (e' ∙ append_assoc front (m ∷ between) (l ∷ more)) (ap₂ (λ (x : ℕ) (r : List ℕ). x ∷ r) (sym same) lengths) (hold_both _ _ j.letters letters) wrong

@@ -1,5 +1,7 @@
 // Unsigned varints, seven bits a byte: section 4 of docs/RULES.md. Only the shortest form of a
 // number is read or written.
+#![tactic(auto)]
+
 ghost use Rattle.std.specs.Prelude.{◌≡◌, ◌+◌, ◌*◌, ◌^◌, ◌<◌, ◌≤◌, length, drop};
 ghost use Rattle.wire.specs.Answer.{done};
 ghost use Rattle.wire.specs.Over.{over};
