@@ -17,7 +17,7 @@ ANY = re.compile(r'^\s*(?:pub(?:\((?:super|crate)\))? )?(?:extern "C" )?fn (\w+)
 CALL = re.compile(r"((?:\w+::)*\w+)\(")
 # a clause that goes on in further lines, and a clause as a whole
 OPEN_CLAUSE = re.compile(r"^\s*(?:requires|ensures)\b[^{]*\{$")
-# such a function asks something of the system, so no contract can say what it answers
+# a library that takes this asks something of the system, so no contract can say what it answers
 ASKS_SYSTEM = re.compile(r"\bHostRuntime\b")
 NAMED = re.compile(r"`(\S+?)`")
 
@@ -128,15 +128,20 @@ def module(root, path):
 
 def promising(root):
     """The files of the libraries that promise something of their own. What a static library exports
-    says again what another library promises (tests/promises)."""
-    again = for_c(root)
-    return [path for path, program in rattle_files(root) if not program and module(root, path)[0] not in again]
+    says again what another library promises (tests/promises), and what the system gives, no
+    contract can say."""
+    files = [(module(root, path)[0], path) for path, program in rattle_files(root) if not program]
+    apart = {*for_c(root)}
+    for crate, path in files:
+        with open(path, encoding="utf-8") as file:
+            apart |= {crate} if ASKS_SYSTEM.search(re.sub(r"//.*", "", file.read())) else set()
+    return [path for crate, path in files if crate not in apart]
 
 
 def public(root):
     """The public functions of the libraries, by their whole names."""
     return {"::".join([*module(root, path), name]) for path in promising(root)
-            for _, name, head in functions(path) if not ASKS_SYSTEM.search(head)}
+            for _, name, _ in functions(path)}
 
 
 def bodies(root, crate):
@@ -200,8 +205,6 @@ def documented(root):
     for path in promising(root):
         lines = open(path, encoding="utf-8").read().split("\n")
         for number, name, head in functions(path):
-            if ASKS_SYSTEM.search(head):
-                continue
             first = number - 1
             while lines[first - 1].lstrip().startswith("#["):
                 first -= 1
