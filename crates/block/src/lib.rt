@@ -1,4 +1,6 @@
 // The blocks of a collection: R8.2, R8.4 and R8.5. Each function takes any arguments.
+#![tactic(auto)]
+
 ghost use Rattle.std.specs.Prelude.{◌≡◌, ◌&&◌, [], ◌∷◌, ◌+◌, ◌≤◌, ◌<◌, eqb, leb, length};
 ghost use Rattle.wire.specs.Answer.{choose};
 ghost use Rattle.wire.specs.Over.{over};

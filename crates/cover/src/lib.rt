@@ -3,6 +3,8 @@
 //
 // What is laid out reads back, and what is read is exactly the layout of its parts (`cover_back`,
 // `cover_only`).
+#![tactic(auto)]
+
 mod form;
 
 ghost use Rattle.std.specs.Prelude.{◌≡◌};

@@ -5,6 +5,8 @@
 // this crate that is a slip's number, or the inverse of a difference of two, which stand on the
 // slips for all to see. So neither time nor memory tells of a secret, as far as the compiler leaves
 // the code as it is.
+#![tactic(auto)]
+
 mod inverses;
 
 ghost use Rattle.std.specs.Prelude.{◌≡◌, ◌+◌, ◌^◌, ◌≤◌, ◌<◌, get_or, drop};

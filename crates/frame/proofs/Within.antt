@@ -15,7 +15,7 @@ use Rattle.lend.proofs.Sames.{same_eq}
 use Rattle.crc.specs.Crc.{crc32}
 use Rattle.varint.specs.Varint.{varint_at}
 use Rattle.varint.proofs.Rounds.{read_stands}
-use Rattle.frame.specs.Frame.{Numbers, known, kind_at, numbers_at, data_at}
+use Rattle.frame.specs.Frame.{known, kind_at, numbers_at, data_at}
 use Rattle.frame.specs.Private.{kind_of, numbers_of}
 use Rattle.wire.specs.Reading.{step_told}
 use Rattle.wire.specs.declared.StepRead.{StepRead}

@@ -2,6 +2,8 @@
 //
 // A laid-out frame reads back as its parts (`reads_back`), and a frame that is read is exactly the
 // layout of its parts (`only_layouts`).
+#![tactic(auto)]
+
 mod fields;
 mod form;
 

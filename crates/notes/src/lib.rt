@@ -1,6 +1,8 @@
 // What the pantry tells of a session beside its status: how many lines came to what, and what is
 // wrong with a first line that is no document id (R15.9, R15.10). A session of `scan` runs as it
 // does, and the notes are taken beside it.
+#![tactic(auto)]
+
 ghost use Rattle.std.specs.Prelude.{◌≡◌};
 ghost use Rattle.scan.specs.Session.{fed, closed, at};
 ghost use Rattle.notes.specs.Notes.{raised, noted, noted_next, noted_all, noted_last};

@@ -7,6 +7,8 @@
 // (`session_refused`), and its line is the status line of that (`session_prints`, `prints_set`). A
 // session's collection is well formed whatever its input was (`fed_sound`, `closed_sound`: scan,
 // Sound).
+#![tactic(auto)]
+
 pub mod session;
 
 ghost use Rattle.wire.specs.Writing.{Written};

@@ -23,7 +23,7 @@ pub const LINE_BUFFER: usize = LINE_MOST + 1;
 
 // Where a session is: its phase, and how many bytes of the line buffer are those of the line that
 // has not ended. The line buffer and the collection are lent beside it.
-#[derive(Drop)]
+#[derive(Clone, Copy)]
 pub struct Session {
     pub phase: u8,
     pub len: usize,

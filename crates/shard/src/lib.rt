@@ -7,6 +7,8 @@
 // most 456 bytes, where a page holds 480 (`shard_most`: shard, Lengths, a law of the encoding: the
 // lengths of its fields added up), and some have 456 (`shard_longest`). So the writer does not look
 // whether its payload fits.
+#![tactic(auto)]
+
 mod fields;
 mod form;
 mod judge;
@@ -30,7 +32,7 @@ pub struct Content {
 }
 
 // How many shares give the whole back, how many there are, and which of them this is.
-#[derive(Drop)]
+#[derive(Clone, Copy)]
 pub struct Quorum {
     pub threshold: u64,
     pub count: u64,

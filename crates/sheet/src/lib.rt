@@ -5,6 +5,8 @@
 // no line has a line feed inside, and with `sheet::ROOM` bytes lent 11 is never the answer
 // (`scan_room`, `typed_room`, `place_room`: sheet, Lengths; `refusal_room`: sheet, Refusals). The
 // id's line reads back as the document's id (`press_id`: promises, Printed).
+#![tactic(auto)]
+
 mod below;
 
 ghost use Rattle.std.specs.Prelude.{◌≡◌, ◌+◌, ◌*◌, ◌≤◌, ◌<◌, min, ltb, length};
@@ -43,7 +45,7 @@ pub const ROOM: usize = ID_LINE + wire::MOST_PAGES * PAGE_ROOM;
 const REFUSAL_ROOM: usize = 200;
 
 // What is printed of a page.
-#[derive(Drop)]
+#[derive(Clone, Copy)]
 enum Form {
     // The text of its code square, base64 (R15.4).
     Square,
@@ -52,7 +54,7 @@ enum Form {
 }
 
 // A number, as a word says it (R15.5).
-#[derive(Drop)]
+#[derive(Clone, Copy)]
 pub enum Asked {
     Number { n: u16 },
     // The word is no decimal number.

@@ -1,5 +1,7 @@
 // What `wardens` does with what it is given (R15.17 to R15.20): the slips in an input, each of them
 // read, and the digits of a key or a signature.
+#![tactic(auto)]
+
 mod places;
 mod reading;
 
@@ -14,7 +16,7 @@ use shard::Quorum;
 use wire::{Span, Wrote};
 
 // Where a slip stands in an input, and whether it is typed lines or else a scan.
-#[derive(Drop)]
+#[derive(Clone, Copy)]
 pub enum Found {
     Slip {
         start: usize,
@@ -26,7 +28,7 @@ pub enum Found {
 }
 
 // What a text is that should be a slip.
-#[derive(Drop)]
+#[derive(Clone, Copy)]
 pub enum SlipRead {
     // A slip: how long its frame is, where in it the payload stands, and which share it is of how
     // many.
@@ -58,7 +60,7 @@ pub enum SlipRead {
 }
 
 // Two places in a list that have the same number.
-#[derive(Drop)]
+#[derive(Clone, Copy)]
 pub enum Repeat {
     Twice { first: usize, second: usize },
     Nothing,

@@ -20,7 +20,7 @@ pub struct Seen {
     pub byte: u8,
 }
 
-#[derive(Drop)]
+#[derive(Clone, Copy)]
 pub enum Step {
     On { seen: Seen },
     Bad,
@@ -77,7 +77,7 @@ fn take(table: &[u8; 256], w: u32, s: Seen, c: u8) -> Step
     }
 }
 
-#[derive(Drop)]
+#[derive(Clone, Copy)]
 pub enum Judged {
     // The bits left over, their number, and how many bytes the text has.
     Good { bits: u32, count: u32, made: usize },

@@ -10,7 +10,7 @@ use super::pack;
 use wire::Wrote;
 
 // The bits that are not yet written, their number, and the next byte.
-#[derive(Drop)]
+#[derive(Clone, Copy)]
 pub struct Source {
     pub bits: u32,
     pub count: u32,

@@ -1,6 +1,8 @@
 // What the pantry says to a person, line by line, beside the status line (R15.9, R15.10): which
 // pages are missing or disputed, how many lines came to what, and what a refusal means. Each public
 // function takes any arguments.
+#![tactic(auto)]
+
 pub mod pages;
 pub mod words;
 

@@ -2,7 +2,7 @@
 -- Assumes nothing.
 use Prim.Native.Nat.{ℕ, ◌≤◌, ◌<◌}
 use mathlib.Core.Path.{◌≡◌, refl, sym, ap, ap₂, ◌∙◌}
-use mathlib.Core.Bool.{Bool, true, false, not, ◌&&◌, ◌||◌, and_assoc, and_true, false≢true}
+use mathlib.Core.Bool.{Bool, true, false, not, ◌&&◌, ◌||◌, and_assoc, and-true, false≢true}
 use mathlib.Core.List.{List, [], ◌∷◌, ◌++◌, map, append-nil}
 use native.Mathlib.Omega.{arith}
 use borrow.Author.Tests.{eqb-true, leb-true, le-leb, not-true}
@@ -136,7 +136,7 @@ letters_cut line (c ∷ p) = go (eqb c feed) (letters_cut [] p) (letters_cut (li
         → every (every is_letter) (cut (line ++ (c ∷ [])) p) ≡ (every is_letter (line ++ (c ∷ [])) && every (λ c. eqb c feed || is_letter c) p)
         → every (every is_letter) (choose t (line ∷ cut [] p) (cut (line ++ (c ∷ [])) p)) ≡ (every is_letter line && ((t || is_letter c) && every (λ c. eqb c feed || is_letter c) p))
     go true e f = ap (λ (b : Bool). every is_letter line && b) e
-    go false e f = f ∙ rw (every_append is_letter line (c ∷ []), and_true (is_letter c)) (and_assoc (every is_letter line) (is_letter c) _)
+    go false e f = f ∙ rw (every_append is_letter line (c ∷ []), and-true (is_letter c)) (and_assoc (every is_letter line) (is_letter c) _)
 
 letters_lines : (cs : List ℕ) → every (λ c. eqb c feed || is_letter c) (plain cs) ≡ every (every is_letter) (lines_of cs)
 unfolding lines_of plain every

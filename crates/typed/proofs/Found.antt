@@ -101,7 +101,7 @@ pub found : (cs cs' bs : List ℕ) (front : List (List ℕ)) (l l' : List ℕ) (
 found cs cs' bs front l l' more more' h e e' same letters w =
     let p : Passed (front ++ (l ∷ more)) bs = page_passed cs bs (front ++ (l ∷ more)) h e in
     let k : Line front l more = line_passed cs bs front l more h e in
-    let lengths : map length (front ++ (l' ∷ more')) ≡ map length (front ++ (l ∷ more)) = map-append length front (l' ∷ more') ∙ ap (λ (r : List ℕ). map length front ++ r) same ∙ sym (map_append length front (l ∷ more)) in
+    let lengths : map length (front ++ (l' ∷ more')) ≡ map length (front ++ (l ∷ more)) = map-append length front (l' ∷ more') ∙ ap (λ (r : List ℕ). map length front ++ r) same ∙ sym (map-append length front (l ∷ more)) in
     let number : length front + 1 ≡ suc (length front) = omega arith in
     read_lines cs'
     ∙ ap judged e'

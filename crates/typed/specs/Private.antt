@@ -1,6 +1,6 @@
 -- What the parts of the code answer, for the contracts of private functions: nothing here is
 -- promised to a caller.
-use Rattle.std.specs.Prelude.{ℕ, suc, ◌+◌, ◌-◌, ◌*◌, ◌≤◌, Bool, ◌&&◌, ◌||◌, List, [], ◌∷◌, ◌++◌, ltb, leb, eqb, length, take}
+use Rattle.std.specs.Prelude.{ℕ, suc, ◌-◌, ◌*◌, ◌≤◌, Bool, ◌&&◌, ◌||◌, List, [], ◌∷◌, ◌++◌, ltb, leb, eqb, length, take}
 use Rattle.wire.specs.Answer.{choose, Answer, done, refused, refused_at, then, demand}
 use Rattle.typed.specs.Typed.{most_lines, full_data, full_line, feed, skipped, is_letter, count_right, data_of, right}
 use Rattle.typed.specs.declared.lines.Typing.{Typing}

@@ -5,6 +5,8 @@
 // Both round trips are in proofs/Round.antt (`read_written`, `Written-Read`). Which slips are
 // always found is in proofs/Slips.antt: one character for another, two exchanged, and two lines in
 // each other's place.
+#![tactic(auto)]
+
 mod check;
 mod lay;
 mod lines;
@@ -25,14 +27,14 @@ pub const FULL_LINE: usize = 42;
 
 // The answer of the reader: how many bytes it wrote, or the refusal, with the number of the line
 // where it is 23 and else 0.
-#[derive(Drop)]
+#[derive(Clone, Copy)]
 pub enum TypedRead {
     Done { len: usize },
     Refused { no: u8, line: u8 },
 }
 
 // The answer on one line.
-#[derive(Drop)]
+#[derive(Clone, Copy)]
 pub enum LineRead {
     Right,
     Refused { no: u8, line: u8 },

@@ -85,7 +85,7 @@ pub(super) fn possible(number: u8, last: bool, n: usize) -> bool
 
 // What has been read so far: the number of this line and how many characters it has; the number of
 // the first line whose check is wrong, or 0; and how many characters of data the lines before have.
-#[derive(Drop)]
+#[derive(Clone, Copy)]
 pub struct Typing {
     pub n: u8,
     pub at: usize,
@@ -93,7 +93,7 @@ pub struct Typing {
     pub made: usize,
 }
 
-#[derive(Drop)]
+#[derive(Clone, Copy)]
 pub enum Step {
     On { typing: Typing },
     // The line has another number of characters than it may have, or is one too many.
@@ -187,7 +187,7 @@ fn run(text: &[u8], line: &mut [u8], contents: &mut [u8]) -> Step
     Step::On { typing: t }
 }
 
-#[derive(Drop)]
+#[derive(Clone, Copy)]
 pub(super) enum Gathered {
     // So many characters of data stand in the buffer.
     Data { len: usize },

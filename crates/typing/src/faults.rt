@@ -52,13 +52,13 @@ pub(super) fn odd_line(text: &[u8]) -> usize
 // ---- counts
 
 // A line, and how many of its characters have passed.
-#[derive(Drop)]
+#[derive(Clone, Copy)]
 pub struct At {
     pub n: u8,
     pub count: usize,
 }
 
-#[derive(Drop)]
+#[derive(Clone, Copy)]
 pub enum Step {
     On { at: At },
     // A line ends that has another count than it may have, or is the 20th.

@@ -3,6 +3,8 @@
 //
 // What is told has the number that `typing::scan` answers (`told_number`), and a line that is told
 // as mistyped is the one that the reader names with 23 (`mistyped_line`: typing, Numbers).
+#![tactic(auto)]
+
 mod faults;
 mod lay;
 
@@ -20,7 +22,7 @@ use typed::{LineRead, TypedRead};
 use wire::Wrote;
 
 // What is wrong with the lines of a page, or with one line (R15.14).
-#[derive(Drop)]
+#[derive(Clone, Copy)]
 pub enum Fault {
     // Nothing: the page is a good frame, the line a right one.
     Good,

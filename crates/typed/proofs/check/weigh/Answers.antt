@@ -1,0 +1,30 @@
+use Prim.Native.Nat.{◌+◌}
+use native.Mathlib.Omega.{arith}
+use Rattle.typed.proofs.Weighing.{weigh_none, weigh_next, weigh_end, value_most, term_most}
+use Rattle.typed.proofs.check.weigh.Goals as goal
+
+pub loop-i-init : goal.loop-i-init
+loop-i-init c = (omega arith, weigh_none _, omega arith)
+
+pub overflow_mul-sum : goal.overflow_mul-sum
+overflow_mul-sum c =
+    let l = c.loop-i in
+    let v = c.zbase32_value in
+    record { fits = omega (arith, term_most (l.i + 1) v.result (omega arith) (value_most _ _ v.ensures)) }
+
+pub overflow_add-sum-in-loop-i : goal.overflow_add-sum-in-loop-i
+overflow_add-sum-in-loop-i c =
+    let l = c.loop-i in
+    let v = c.zbase32_value in
+    record { fits = omega (arith, l.invariant.2, term_most (l.i + 1) v.result (omega arith) (value_most _ _ v.ensures)) }
+
+pub loop-i-preserved : goal.loop-i-preserved
+loop-i-preserved c =
+    let v = c.zbase32_value in
+    let a = c.args in
+    (omega arith, weigh_next a.contents.now c.loop-i.i c.loop-i.sum v.result (omega arith) c.loop-i.invariant.1 v.ensures, omega (arith, c.loop-i.invariant.2, term_most (c.loop-i.i + 1) v.result (omega arith) (value_most _ _ v.ensures)))
+
+pub returns : goal.returns
+returns c =
+    let l = c.loop-i in
+    (weigh_end _ l.i l.sum (omega arith) l.invariant.1, omega (arith, l.invariant.2, l.invariant.0))
