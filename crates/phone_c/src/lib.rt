@@ -1,5 +1,6 @@
-// What the crate `phone` does, for a program in C: its eight functions under the same names, and with
-// the same clauses, word for word (tests/promises). A library for C cannot be one for Rattle too.
+// What the crate `phone` does, for a program in C: its eight functions under the same names, and
+// with the same clauses, word for word (tests/promises). A library for C cannot be one for Rattle
+// too.
 #![tactic(auto)]
 
 ghost use Rattle.std.specs.Prelude.{◌≡◌};
