@@ -4,6 +4,8 @@
 //
 // Well formed is exactly what the rules say, both ways (`encode_ok`, `decoded`: book, Round and
 // Decode).
+#![tactic(auto)]
+
 pub mod tally;
 
 ghost use Rattle.std.specs.Prelude.{◌≡◌, ◌+◌, ◌*◌, ◌≤◌, length, replicate};

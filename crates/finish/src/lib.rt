@@ -1,5 +1,7 @@
 // Finish: the ciphertext of a complete collection (R9.10). When a set of pages gives it is said in
 // the crate model.
+#![tactic(auto)]
+
 ghost use Rattle.std.specs.Prelude.{◌≡◌, ◌≤◌, min, length};
 ghost use Rattle.wire.specs.Answer.{done};
 ghost use Rattle.wire.specs.Over.{over};

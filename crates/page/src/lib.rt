@@ -4,6 +4,8 @@
 // has its whole size (`page_full`), each has at least one byte (`page_some`), and each reads back
 // as its own index, the total, the id and its slice (`page_reads`), also through either text form
 // (`page_typed`).
+#![tactic(auto)]
+
 ghost use Rattle.std.specs.Prelude.{◌≡◌, ◌-◌, ◌≤◌, min};
 ghost use Rattle.wire.specs.Answer.{number_of};
 ghost use Rattle.wire.specs.Writing.{Written};

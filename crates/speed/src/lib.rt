@@ -1,5 +1,7 @@
 // The checksum, the digests and base64 for a C program to call: what bench/run measures. Nothing of
 // the product stands on this crate.
+#![tactic(auto)]
+
 ghost use Rattle.std.specs.Prelude.{◌≡◌};
 ghost use Rattle.wire.specs.Over.{over};
 ghost use Rattle.wire.specs.Answer.{done, bytes_after, answer_of};
