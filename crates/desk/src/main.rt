@@ -12,6 +12,8 @@
 // its own: `pool` for the bytes that its words say in hex, the room, and its reply. They are lent
 // as arrays, whose length is in their type, as far as they are lent whole: a slice that is lent on
 // is asked its length again, and costs the proof twice as much.
+#![tactic(auto)]
+
 mod forms;
 mod frames;
 mod listings;
@@ -28,7 +30,6 @@ mod values;
 mod words;
 mod writers;
 
-use libc::STDOUT_FILENO;
 use reading::{CHUNK, Input, LINE_MOST};
 use registers::{Lens, Shelf};
 use reply::Reply;
@@ -41,7 +42,7 @@ type Waiting = [u8; WAITING_MOST + reply::MOST];
 
 // What is left after all whole lines of the input: where the unfinished line starts, and how much
 // output waits.
-#[derive(Drop)]
+#[derive(Clone, Copy)]
 struct Fed {
     rest: usize,
     out: usize,
@@ -156,13 +157,16 @@ fn respond(line: &[u8], shelf: &mut Shelf, lens: &mut Lens, out: &mut Reply) -> 
     reply::line(out, n)
 }
 
-fn write_out(out: &[u8], n: usize) -> bool {
-    io::write_all(STDOUT_FILENO, parts::part(out, 0, n))
+fn write_out(rt: HostRuntime, out: &[u8], n: usize) -> bool {
+    match edge::print(rt, parts::part(out, 0, n)) {
+        Ok(()) => true,
+        Err(_) => false,
+    }
 }
 
-fn make_space(out: &[u8], waiting: usize) -> usize {
+fn make_space(rt: HostRuntime, out: &[u8], waiting: usize) -> usize {
     if waiting > WAITING_MOST {
-        write_out(out, waiting);
+        write_out(rt, out, waiting);
         return 0;
     }
     waiting
@@ -170,20 +174,28 @@ fn make_space(out: &[u8], waiting: usize) -> usize {
 
 // How much output waits with the reply to the line behind it.
 fn respond_behind(
+    rt: HostRuntime,
     waiting: usize,
     line: &[u8],
     shelf: &mut Shelf,
     lens: &mut Lens,
     out: &mut Waiting,
 ) -> usize {
-    let at = make_space(out, waiting);
+    let at = make_space(rt, out, waiting);
     let mut said = reply::blank();
     let n = respond(line, shelf, lens, &mut said);
     reply::give(out, at, &said, n)
 }
 
 // Answers each whole line of input, of which the first `held` bytes have no line feed (D1.1).
-fn feed(input: &[u8], held: usize, shelf: &mut Shelf, lens: &mut Lens, out: &mut Waiting) -> Fed {
+fn feed(
+    rt: HostRuntime,
+    input: &[u8],
+    held: usize,
+    shelf: &mut Shelf,
+    lens: &mut Lens,
+    out: &mut Waiting,
+) -> Fed {
     if held > input.len() {
         return Fed { rest: 0, out: 0 };
     }
@@ -192,7 +204,7 @@ fn feed(input: &[u8], held: usize, shelf: &mut Shelf, lens: &mut Lens, out: &mut
     let mut end = parts::until(input, held, b'\n');
     while end < input.len() {
         let line = parts::part(input, at, end - at);
-        waiting = respond_behind(waiting, line, shelf, lens, out);
+        waiting = respond_behind(rt, waiting, line, shelf, lens, out);
         at = end + 1;
         end = parts::until(input, at, b'\n');
     }
@@ -205,6 +217,7 @@ fn feed(input: &[u8], held: usize, shelf: &mut Shelf, lens: &mut Lens, out: &mut
 // Reads once and answers each line that has ended, before it reads again. False at the end of the
 // input, where the last line may lack its line feed (D1.1).
 fn turn(
+    rt: HostRuntime,
     held: &mut usize,
     input: &mut Input,
     shelf: &mut Shelf,
@@ -212,32 +225,38 @@ fn turn(
     out: &mut Waiting,
 ) -> bool {
     let old = *held;
-    let end = reading::read_more(input, old);
+    let end = reading::read_more(rt, input, old);
     if end <= old {
-        let n = respond_behind(0, parts::part(input, 0, old), shelf, lens, out);
-        write_out(out, n);
+        let n = respond_behind(rt, 0, parts::part(input, 0, old), shelf, lens, out);
+        write_out(rt, out, n);
         return false;
     }
-    let fed = feed(parts::part(input, 0, end), old, shelf, lens, out);
+    let fed = feed(rt, parts::part(input, 0, end), old, shelf, lens, out);
     *held = reading::keep(input, fed.rest, end);
-    write_out(out, fed.out)
+    write_out(rt, out, fed.out)
 }
 
 // A proved loop has to end, and nothing says that the input does: it counts down from a number that
 // no run uses up.
-fn serve(input: &mut Input, shelf: &mut Shelf, lens: &mut Lens, out: &mut Waiting) {
+fn serve(
+    rt: HostRuntime,
+    input: &mut Input,
+    shelf: &mut Shelf,
+    lens: &mut Lens,
+    out: &mut Waiting,
+) {
     let mut held = 0;
     let mut turns = u64::MAX;
-    while turns > 0 && turn(&mut held, input, shelf, lens, out) {
+    while turns > 0 && turn(rt, &mut held, input, shelf, lens, out) {
         turns -= 1;
     }
 }
 
 // The registers hold no bytes at first (D3.1).
-fn main() {
+fn main(rt: HostRuntime) {
     let mut input = [0; LINE_MOST + 1 + CHUNK];
     let mut shelf = [0; registers::REGISTERS * registers::SIZE];
     let mut lens = [0; registers::REGISTERS];
     let mut out = [0; WAITING_MOST + reply::MOST];
-    serve(&mut input, &mut shelf, &mut lens, &mut out);
+    serve(rt, &mut input, &mut shelf, &mut lens, &mut out);
 }

@@ -2,8 +2,6 @@
 // them.
 ghost use Rattle.std.specs.Prelude.{◌+◌, ◌≤◌, length};
 
-use libc::STDIN_FILENO;
-
 // A longer line is not understood (D1.5).
 pub(crate) const LINE_MOST: usize = 262_144;
 
@@ -14,16 +12,17 @@ pub(crate) type Input = [u8; LINE_MOST + 1 + CHUNK];
 
 // Reads once behind the bytes that are held, and answers how many there are then: as many as before
 // at the end of the input, and where it cannot be read on (D1.9).
-pub(crate) fn read_more(input: &mut [u8], held: usize) -> usize {
+pub(crate) fn read_more(rt: HostRuntime, input: &mut [u8], held: usize) -> usize {
     if input.len() < CHUNK {
         return held;
     }
     if held > input.len() - CHUNK {
         return held;
     }
-    let chunk = &mut input[held..held + CHUNK];
-    let got = libc::read(STDIN_FILENO, chunk);
-    held + io::count(got, chunk)
+    match edge::read(rt, &mut input[held..held + CHUNK]) {
+        Ok(n) => held + n,
+        Err(_) => held,
+    }
 }
 
 // Moves the n bytes from index at on to the front.

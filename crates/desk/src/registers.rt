@@ -68,7 +68,7 @@ fn hold(s: &[u8], r: usize, shelf: &mut Shelf, lens: &mut Lens) {
 }
 
 // What a call that may change a register answered.
-#[derive(Drop)]
+#[derive(Clone, Copy)]
 enum Changed {
     Done,
     Counted { n: u64 },

@@ -3,7 +3,7 @@
 // Leading zeros are among them (D1.4).
 const DIGITS_MOST: usize = 40;
 
-#[derive(Drop)]
+#[derive(Clone, Copy)]
 enum Parsed {
     Is { n: u64 },
     Not,
@@ -56,7 +56,7 @@ pub(crate) fn is_at_most(word: &[u8], most: u64) -> bool {
 }
 
 // A number that may begin with `-`: n, or -1 - n where it is negative.
-#[derive(Drop)]
+#[derive(Clone, Copy)]
 pub(crate) struct Said {
     pub negative: bool,
     pub n: u64,

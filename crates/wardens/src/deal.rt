@@ -3,13 +3,13 @@
 ghost use Rattle.std.specs.Prelude.{◌≤◌};
 
 use crate::{FAILED, closed, gather, print, told};
-use libc::STDIN_FILENO;
+use std::random::RandomSource;
 use wire::{Span, Wrote};
 
 // The secret, and a line of 129 bytes for each of 255 signatures, have fewer.
 const INPUT: usize = 65_536;
 
-// The most that getentropy gives at once.
+// As much is drawn from the system at once.
 const DRAWN: usize = 256;
 
 // 14 blocks of 16 bytes, for each of the 254 powers above 0.
@@ -26,7 +26,7 @@ const SIGNATURE: usize = 64;
 const SIGNATURES: usize = 16_320;
 
 // What all slips of a split share.
-#[derive(Drop)]
+#[derive(Clone, Copy)]
 pub(crate) struct Deal {
     pub(crate) threshold: u64,
     pub(crate) count: u64,
@@ -34,15 +34,15 @@ pub(crate) struct Deal {
 }
 
 // How many bytes came, and whether the input could be read.
-#[derive(Drop)]
+#[derive(Clone, Copy)]
 struct Taken {
     good: bool,
     len: usize,
 }
 
 // Reads until there are so many lines, and not further than what comes with their last line feed;
-// or to the end of the input, or until the buffer is full.
-fn fill(input: &mut [u8], held: usize, lines: usize) -> Taken {
+// or to the end of the input, or until the buffer is full. A fault is told.
+fn fill(rt: HostRuntime, input: &mut [u8], held: usize, lines: usize) -> Taken {
     if input.len() < held {
         return Taken {
             good: false,
@@ -54,11 +54,13 @@ fn fill(input: &mut [u8], held: usize, lines: usize) -> Taken {
         if lines <= slips::feeds(&input[0..len]) {
             return Taken { good: true, len };
         }
-        let got = libc::read(STDIN_FILENO, &mut input[len..]);
-        if got < 0 {
-            return Taken { good: false, len };
-        }
-        let n = io::count(got, &input[len..]);
+        let n = match edge::read(rt, &mut input[len..]) {
+            Ok(n) => n,
+            Err(error) => {
+                edge::fail(rt, b"standard input", error);
+                return Taken { good: false, len };
+            }
+        };
         if n < 1 {
             return Taken { good: true, len };
         }
@@ -94,14 +96,14 @@ fn drawn(left: usize) -> usize
 }
 
 // Random bytes, so many, at the front of out.
-fn draw(out: &mut [u8], need: usize) -> bool {
+fn draw(rt: HostRuntime, out: &mut [u8], need: usize) -> bool {
     if out.len() < need {
         return false;
     }
     let mut at = 0;
     while at < need {
         let end = at + drawn(need - at);
-        if libc::getentropy(&mut out[at..end]) != 0 {
+        if rt.fill_bytes(&mut out[at..end]).is_err() {
             return false;
         }
         at = end;
@@ -118,7 +120,14 @@ fn padded(len: usize) -> usize
     (len % 225 + 15) / 16 * 16
 }
 
-fn ask_all(d: Deal, len: usize, key: &[u8], document: &[u8], shares: &[u8]) -> bool {
+fn ask_all(
+    rt: HostRuntime,
+    d: Deal,
+    len: usize,
+    key: &[u8],
+    document: &[u8],
+    shares: &[u8],
+) -> bool {
     let size = padded(len);
     let mut at = 0;
     let mut i = 0;
@@ -130,7 +139,7 @@ fn ask_all(d: Deal, len: usize, key: &[u8], document: &[u8], shares: &[u8]) -> b
                 len: size,
             },
         );
-        if !print::ask(d, i, len, key, document, share) {
+        if !print::ask(rt, d, i, len, key, document, share) {
             return false;
         }
         at = gather::behind(at, size);
@@ -148,6 +157,7 @@ fn signature(i: usize) -> Span {
 }
 
 fn slip_all(
+    rt: HostRuntime,
     d: Deal,
     len: usize,
     key: &[u8],
@@ -167,7 +177,7 @@ fn slip_all(
             },
         );
         let name = lend::part(signatures, signature(i));
-        if !print::slip(d, i, len, key, document, share, name) {
+        if !print::slip(rt, d, i, len, key, document, share, name) {
             return false;
         }
         at = gather::behind(at, size);
@@ -208,17 +218,17 @@ fn past(input: &[u8], end: usize) -> usize {
 
 // The signatures of all slips, a line each, from this index of the input on. The first that lacks
 // or is none is told.
-fn sign_all(count: u64, input: &[u8], from: usize, signatures: &mut [u8]) -> bool {
+fn sign_all(rt: HostRuntime, count: u64, input: &[u8], from: usize, signatures: &mut [u8]) -> bool {
     let mut at = from;
     let mut i = 0;
     while (i as u64) < count {
         if input.len() <= at {
-            told::no_signature(i, false);
+            told::no_signature(rt, i, false);
             return false;
         }
         let end = slips::line_end(input, at);
         if !sign(i, lend::part(input, between(at, end)), signatures) {
-            told::no_signature(i, true);
+            told::no_signature(rt, i, true);
             return false;
         }
         at = past(input, end);
@@ -255,11 +265,11 @@ fn powers(threshold: u64) -> usize {
 
 // The shares of a secret, from random coefficients: for each power as many bytes as the secret's
 // blocks have.
-fn shares_of(d: Deal, secret: &[u8], shares: &mut [u8]) -> bool {
+fn shares_of(rt: HostRuntime, d: Deal, secret: &[u8], shares: &mut [u8]) -> bool {
     let mut coefficients = [0u8; COEFFICIENTS];
     let need = times(padded(secret.len()), powers(d.threshold));
-    if !draw(&mut coefficients, need) {
-        told::no_chance();
+    if !draw(rt, &mut coefficients, need) {
+        told::no_chance(rt);
         return false;
     }
     let given = lend::part(
@@ -274,20 +284,16 @@ fn shares_of(d: Deal, secret: &[u8], shares: &mut [u8]) -> bool {
     match r {
         Wrote::Done { len: _ } => true,
         Wrote::Refused { no } => {
-            told::not_split(no);
+            told::not_split(rt, no);
             false
         }
     }
 }
 
-fn unread() -> u8 {
-    os::fail(b"standard input");
-    FAILED
-}
-
 // The signatures, and then the slips. The input holds so many bytes, of which the secret's line
 // ends at this index.
 fn finish(
+    rt: HostRuntime,
     d: Deal,
     len: usize,
     key: &[u8],
@@ -298,9 +304,9 @@ fn finish(
     end: usize,
 ) -> u8 {
     let mut signatures = [0u8; SIGNATURES];
-    let taken = fill(input, held, (d.count % 256) as usize + 1);
+    let taken = fill(rt, input, held, (d.count % 256) as usize + 1);
     if !taken.good {
-        return unread();
+        return FAILED;
     }
     let all = lend::part(
         input,
@@ -309,17 +315,18 @@ fn finish(
             len: taken.len,
         },
     );
-    if !sign_all(d.count, all, past(all, end), &mut signatures) {
+    if !sign_all(rt, d.count, all, past(all, end), &mut signatures) {
         return FAILED;
     }
-    if !slip_all(d, len, key, document, shares, &signatures) {
+    if !slip_all(rt, d, len, key, document, shares, &signatures) {
         return FAILED;
     }
-    closed()
+    closed(rt)
 }
 
 // Splits, once the secret is there.
 fn split_up(
+    rt: HostRuntime,
     d: Deal,
     secret: &[u8],
     key: &[u8],
@@ -329,26 +336,36 @@ fn split_up(
     end: usize,
 ) -> u8 {
     let mut shares = [0u8; SHARES];
-    if !shares_of(d, secret, &mut shares) {
+    if !shares_of(rt, d, secret, &mut shares) {
         return FAILED;
     }
-    if !ask_all(d, secret.len(), key, document, &shares) {
+    if !ask_all(rt, d, secret.len(), key, document, &shares) {
         return FAILED;
     }
-    let status = finish(d, secret.len(), key, document, &shares, input, held, end);
+    let status = finish(
+        rt,
+        d,
+        secret.len(),
+        key,
+        document,
+        &shares,
+        input,
+        held,
+        end,
+    );
     lend::clear(&mut shares, 0, SHARES);
     status
 }
 
 // What held the secret, its shares and the coefficients is cleared at the end; the compiler may
 // leave that out, since nobody reads it any more, and nothing is proved of it.
-pub(crate) fn run(d: Deal, key: &[u8], document: &[u8]) -> u8 {
+pub(crate) fn run(rt: HostRuntime, d: Deal, key: &[u8], document: &[u8]) -> u8 {
     let mut input = [0u8; INPUT];
     let mut secret = [0u8; wire::MOST_SHARE];
-    told::waiting(false);
-    let taken = fill(&mut input, 0, 1);
+    told::waiting(rt, false);
+    let taken = fill(rt, &mut input, 0, 1);
     if !taken.good {
-        return unread();
+        return FAILED;
     }
     let held = taken.len;
     let first = lend::part(
@@ -365,13 +382,13 @@ pub(crate) fn run(d: Deal, key: &[u8], document: &[u8]) -> u8 {
         &mut secret,
     );
     if len < 1 {
-        told::no_secret(d.seed);
+        told::no_secret(rt, d.seed);
         return FAILED;
     }
     if secret.len() < len {
         return FAILED;
     }
-    let status = split_up(d, &secret[0..len], key, document, &mut input, held, end);
+    let status = split_up(rt, d, &secret[0..len], key, document, &mut input, held, end);
     lend::clear(&mut input, 0, INPUT);
     lend::clear(&mut secret, 0, wire::MOST_SHARE);
     status

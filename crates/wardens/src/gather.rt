@@ -11,7 +11,7 @@ pub(crate) const MOST: usize = 300;
 pub(crate) const CELL: usize = 512;
 
 // How many slips there are, and whether each of them was one.
-#[derive(Drop)]
+#[derive(Clone, Copy)]
 pub(crate) struct Gathered {
     pub(crate) good: bool,
     pub(crate) n: usize,
@@ -67,18 +67,19 @@ fn note(
 }
 
 // What a text is instead of a slip.
-fn tell(feeds: usize, typed: bool, r: SlipRead) {
+fn tell(rt: HostRuntime, feeds: usize, typed: bool, r: SlipRead) {
     match r {
-        SlipRead::Text { no, line } => told::text(feeds, no, line, typed),
-        SlipRead::Frame { no } => told::frame(feeds, no),
-        SlipRead::Other { kind } => told::other(feeds, kind),
-        SlipRead::Shard { no } => told::shard(feeds, no),
-        _ => told::short(feeds),
+        SlipRead::Text { no, line } => told::text(rt, feeds, no, line, typed),
+        SlipRead::Frame { no } => told::frame(rt, feeds, no),
+        SlipRead::Other { kind } => told::other(rt, feeds, kind),
+        SlipRead::Shard { no } => told::shard(rt, feeds, no),
+        _ => told::short(rt, feeds),
     }
 }
 
 // Slip n, which stands in the input from start on.
 fn one(
+    rt: HostRuntime,
     input: &[u8],
     start: usize,
     len: usize,
@@ -103,7 +104,7 @@ fn one(
         lend::copy(cells, n * CELL, &room);
         return note(n, payload, quorum, starts, lens, numbers);
     }
-    tell(feeds(input, start), typed, r);
+    tell(rt, feeds(input, start), typed, r);
     false
 }
 
@@ -123,6 +124,7 @@ pub(crate) fn behind(start: usize, len: usize) -> usize {
 // its payload stands among the cells, how long that is, and the number of the share. The first that
 // is none is told, and so is one too many.
 pub(crate) fn all(
+    rt: HostRuntime,
     input: &[u8],
     cells: &mut [u8],
     places: &mut [usize],
@@ -138,10 +140,12 @@ pub(crate) fn all(
             return Gathered { good: true, n };
         };
         if n == MOST {
-            told::too_many();
+            told::too_many(rt);
             return bad();
         }
-        if !one(input, start, len, typed, n, cells, starts, lens, numbers) {
+        if !one(
+            rt, input, start, len, typed, n, cells, starts, lens, numbers,
+        ) {
             return bad();
         }
         set(places, n, start);

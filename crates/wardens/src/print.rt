@@ -28,7 +28,7 @@ fn kind(seed: bool, out: &mut [u8]) -> usize {
 }
 
 // A line of hex.
-fn hex_line(bytes: &[u8]) -> bool {
+fn hex_line(rt: HostRuntime, bytes: &[u8]) -> bool {
     let mut line = [0u8; LINE];
     if ROOM < bytes.len() {
         return false;
@@ -37,11 +37,12 @@ fn hex_line(bytes: &[u8]) -> bool {
     digits::hex(&mut line, 0, bytes);
     lend::put(&mut line, len, b'\n');
     let end = len + 1;
-    wrote(&line[0..end])
+    wrote(rt, &line[0..end])
 }
 
 // What is to be signed of slip i, as a line.
 pub(crate) fn ask(
+    rt: HostRuntime,
     d: Deal,
     i: usize,
     len: usize,
@@ -63,15 +64,15 @@ pub(crate) fn ask(
         &mut out,
     ) {
         Wrote::Refused { no } => {
-            told::not_split(no);
+            told::not_split(rt, no);
             false
         }
-        Wrote::Done { len: m } => hex_line(lend::part(&out, Span { start: 0, len: m })),
+        Wrote::Done { len: m } => hex_line(rt, lend::part(&out, Span { start: 0, len: m })),
     }
 }
 
 // A slip's line.
-fn scan_line(frame: &[u8]) -> bool {
+fn scan_line(rt: HostRuntime, frame: &[u8]) -> bool {
     let mut line = [0u8; LINE];
     match text::base64_write(frame, &mut line) {
         Wrote::Refused { no: _ } => false,
@@ -81,12 +82,12 @@ fn scan_line(frame: &[u8]) -> bool {
             }
             lend::put(&mut line, len, b'\n');
             let end = len + 1;
-            wrote(&line[0..end])
+            wrote(rt, &line[0..end])
         }
     }
 }
 
-fn frame_line(document: &[u8], payload: &[u8]) -> bool {
+fn frame_line(rt: HostRuntime, document: &[u8], payload: &[u8]) -> bool {
     let mut out = [0u8; ROOM];
     let id = lend::part(
         document,
@@ -97,15 +98,16 @@ fn frame_line(document: &[u8], payload: &[u8]) -> bool {
     );
     match payload_frame::key(id, payload, &mut out) {
         Wrote::Refused { no } => {
-            told::not_split(no);
+            told::not_split(rt, no);
             false
         }
-        Wrote::Done { len } => scan_line(lend::part(&out, Span { start: 0, len })),
+        Wrote::Done { len } => scan_line(rt, lend::part(&out, Span { start: 0, len })),
     }
 }
 
 // Slip i, with its signature, as a line.
 pub(crate) fn slip(
+    rt: HostRuntime,
     d: Deal,
     i: usize,
     len: usize,
@@ -129,9 +131,13 @@ pub(crate) fn slip(
         &mut out,
     ) {
         Wrote::Refused { no } => {
-            told::not_split(no);
+            told::not_split(rt, no);
             false
         }
-        Wrote::Done { len: m } => frame_line(document, lend::part(&out, Span { start: 0, len: m })),
+        Wrote::Done { len: m } => frame_line(
+            rt,
+            document,
+            lend::part(&out, Span { start: 0, len: m }),
+        ),
     }
 }

@@ -35,7 +35,7 @@ fn share(payload: &[u8]) -> Quorum {
 }
 
 // `slip I of N`.
-fn title(q: Quorum) -> bool {
+fn title(rt: HostRuntime, q: Quorum) -> bool {
     let mut line = [0u8; TITLE_ROOM];
     if 255 < q.index {
         return false;
@@ -49,10 +49,10 @@ fn title(q: Quorum) -> bool {
     let end = after + 4 + digits::decimal(&mut line, after + 4, q.count as u8);
     lend::put(&mut line, end, b'\n');
     let len = end + 1;
-    wrote(&line[0..len])
+    wrote(rt, &line[0..len])
 }
 
-fn lines(frame: &[u8]) -> bool {
+fn lines(rt: HostRuntime, frame: &[u8]) -> bool {
     let mut out = [0u8; LINES_ROOM];
     match sheet::in_groups(frame, &mut out) {
         Wrote::Refused { no: _ } => false,
@@ -60,7 +60,7 @@ fn lines(frame: &[u8]) -> bool {
             if out.len() < len {
                 return false;
             }
-            wrote(&out[0..len])
+            wrote(rt, &out[0..len])
         }
     }
 }
@@ -88,26 +88,32 @@ fn framed(n: usize, payload: Span) -> Span {
     }
 }
 
-fn one(n: usize, cells: &[u8], payload: Span) -> bool {
+fn one(rt: HostRuntime, n: usize, cells: &[u8], payload: Span) -> bool {
     if 0 < n {
-        if !wrote(b"\n") {
+        if !wrote(rt, b"\n") {
             return false;
         }
     }
-    if !title(share(lend::part(cells, payload))) {
+    if !title(rt, share(lend::part(cells, payload))) {
         return false;
     }
-    lines(lend::part(cells, framed(n, payload)))
+    lines(rt, lend::part(cells, framed(n, payload)))
 }
 
 // All slips, with an empty line between two.
-pub(crate) fn typed(n: usize, cells: &[u8], starts: &[usize], lens: &[usize]) -> u8 {
+pub(crate) fn typed(
+    rt: HostRuntime,
+    n: usize,
+    cells: &[u8],
+    starts: &[usize],
+    lens: &[usize],
+) -> u8 {
     let mut i = 0;
     while i < n {
-        if !one(i, cells, unite::place(starts, lens, i)) {
+        if !one(rt, i, cells, unite::place(starts, lens, i)) {
             return FAILED;
         }
         i += 1;
     }
-    closed()
+    closed(rt)
 }

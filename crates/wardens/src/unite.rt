@@ -30,12 +30,12 @@ fn needed(cells: &[u8], starts: &[usize], lens: &[usize]) -> u64 {
     }
 }
 
-fn too_few(n: usize, cells: &[u8], starts: &[usize], lens: &[usize]) {
+fn too_few(rt: HostRuntime, n: usize, cells: &[u8], starts: &[usize], lens: &[usize]) {
     if n < 1 {
-        told::no_slip();
+        told::no_slip(rt);
         return;
     }
-    told::too_few(n, needed(cells, starts, lens));
+    told::too_few(rt, n, needed(cells, starts, lens));
 }
 
 // The first slip that is none of the first one's secret; where there is none, how many there are.
@@ -51,12 +51,13 @@ fn stranger(n: usize, cells: &[u8], starts: &[usize], lens: &[usize]) -> usize {
     i
 }
 
-fn twice(n: usize, input: &[u8], places: &[usize], numbers: &[u8]) {
+fn twice(rt: HostRuntime, n: usize, input: &[u8], places: &[usize], numbers: &[u8]) {
     let held = lend::part(numbers, Span { start: 0, len: n });
     let Repeat::Twice { first, second } = slips::repeated(held) else {
         return;
     };
     told::twice(
+        rt,
         gather::feeds(input, gather::at(places, first)),
         gather::feeds(input, gather::at(places, second)),
     );
@@ -137,6 +138,7 @@ fn misfit_at(n: usize, cells: &[u8], places: &[usize], starts: &[usize], lens: &
 
 // Why these slips give no secret.
 fn tell(
+    rt: HostRuntime,
     no: u8,
     n: usize,
     input: &[u8],
@@ -147,42 +149,43 @@ fn tell(
     numbers: &[u8],
 ) {
     if no == wire::TOO_FEW_SLIPS {
-        too_few(n, cells, starts, lens);
+        too_few(rt, n, cells, starts, lens);
         return;
     }
     if no == wire::UNLIKE_SLIPS {
         let i = stranger(n, cells, starts, lens);
-        told::unlike(gather::feeds(input, gather::at(places, i)));
+        told::unlike(rt, gather::feeds(input, gather::at(places, i)));
         return;
     }
     if no == wire::SLIP_TWICE {
-        twice(n, input, places, numbers);
+        twice(rt, n, input, places, numbers);
         return;
     }
     if no == wire::OFF_THE_CURVE {
         let start = misfit_at(n, cells, places, starts, lens);
-        told::misfit(gather::feeds(input, start));
+        told::misfit(rt, gather::feeds(input, start));
         return;
     }
     if no == wire::BAD_PADDING {
-        told::damaged();
+        told::damaged(rt);
         return;
     }
-    told::refusal(no);
+    told::refusal(rt, no);
 }
 
 // The secret goes to standard output. Its bytes are cleared at the end; the compiler may leave that
 // out, since nobody reads them any more, and nothing is proved of it.
-fn give(len: usize, secret: &mut [u8]) -> u8 {
+fn give(rt: HostRuntime, len: usize, secret: &mut [u8]) -> u8 {
     if secret.len() < len {
         return FAILED;
     }
-    let status = deliver(&secret[0..len]);
+    let status = deliver(rt, &secret[0..len]);
     lend::clear(secret, 0, wire::MOST_SHARE);
     status
 }
 
 pub(crate) fn recover(
+    rt: HostRuntime,
     n: usize,
     input: &[u8],
     cells: &[u8],
@@ -199,9 +202,9 @@ pub(crate) fn recover(
         return FAILED;
     }
     match recover::recover(cells, &starts[0..n], &lens[0..n], &mut secret) {
-        Wrote::Done { len } => give(len, &mut secret),
+        Wrote::Done { len } => give(rt, len, &mut secret),
         Wrote::Refused { no } => {
-            tell(no, n, input, cells, places, starts, lens, numbers);
+            tell(rt, no, n, input, cells, places, starts, lens, numbers);
             FAILED
         }
     }

@@ -9,7 +9,7 @@ const NAME_SIZE: usize = 32;
 const MOST_SLIPS: u16 = 255;
 
 // What is wrong with a word.
-#[derive(Drop)]
+#[derive(Clone, Copy)]
 pub(crate) enum Why {
     Unknown,
     NoNumber,
@@ -21,7 +21,7 @@ pub(crate) enum Why {
     NotAlone,
 }
 
-#[derive(Drop)]
+#[derive(Clone, Copy)]
 pub(crate) enum Task {
     // No word has said yet what to do.
     Nothing,
@@ -36,7 +36,7 @@ pub(crate) enum Task {
 
 // What the words ask for so far. A number of 0 is none. Where `--key` or `--document` came last,
 // and waits for its digits, there is its index, and else 0.
-#[derive(Drop)]
+#[derive(Clone, Copy)]
 pub(crate) struct Order {
     pub(crate) task: Task,
     pub(crate) threshold: u16,
@@ -271,6 +271,7 @@ fn whole(o: Order, first: usize) -> Order {
 // What all words ask for: those from index first on, of so many. The key and the digest are put
 // where they are asked for. A word that the buffer has no room for comes back empty, which is none.
 pub(crate) fn asked(
+    rt: HostRuntime,
     first: usize,
     count: usize,
     buffer: &mut [u8],
@@ -294,18 +295,18 @@ pub(crate) fn asked(
             return o;
         }
         let alone = at == first && count - at == 1;
-        let len = os::arg(at, buffer);
-        o = next(o, at, alone, &buffer[..len], key, document);
+        let word = edge::arg(rt, at, buffer);
+        o = next(o, at, alone, &buffer[..word.len], key, document);
         at += 1;
     }
     whole(o, first)
 }
 
 // Whether the first word asks for a status on descriptor 3.
-pub(crate) fn asks_status(count: usize, buffer: &mut [u8]) -> bool {
+pub(crate) fn asks_status(rt: HostRuntime, count: usize, buffer: &mut [u8]) -> bool {
     if count < 2 {
         return false;
     }
-    let len = os::arg(1, buffer);
-    lend::equal(&buffer[..len], b"--status-3")
+    let word = edge::arg(rt, 1, buffer);
+    lend::equal(&buffer[..word.len], b"--status-3")
 }

@@ -58,7 +58,7 @@ pub const PAGE_MISSING: u8 = 16;
 pub const OTHER_CIPHERTEXT: u8 = 17;
 
 // Where bytes stand in a buffer: in the input, for what was read.
-#[derive(Drop)]
+#[derive(Clone, Copy)]
 pub struct Span {
     pub start: usize,
     pub len: usize,
