@@ -10,6 +10,9 @@ import tempfile
 from contextlib import contextmanager
 from functools import cache
 
+# a crate of the kit keeps the stream that it was made with
+NOWHERE = open(os.devnull, "w", encoding="utf-8")
+
 
 @cache
 def folder():
@@ -45,12 +48,25 @@ def crates(root):
 @contextmanager
 def silent():
     """What the kit says meanwhile on how it goes about it is not shown."""
-    out, sys.stdout = sys.stdout, open(os.devnull, "w", encoding="utf-8")
+    out, sys.stdout = sys.stdout, NOWHERE
     try:
         yield
     finally:
-        sys.stdout.close()
         sys.stdout = out
+
+
+@cache
+def shared():
+    """Has libraries be built with what other checkouts on this machine kept, as the command does."""
+    rt().share_work(False)
+
+
+def with_libraries(crate):
+    """Builds the libraries that a crate stands on, where `rt ci` has not left them built."""
+    for it in crate.below():
+        if not os.path.isdir(it.rlib):
+            shared()
+            it.build_rlib(["--jobs", "2"], anew=False)
 
 
 def said_of(root, name, edits):
@@ -58,6 +74,7 @@ def said_of(root, name, edits):
     proves of the crate without an edit is kept for them meanwhile."""
     crate, flags = crates(root)[name], ["--jobs", "2"]
     with silent():
+        with_libraries(crate)
         room = rt().seeded(crate, flags)
     try:
         for edit in edits:
