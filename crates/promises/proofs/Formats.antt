@@ -20,7 +20,7 @@ use Rattle.frame.proofs.read as frame-read
 use Rattle.frame.proofs.lay as frame-lay
 use Rattle.promises.specs.Calls.{Call}
 use Rattle.promises.specs.Formats.{Slice, Format, Exact, Frame, frame_says, frames}
-use Rattle.promises.proofs.Writers.{slice, Stands, stands_front, wrote_done, can_write}
+use Rattle.promises.proofs.Writers.{slice, lent, Stands, stands_front, wrote_done, can_write}
 use Rattle.promises.proofs.Answered.{frame_answer}
 use Rattle.promises.proofs.Links.Frame.{frame-lay-link, frame-read-link}
 
@@ -91,7 +91,7 @@ module _ (v : Frame) (s out : List ℕ) (e : s ≡ layout v.kind v.id v.index v.
   abbrev laying : Call frame-lay.Kinds.ps frame-lay.Kinds.r frame-lay.Reads.Learnt
   laying = record {
     lifetimes = ([], ([], ([], tt)));
-    args = (v.kind, (slice v.id, (v.index, (v.total, (slice v.contents, (slice out, tt))))));
+    args = (v.kind, (slice v.id, (v.index, (v.total, (slice v.contents, (lent out, tt))))));
     answer = Done (length s);
     left = (tt, (tt, (tt, (tt, (tt, (over 0 s out, tt))))));
     kept = can_write (done (layout v.kind v.id v.index v.total v.contents)) s out (ap done (sym e)) h;

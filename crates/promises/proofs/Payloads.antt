@@ -38,7 +38,7 @@ use Rattle.shard.proofs.read as shard-read
 use Rattle.shard.proofs.write as shard-write
 use Rattle.promises.specs.Calls.{Call}
 use Rattle.promises.specs.Formats.{Slice, Exact, Enclosed, envelopes, manifest_told, manifests, Auth, auths, Share, shards}
-use Rattle.promises.proofs.Writers.{slice, wrote_done, can_write}
+use Rattle.promises.proofs.Writers.{slice, lent, wrote_done, can_write}
 use Rattle.auth.specs.Answer.{claim_told}
 use Rattle.shard.specs.Answer.{shard_told}
 use Rattle.promises.proofs.Answered.{claim_answer, shard_answer, envelope_answer}
@@ -76,7 +76,7 @@ module _ (v : Enclosed) (s out : List ℕ) (e : verdict v.manifest v.payload ≡
   abbrev enclosing : Call envelope-write.Kinds.ps envelope-write.Kinds.r envelope-write.Reads.Learnt
   enclosing = record {
     lifetimes = ([], ([], ([], tt)));
-    args = (slice v.manifest, (slice v.payload, (slice out, tt)));
+    args = (slice v.manifest, (slice v.payload, (lent out, tt)));
     answer = W.Done (length s);
     left = (tt, (tt, (over 0 s out, tt)));
     kept = can_write (verdict v.manifest v.payload) s out e h;
@@ -135,7 +135,7 @@ module _ (pool : List ℕ) (m : Manifest) (s out : List ℕ) (e : manifest_verdi
   abbrev listing : Call manifest-write.Kinds.ps manifest-write.Kinds.r manifest-write.Reads.Learnt
   listing = record {
     lifetimes = ([], ([], tt));
-    args = (slice pool, (m, (slice out, tt)));
+    args = (slice pool, (m, (lent out, tt)));
     answer = Done (length s);
     left = (tt, (tt, (over 0 s out, tt)));
     kept = can_write (manifest_verdict pool m) s out e h;
@@ -180,7 +180,7 @@ module _ (v : Auth) (s out : List ℕ) (e : AuthForm v s) (h : length s ≤ leng
   abbrev signing : Call auth-write.Kinds.ps auth-write.Kinds.r auth-write.Reads.Learnt
   signing = record {
     lifetimes = ([], ([], ([], ([], tt))));
-    args = (slice v.public, (slice v.sig, (slice v.hash, (slice out, tt))));
+    args = (slice v.public, (slice v.sig, (slice v.hash, (lent out, tt))));
     answer = Done (length s);
     left = (tt, (tt, (tt, (over 0 s out, tt))));
     kept = can_write (auth_verdict v.public v.sig v.hash) s out e h;
@@ -226,7 +226,7 @@ module _ (v : Share) (s out : List ℕ) (e : ShardForm v s) (h : length s ≤ le
   abbrev sharing : Call shard-write.Kinds.ps shard-write.Kinds.r shard-write.Reads.Learnt
   sharing = record {
     lifetimes = ([], ([], ([], ([], ([], ([], tt))))));
-    args = (slice v.signed.public, (slice v.signed.sig, (slice v.signed.hash, (slice v.kind, (slice v.share, (v.len, (v.quorum, (slice out, tt))))))));
+    args = (slice v.signed.public, (slice v.signed.sig, (slice v.signed.hash, (slice v.kind, (slice v.share, (v.len, (v.quorum, (lent out, tt))))))));
     answer = Done (length s);
     left = (tt, (tt, (tt, (tt, (tt, (tt, (tt, (over 0 s out, tt))))))));
     kept = can_write (verdict_of v) s out e h;

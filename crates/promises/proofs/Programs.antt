@@ -41,7 +41,7 @@ use Rattle.promises.specs.Calls.{Call}
 use Rattle.promises.specs.Collecting.{library}
 use Rattle.promises.specs.Demand3.{Left}
 use Rattle.promises.specs.Programs.{Feeds, FeedsAll, Closes, Runs, Reports, Resumes, Shows, Laid, Collects, Waits, Programs}
-use Rattle.promises.proofs.Writers.{slice, written_room}
+use Rattle.promises.proofs.Writers.{slice, lent, written_room}
 use Rattle.promises.proofs.Interfaces.{library_lawful}
 use Rattle.promises.proofs.Demand3.{left_bytes}
 use Rattle.promises.proofs.Links.Scan.{scan-session-feed-link, scan-session-close-link, scan-session-report-link}
@@ -75,7 +75,7 @@ session_of s = record { phase = s.phase; len = s.len }
 abbrev feeding : List ℕ → At → Call scan-session-feed.Kinds.ps scan-session-feed.Kinds.r scan-session-feed.Reads.Learnt
 feeding part s = record {
   lifetimes = ([], ([], ([], tt)));
-  args = (slice part, (session_of s, (slice s.line, (slice s.collection, tt))));
+  args = (slice part, (session_of s, (lent s.line, (lent s.collection, tt))));
   answer = session_of (fed s part);
   left = (tt, (tt, ((fed s part).line, ((fed s part).collection, tt))));
   kept = refl;
@@ -107,7 +107,7 @@ closed_line s = last_line s (eqb s.len 0) (eqb s.phase 0) (eqb s.phase 1)
 abbrev ending : At → Call scan-session-close.Kinds.ps scan-session-close.Kinds.r scan-session-close.Reads.Learnt
 ending s = record {
   lifetimes = ([], ([], tt));
-  args = (session_of s, (slice s.line, (slice s.collection, tt)));
+  args = (session_of s, (slice s.line, (lent s.collection, tt)));
   answer = session_of (closed s);
   left = (tt, (tt, ((closed s).collection, tt)));
   kept = closed_line s;
@@ -117,7 +117,7 @@ ending s = record {
 abbrev noting_part : List ℕ → At → Call notes-feed.Kinds.ps notes-feed.Kinds.r notes-feed.Reads.Learnt
 noting_part part s = record {
   lifetimes = ([], ([], ([], ([], tt))));
-  args = (slice part, (session_of s, (slice s.line, (slice s.collection, (slice [], tt)))));
+  args = (slice part, (session_of s, (lent s.line, (lent s.collection, (lent [], tt)))));
   answer = session_of (fed s part);
   left = (tt, (tt, ((fed s part).line, ((fed s part).collection, (noted_all s [] part, tt)))));
   kept = (refl, refl);
@@ -126,7 +126,7 @@ noting_part part s = record {
 abbrev noting_end : At → Call notes-close.Kinds.ps notes-close.Kinds.r notes-close.Reads.Learnt
 noting_end s = record {
   lifetimes = ([], ([], ([], tt)));
-  args = (session_of s, (slice s.line, (slice s.collection, (slice [], tt))));
+  args = (session_of s, (slice s.line, (lent s.collection, (lent [], tt))));
   answer = session_of (closed s);
   left = (tt, (tt, ((closed s).collection, (noted_last s [], tt))));
   kept = (closed_line s, refl);

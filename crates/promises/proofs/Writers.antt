@@ -5,7 +5,8 @@ use Prim.Native.Nat.{ℕ, ◌≤◌}
 use native.Mathlib.Omega.{arith}
 use lib.ListN.{length, take}
 use contract.Lifetimes.{Lfts}
-use denote.Ref.{Bor}
+use denote.Bor.{Bor}
+use denote.MutBor.{MutBor}
 use denote.Triple.Clauses.{at_exit}
 use borrow.Fn.Kinds.{ResultKind, Out, res_t, ended_of}
 use Rattle.wire.specs.Answer.{Answer, done, Kept}
@@ -20,6 +21,10 @@ use Rattle.promises.specs.Calls.{Call}
 -- a slice that holds given bytes, somewhere
 abbrev pub slice : List ℕ → Bor (List ℕ)
 slice s = record { ref_ptr = (0, 0); now = s }
+
+-- such a slice that is lent to be written
+abbrev pub lent : List ℕ → MutBor (List ℕ)
+lent s = record { ref_ptr = (0, 0); ghost_name = 0; now = s }
 
 -- the bytes s stand in front of what was left, all of them, and their number was answered
 pub record Stands (s out x : List ℕ) (n : ℕ) : Type 0 where
@@ -52,9 +57,9 @@ abbrev both : Lfts 2
 both = ([], ([], tt))
 
 abbrev pub second_lent : (r : ResultKind 2) (contract : Out 2 text-base64-write.Kinds.ps r) (s c x : List ℕ) (a : (res_t r both).Denot)
-    → contract both (slice s, (slice c, tt)) a (at_exit (ended_of 2 text-base64-write.Kinds.ps r) both (slice s, (slice c, tt)) (tt, (x, tt))) → Call text-base64-write.Kinds.ps r contract
-second_lent r contract s c x a k = record { lifetimes = both; args = (slice s, (slice c, tt)); answer = a; left = (tt, (x, tt)); kept = k }
+    → contract both (slice s, (lent c, tt)) a (at_exit (ended_of 2 text-base64-write.Kinds.ps r) both (slice s, (lent c, tt)) (tt, (x, tt))) → Call text-base64-write.Kinds.ps r contract
+second_lent r contract s c x a k = record { lifetimes = both; args = (slice s, (lent c, tt)); answer = a; left = (tt, (x, tt)); kept = k }
 
 abbrev pub first_lent : (r : ResultKind 2) (contract : Out 2 collection-offer.Kinds.ps r) (c s x : List ℕ) (a : (res_t r both).Denot)
-    → contract both (slice c, (slice s, tt)) a (at_exit (ended_of 2 collection-offer.Kinds.ps r) both (slice c, (slice s, tt)) (x, (tt, tt))) → Call collection-offer.Kinds.ps r contract
-first_lent r contract c s x a k = record { lifetimes = both; args = (slice c, (slice s, tt)); answer = a; left = (x, (tt, tt)); kept = k }
+    → contract both (lent c, (slice s, tt)) a (at_exit (ended_of 2 collection-offer.Kinds.ps r) both (lent c, (slice s, tt)) (x, (tt, tt))) → Call collection-offer.Kinds.ps r contract
+first_lent r contract c s x a k = record { lifetimes = both; args = (lent c, (slice s, tt)); answer = a; left = (x, (tt, tt)); kept = k }

@@ -3,7 +3,6 @@
 use mathlib.Core.Path.{◌≡◌}
 use Rattle.wire.specs.Answer.{done}
 use Rattle.wire.specs.Writing.{Written}
-use Rattle.collection.specs.Answer.{told}
 use Rattle.promises.specs.Calls.{Call}
 use Rattle.frame.specs.Frame as F
 use Rattle.frame.specs.Layout.{layout}
