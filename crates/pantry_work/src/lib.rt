@@ -9,6 +9,8 @@
 // 12 of their document (`resume_13`, `resume_12`, `resume_0`: pantry_work, Sessions). Of a whole
 // input: what is kept (`file_kept`), and which files are refused (`damaged_13`, `another_12`,
 // `none_19`: pantry_work, Pantry).
+#![tactic(auto)]
+
 ghost use Rattle.wire.specs.Answer.{Kept};
 ghost use Rattle.collection.specs.Answer.{told};
 ghost use Rattle.finish.specs.Finish.{Closed};
