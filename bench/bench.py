@@ -1,10 +1,9 @@
 """The measured functions: how their programs are built, and whether their answers are right.
 
-There are three sides: the plain C, ours (crates/speed), and the peer: the
-library that a C programmer would take instead.
+There are three sides: the plain C, ours (crates/speed, exported by crates/speed_c), and the peer:
+the library that a C programmer would take instead.
 """
 
-import glob
 import hashlib
 import os
 import re
@@ -17,7 +16,8 @@ import zlib
 import counting
 
 ROOT = os.path.dirname(counting.BENCH)
-sys.path.insert(0, os.path.join(ROOT, "tests"))
+sys.path[:0] = [os.path.join(ROOT, "tests"), os.path.join(ROOT, "tools")]
+import making  # noqa: E402
 from second import answers, forms  # noqa: E402
 
 FUNCTIONS = ("crc32", "sha256", "blake2b", "base64_write", "base64_read")
@@ -58,27 +58,14 @@ def build(output, sources, *more, **options):
     return output if done.returncode == 0 else None
 
 
-def made(root, path, *words):
-    """What `rt` makes with these words, proved and built where it is lacking or older than a
-    source."""
-    path = os.path.join(root, "target", path)
-    sources = glob.glob(os.path.join(root, "crates", "*", "src", "**", "*.rt"), recursive=True)
-    if not os.path.exists(path) or os.path.getmtime(path) < max(map(os.path.getmtime, sources)):
-        done = subprocess.run(["rt", *words], cwd=root, text=True, check=False,
-                              capture_output=True)
-        if done.returncode != 0:
-            raise SystemExit(f"rt {' '.join(words)} failed: {done.stderr.strip()[-300:]}")
-    return path
-
-
 def archive(crate, root):
-    """A crate's archive."""
-    return made(root, os.path.join("staticlib", f"lib{crate}.a"), "staticlib", crate)
+    """The archive of what a crate exports for C, proved and built where that is not done yet."""
+    return making.kept_archive(root, f"{crate}_c")
 
 
 def desk():
     """The call desk, as a program."""
-    return made(ROOT, os.path.join("bin", "desk"), "check", "desk")
+    return making.program(ROOT, "desk")
 
 
 def build_plain(folder):

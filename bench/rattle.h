@@ -1,6 +1,6 @@
 /*
- * THE RATTLE SIDE: what crates/speed exports (rt staticlib speed writes
- * target/staticlib/libspeed.a). A slice passes as a pointer and a length.
+ * THE RATTLE SIDE: what crates/speed_c exports (tools/build speed_c writes
+ * crates/speed_c/out/libspeed_c.a). A slice passes as a pointer and a length.
  */
 #ifndef RATTLE_H
 #define RATTLE_H

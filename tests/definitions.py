@@ -12,12 +12,18 @@ USE = re.compile(r"^\s*(?:ghost )?use (\S+?)(?:\.\{(.*)\}| as (\S+?))?;?$")
 DEFINES = re.compile(r"(?:(?:pub|abbrev|unfoldable) )*(?:(?P<kind>record|data|ruleset) (?P<type>\S+)|(?P<law>\S+) :(?: |$))")
 CONSTRUCTOR = re.compile(r"(\S+) :(?: |$)")
 WORD = re.compile(r"[^\s(){},;]+")
+# what an attribute of a function names, as in #[tactic(auto, using(crate::proofs::Laws::law))]
+IN_ATTRIBUTE = re.compile(r"\b(\w+)::((?:specs|proofs)(?:::[^\s,():]+)+)")
 
 
 def in_order(text):
     """The words of a text that can cite, each once: not a field with its dot before it, and without
-    the dot that ends what λ binds."""
-    return list(dict.fromkeys(word.rstrip(".") for word in WORD.findall(text) if not word.startswith(".")))
+    the dot that ends what λ binds. Of `a.b` also `a`, whose field b may be."""
+    found = []
+    for word in (word.rstrip(".") for word in WORD.findall(text) if not word.startswith(".")):
+        parts = word.split(".")
+        found += [".".join(parts[:count]) for count in range(len(parts), 0, -1)]
+    return list(dict.fromkeys(found))
 
 
 def words(text):
@@ -41,12 +47,14 @@ class File:
         self.path = path
         self.place = module(path)
         self.names, self.aliases, self.definitions, self.constructors, self.outside = {}, {}, {}, {}, set()
+        self.attributes = []
         lines = text.split("\n")
         for found in filter(None, map(USE.match, lines)):
             self.take_in(*found.groups())
         rest = ["" if USE.match(line) else line.rstrip() for line in lines]
         if path.endswith(".rt"):
             self.outside = words("\n".join(rest))
+            self.attributes = [self.named(*found) for found in IN_ATTRIBUTE.findall("\n".join(rest))]
         else:
             self.read(rest, open(path, encoding="utf-8").read().split("\n"))
 
@@ -97,10 +105,15 @@ class File:
         if not place and "." in word:
             alias, _, name = word.rpartition(".")
             place = self.aliases.get(alias)
-        if not place or not place.startswith("Rattle·"):
+        if not place or not place.startswith("Rattle."):
             return None
-        crate, _, rest = place.removeprefix("Rattle·").partition(".")
-        return crate.split("·")[0], rest, name
+        crate, _, rest = place.removeprefix("Rattle.").partition(".")
+        return crate, rest, name
+
+    def named(self, crate, path):
+        """What an attribute names, by the same."""
+        *there, name = path.split("::")
+        return self.place[0] if crate == "crate" else crate, ".".join(there), name
 
 
 def module(path):

@@ -7,11 +7,11 @@ import sys
 ROOT = os.path.dirname(os.path.dirname(os.path.realpath(__file__)))
 sys.path.insert(0, os.path.join(ROOT, "tests"))
 from definitions import files, in_order  # noqa: E402
-from sources import ANY, METHODS, PUBLIC, rattle_files  # noqa: E402
+from sources import ANY, METHODS, PUBLIC, body_at, promising  # noqa: E402
 
-CONTRACT = re.compile(r"^\s*(?:requires|ensures) \{(.*)\}$", re.MULTILINE)
+CONTRACT = re.compile(r"^\s*(?:requires|ensures)(?: \w+)? \{(.*?)\}$", re.MULTILINE | re.DOTALL)
 PARAMETER = re.compile(r"(\w+):")
-PROGRAMS = {path for path, program in rattle_files(ROOT) if program}
+PROMISING = set(promising(ROOT))
 
 
 def contracts(path):
@@ -21,13 +21,11 @@ def contracts(path):
     for number, line in enumerate(lines):
         impl = METHODS.match(line)
         owner = impl[1] + "::" if impl else "" if line == "}" else owner
-        found, end = ANY.match(line), number
-        while found and lines[end].strip() != "{" and not lines[end].endswith(" {"):
-            end += 1
+        found = ANY.match(line)
         if found:
-            head = "\n".join(lines[number:end])
-            own = set(PARAMETER.findall(head))
-            said = [word for word in in_order(" ".join(CONTRACT.findall(head))) if word not in own]
+            head = "\n".join(lines[number:body_at(lines, number)])
+            own = {"result", *PARAMETER.findall(head)}
+            said = [word for word in in_order(" ".join(CONTRACT.findall(head))) if word.split(".")[0] not in own]
             yield owner + found[1], bool(PUBLIC.match(line)), said
 
 
@@ -63,7 +61,7 @@ class House:
         for name, public, said in contracts(file.path) if file.path.endswith(".rt") else ():
             here = (*file.place, name)
             self.cites[here] = self.meant(file, said)
-            (self.public if public and file.path not in PROGRAMS else self.private).add(here)
+            (self.public if public and file.path in PROMISING else self.private).add(here)
 
     def meant(self, file, said):
         """The definitions of specs/ that words of a file can name."""

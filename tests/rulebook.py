@@ -68,7 +68,7 @@ def owner(lines, number, how):
     if not opens:
         return None
     below = number
-    while below < len(lines) and lines[below].lstrip().startswith(mark):
+    while below < len(lines) and lines[below].lstrip().startswith((mark, "#[")):
         below += 1
     found = opens.match(lines[below]) if number < below < len(lines) else None
     if found and not lines[below].startswith("use "):

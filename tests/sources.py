@@ -5,14 +5,20 @@ import re
 
 LAYER = re.compile(r"# ---- (.*)")
 IN_RATTLE = re.compile(r"(?<![\w:])(\w+)::")
-IN_ANTT = re.compile(r"Rattle·(\w+)\.")
+IN_ANTT = re.compile(r"(?<![\w.])Rattle\.(\w+)\.")
 OWN_MODULE = re.compile(r"^\s*(?:pub )?mod (\w+)", re.MULTILINE)
-KIT = ("io", "libc", "os")
-NOT_OURS = {".git", "target", "__pycache__"}
+KIT = ("io",)
+# what every crate has of the kit, and no line of crates.txt names
+EVERYWHERE = {"std", "core"}
+NOT_OURS = {".git", "target", "bin", "out", "__pycache__"}
 PUBLIC = re.compile(r'^\s*pub (?:extern "C" )?fn (\w+)')
 METHODS = re.compile(r"^impl (\w+) \{")
 ANY = re.compile(r'^\s*(?:pub(?:\((?:super|crate)\))? )?(?:extern "C" )?fn (\w+)')
 CALL = re.compile(r"((?:\w+::)*\w+)\(")
+# a clause that goes on in further lines, and a clause as a whole
+OPEN_CLAUSE = re.compile(r"^\s*(?:requires|ensures)\b[^{]*\{$")
+# a library that takes this asks something of the system, so no contract can say what it answers
+ASKS_SYSTEM = re.compile(r"\bHostRuntime\b")
 NAMED = re.compile(r"`(\S+?)`")
 
 
@@ -37,12 +43,19 @@ def lines_of_crates(root):
         layer = heading[1].strip() if heading else layer
         name, _, below = line.split("#")[0].partition(":")
         if name.strip():
-            yield layer, name.strip(), below.split()
+            yield layer, name.split()[0], below.split()
 
 
 def listed(root):
     """The crates of crates.txt, in its order."""
     return [name for _, name, _ in lines_of_crates(root)]
+
+
+def for_c(root):
+    """The crates that crates.txt has as static libraries, for C."""
+    with open(os.path.join(root, "crates.txt"), encoding="utf-8") as file:
+        heads = [line.split("#")[0].partition(":")[0].split() for line in file]
+    return [words[0] for words in heads if words[1:2] == ["staticlib"]]
 
 
 def texts(root, crate):
@@ -65,7 +78,7 @@ def cited(root, crate):
         if path.endswith(".rt"):
             found |= known & set(IN_RATTLE.findall(text))
             own |= set(OWN_MODULE.findall(text))
-    return found - own
+    return found - own - EVERYWHERE
 
 
 def rattle_files(root):
@@ -95,10 +108,15 @@ def functions(path):
     for number, (owner, text) in enumerate(owned(lines)):
         found = PUBLIC.match(text)
         if found:
-            end = number
-            while lines[end].strip() != "{" and not lines[end].endswith(" {"):
-                end += 1
-            yield number + 1, "::".join([*owner, found[1]]), "\n".join(lines[number:end + 1])
+            yield number + 1, "::".join([*owner, found[1]]), "\n".join(lines[number:body_at(lines, number) + 1])
+
+
+def body_at(lines, number):
+    """Where the body of the function that begins at a line begins."""
+    end = number
+    while lines[end].strip() != "{" and not (lines[end].endswith(" {") and not OPEN_CLAUSE.match(lines[end])):
+        end += 1
+    return end
 
 
 def module(root, path):
@@ -108,10 +126,22 @@ def module(root, path):
     return [crate, *(name for name in rest if name != "lib")]
 
 
+def promising(root):
+    """The files of the libraries that promise something of their own. What a static library exports
+    says again what another library promises (tests/promises), and what the system gives, no
+    contract can say."""
+    files = [(module(root, path)[0], path) for path, program in rattle_files(root) if not program]
+    apart = {*for_c(root)}
+    for crate, path in files:
+        with open(path, encoding="utf-8") as file:
+            apart |= {crate} if ASKS_SYSTEM.search(re.sub(r"//.*", "", file.read())) else set()
+    return [path for crate, path in files if crate not in apart]
+
+
 def public(root):
     """The public functions of the libraries, by their whole names."""
-    files = [path for path, program in rattle_files(root) if not program]
-    return {"::".join([*module(root, path), name]) for path in files for _, name, _ in functions(path)}
+    return {"::".join([*module(root, path), name]) for path in promising(root)
+            for _, name, _ in functions(path)}
 
 
 def bodies(root, crate):
@@ -172,9 +202,9 @@ def named(root):
 def documented(root):
     """Each public function of a library, in the order of crates.txt: its whole name, its file, its
     text up to its body, and its promise, which is the first paragraph of the comment above it."""
-    for path, program in rattle_files(root):
+    for path in promising(root):
         lines = open(path, encoding="utf-8").read().split("\n")
-        for number, name, head in () if program else functions(path):
+        for number, name, head in functions(path):
             first = number - 1
             while lines[first - 1].lstrip().startswith("#["):
                 first -= 1

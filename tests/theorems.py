@@ -4,10 +4,10 @@ import re
 
 from sources import comment_above
 
-FACADE = re.compile(r"^use Rattle·(\w+)\.proofs\.([\w.]+) as (\S+)$")
+FACADE = re.compile(r"^use Rattle\.(\w+)\.proofs\.([\w.]+) as (\S+)$")
 STATED = re.compile(r"^pub (\S+) : Once(?:Seen)?\b")
 THEOREM = re.compile(
-    r"^pub (\S+) : Once(?:(Seen)|) (\S+)\.Kinds\.ps \3\.Kinds\.r (?(2)\(λ κs x\. now x\) )\3\.Reads\.Learnt$"
+    r"^pub (\S+) : Once(?:(Seen)|) (\S+)\.Kinds\.ps \3\.Kinds\.r (?(2)\(λ κs x\. x\.now\) )\3\.Reads\.Learnt$"
 )
 
 
@@ -21,7 +21,7 @@ class Theorem:
 
 def theorem_of(function):
     """The name that the theorem of a function must have."""
-    return re.sub("::|_", "-", function) + "-once"
+    return function.replace("::", "_") + "_once"
 
 
 def statements(root, part):

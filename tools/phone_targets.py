@@ -1,9 +1,9 @@
 """The phone's library for three kinds of processor, from one proved program.
 
-The kit compiles for x86-64 alone. It hands its clang the whole library as one LLVM module. That
-module is kept here, what names a processor in it is taken out, and the same clang compiles it with
-the same options for 64-bit Arm and for WebAssembly. What is proved is the program that all three
-come from; that they do the same is tested (tests/phone).
+The kit hands its clang the whole library as one LLVM module, for x86-64. That module is kept here,
+what names a processor in it is taken out, and the same clang compiles it with the same options for
+64-bit Arm and for WebAssembly. What is proved is the program that all three come from; that they do
+the same is tested (tests/phone).
 
 In the module a slice is a pointer and a length of 64 bits. A pointer of WebAssembly has 32, so
 there each function is (i32, i64, i32, i64) -> i64. JavaScript passes such a length as a BigInt
@@ -13,17 +13,19 @@ size_t has 32 bits.
 
 import os
 import re
-import shutil
 import struct
 import subprocess
+import sys
 import tempfile
 from collections import namedtuple
 
+sys.path.insert(0, os.path.dirname(os.path.realpath(__file__)))
+import making  # noqa: E402
+from making import kit  # noqa: E402
+
+# The crate that exports for C what the crate `phone` promises, and the name of its archive.
+CRATE, ARCHIVE = "phone_c", "libphone.a"
 ARM = "aarch64-linux-gnu"
-KEEPING = """#!/bin/sh
-cp module.bc {kept}/ && printf '%s\\n' "$@" >{kept}/words
-exec {clang} "$@"
-"""
 NAMING = re.compile(r'^target .*\n| "(?:target-(?:cpu|features)|tune-cpu)"="[^"]*"', re.MULTILINE)
 FUNCTION = re.compile(r"^define [^@\n]*@(stilt_\w+)\(", re.MULTILINE)
 POINTER_AS_NUMBER = re.compile(r"\b(?:ptrtoint|inttoptr)\b")
@@ -47,42 +49,11 @@ Section = namedtuple("Section", "name type flags address offset length link")
 # Proving, and keeping the module.
 
 
-def linked(folder, into, but=()):
-    """A folder whose entries lead to those of another, but for some."""
-    os.makedirs(into)
-    for name in os.listdir(folder):
-        if name not in but:
-            os.symlink(os.path.join(folder, name), os.path.join(into, name))
-
-
-def keeping_kit(folder):
-    """The kit with a clang that keeps what it is given. Its folder, and that of the true clang."""
-    said = subprocess.run(["rt", "doc"], text=True, check=True, stdout=subprocess.PIPE).stdout
-    kit, made = os.path.dirname(os.path.dirname(said.strip())), os.path.join(folder, "kit")
-    own = os.path.join("on", os.uname().machine)
-    tools = os.path.join(own, "toolchain")
-    linked(kit, made, ["on"])
-    linked(os.path.join(kit, own), os.path.join(made, own), ["toolchain"])
-    linked(os.path.join(kit, tools), os.path.join(made, tools), ["bin"])
-    linked(os.path.join(kit, tools, "bin"), os.path.join(made, tools, "bin"), ["clang"])
-    wrapper = os.path.join(made, tools, "bin", "clang")
-    true_tools = os.path.join(kit, tools, "bin")
-    with open(wrapper, "w", encoding="utf-8") as script:
-        script.write(KEEPING.format(kept=folder, clang=os.path.join(true_tools, "clang")))
-    os.chmod(wrapper, 0o755)
-    return made, true_tools
-
-
-def prove(checkout, folder):
+def prove(checkout, folder, archive):
     """Prove and build the library in the checkout, and keep the module in the folder."""
-    kit, tools = keeping_kit(folder)
-    built = subprocess.run(["rt", "staticlib", "phone"], cwd=checkout, text=True, check=False,
-                           capture_output=True, env={**os.environ, "RATTLE_HOME": kit})
-    if built.returncode != 0:
-        raise SystemExit(f"rt staticlib phone failed in {checkout}: "
-                         f"{(built.stdout + built.stderr)[-600:]}")
+    making.archive(checkout, CRATE, archive, keeping=folder)
     with open(os.path.join(folder, "words"), encoding="utf-8") as file:
-        return Proved(folder, tools, file.read().splitlines())
+        return Proved(folder, os.path.join(kit.folder(), "toolchain", "bin"), file.read().splitlines())
 
 
 def run(folder, tool, *words):
@@ -110,7 +81,7 @@ def compiled(proved, text, triple, *more):
         file.write(text)
     exchanged = {"module.bc": source, "module.o": output}
     words = [exchanged.get(word, word) for word in proved.words
-             if not word.startswith(("--target=", "-march="))]
+             if not word.startswith(("--target=", "-march=", "--sysroot="))]
     run(proved.tools, "clang", *words, f"--target={triple}", "-Wno-override-module", *more)
     return output
 
@@ -132,16 +103,11 @@ def held_to_c(path):
     return path
 
 
-def for_x86_64(checkout, into):
-    """The archive that rt wrote."""
-    path = place(into, "x86_64", "libphone.a")
-    archive = os.path.join(checkout, "target", "staticlib", "libphone.a")
-    return shutil.copyfile(held_to_c(archive), path)
 
 
 def for_arm(proved, text, into, triple):
     """The archive for 64-bit Arm."""
-    path = place(into, "aarch64", "libphone.a")
+    path = place(into, "aarch64", ARCHIVE)
     run(proved.tools, "llvm-ar", "rcs", path, held_to_c(compiled(proved, text, triple)))
     return path
 
@@ -168,10 +134,10 @@ def for_wasm(proved, text, into):
 def build(checkout, into, triple=ARM):
     """The three files, proved and built from the checkout: their paths."""
     with tempfile.TemporaryDirectory() as folder:
-        proved = prove(checkout, folder)
+        x86_64 = place(into, "x86_64", ARCHIVE)
+        proved = prove(checkout, folder, x86_64)
         text = without_processor(proved)
-        return [for_x86_64(checkout, into), for_arm(proved, text, into, triple),
-                for_wasm(proved, text, into)]
+        return [held_to_c(x86_64), for_arm(proved, text, into, triple), for_wasm(proved, text, into)]
 
 
 # Looking into an archive of one object file (ELF, 64 bits).

@@ -11,7 +11,7 @@ use Rattle.wire.specs.Span.{part_at}
 use Rattle.lend.specs.Same.{same}
 use Rattle.lend.proofs.Sames.{same_eq}
 use Rattle.model.specs.Book.{empty}
-use Rattle.model.specs.Take.{Page, take_page, join_book}
+use Rattle.model.specs.Take.{take_page, join_book}
 use Rattle.book.specs.Head.{head_for, with_head}
 use Rattle.book.specs.Encode.{encode, with_blank}
 use Rattle.book.specs.Read.{id_of, read_book, book_in}

@@ -104,6 +104,7 @@ among_either (x ∷ xs) ys raw (inl e) = inl (inl e)
 among_either (x ∷ xs) ys raw (inr a) = ⊎_elim (λ b. inl (inr b)) (λ c. inr c) (among_either xs ys raw a)
 
 among_first : (xs ys : List (List ℕ)) (raw : List ℕ) → Among xs raw → Among (xs ++ ys) raw
+among_first [] ys raw a = elim a [ ]
 among_first (x ∷ xs) ys raw (inl e) = inl e
 among_first (x ∷ xs) ys raw (inr a) = inr (among_first xs ys raw a)
 

@@ -62,6 +62,7 @@ module _ (id : List ℕ) where
 
   -- every page is one that the frame reader accepts
   pub in_good : (h : Built) → Lent h → (p : Page) → In id h p → Good p
+  in_good (opened _) l p x = elim x [ ]
   in_good (offered raw h) l p (inl a) = in_good h l.1 p a
   in_good (offered raw h) l p (inr s) = (good_page_lem id raw p s.0 l.0 s.1).good
   in_good (joined g h) l p (inl a) = in_good g l.0 p a

@@ -5,6 +5,8 @@
 // Whatever is offered and joined, in any order and grouping, with repeats, bad scans and strangers'
 // pages, the saved bytes are those of the set (`saved`, `saved_set`, `list_saved`, `list_joined`:
 // collection, Demand). Open, offer and join leave a collection well formed (collection, Keeps).
+#![tactic(auto)]
+
 mod merge;
 mod take;
 

@@ -14,8 +14,9 @@ mod words;
 use std::env::{Env, FillError};
 use std::fs;
 use std::fs::File;
-use std::io::{Error, ErrorKind, IsTerminal, Print, Read};
+use std::io::{Error, ErrorKind, IsTerminal, Print, Read, Seek, SeekFrom};
 use std::os::fd::AsFd;
+use std::os::unix::fs::FileTypeExt;
 use words::Words;
 
 // Where a status is told, asked for with `--status-3`.
@@ -80,18 +81,36 @@ pub fn read(rt: HostRuntime, buffer: &mut [u8]) -> Result<usize, Error>
     rt.stdin().read(buffer)
 }
 
+// Whether a person types the input.
 pub fn input_is_terminal(rt: HostRuntime) -> bool {
     rt.stdin().is_terminal()
 }
 
-// How large standard input is where it is a file, and else 0.
+// How large standard input is where it is a file or a disk, and else 0.
 pub fn input_size(rt: HostRuntime) -> u64 {
     match fs::metadata(&rt, INPUT_PATH) {
         Ok(found) => {
             if found.is_file() {
                 return found.len();
             }
+            if found.file_type().is_block_device() {
+                return disk_size(rt);
+            }
             0
+        }
+        Err(_) => 0,
+    }
+}
+
+// A disk has no size of its own in its metadata: it is where its end is.
+fn disk_size(rt: HostRuntime) -> u64 {
+    match File::open(&rt, INPUT_PATH) {
+        Ok(disk) => {
+            let mut disk = disk;
+            match disk.seek(SeekFrom::End(0)) {
+                Ok(end) => end,
+                Err(_) => 0,
+            }
         }
         Err(_) => 0,
     }

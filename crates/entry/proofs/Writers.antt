@@ -7,8 +7,7 @@ use mathlib.Core.List.{List, [], ◌∷◌, ◌++◌}
 use native.Mathlib.Omega.{arith}
 use borrow.Author.Tests.{leb-true, eqb-true, le-leb, lt-leb, eq-eqb}
 use lib.Dec.{ltb, leb, eqb}
-use lib.ListN.{length, take, drop, length-drop, drop_of_length-le}
-use lib.Seq.{take-nil, take_all}
+use lib.ListN.{length}
 use Rattle.wire.specs.Answer.{choose, Answer, done, refused_at, refused}
 use Rattle.wire.specs.Writing.{told, outcome}
 use Rattle.wire.specs.declared.Wrote.{Wrote}

@@ -1,5 +1,7 @@
 // One file of a manifest (R13.5), read at a position of the input and written at a position of lent
 // output.
+#![tactic(auto)]
+
 pub mod read;
 pub mod write;
 
@@ -10,7 +12,7 @@ ghost use Rattle.entry.specs.Private.{mtime_told};
 
 use wire::Span;
 
-#[derive(Drop)]
+#[derive(Clone, Copy)]
 pub enum Mtime {
     Null,
     // The number n, or -1 - n where it is negative (R13.6).
@@ -19,7 +21,7 @@ pub enum Mtime {
 
 // Its hash and path stand in a pool of bytes. Of a file that was read the pool is the input
 // (R13.7).
-#[derive(Drop)]
+#[derive(Clone, Copy)]
 pub struct File {
     pub hash: Span,
     pub path: Span,

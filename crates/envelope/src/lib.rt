@@ -3,6 +3,8 @@
 //
 // What is written reads back, and what is read is exactly the written form of its manifest and its
 // payload, which the writer accepts (`envelope_back`, `envelope_only`).
+#![tactic(auto)]
+
 mod judge;
 
 ghost use Rattle.std.specs.Prelude.{◌≡◌};

@@ -113,7 +113,7 @@ unfolding files_at entries_of entry_in
 files_back {s} {at} {next} prev [] g h = ([], ap (got []) (omega (arith, h.ends)), refl)
 files_back {s} {at} {next} prev (e ∷ es) g h =
     let a = file_back prev e g.0 (stands_first (entry_of e) (entries_of es) h) in
-    let r = files_back e.path es g.1 (stands_second (entry_of e) (entries_of es) h) in
+    let r = files_back {at = at + length (entry_of e)} e.path es g.1 (stands_second (entry_of e) (entries_of es) h) in
     let p : part_at s a.0.path ≡ e.path = ap (λ (x : Entry). x.path) a.2 in
     (a.0 ∷ r.0, rw (a.1, p, r.1), ap₂ (λ (x : Entry) (xs : List Entry). x ∷ xs) a.2 r.2)
 
@@ -129,7 +129,7 @@ files_only {s} {next} at prev (suc k) {fs} y l e =
     let f : a.0 ∷ b.0 ≡ fs = got_value b.3 in
     let n : b.1 ≡ next = got_next b.3 in
     let p = file_only prev y a.2 in
-    let r = files_only a.1 (part_at s a.0.path) k y p.0.within b.2 in
+    let r = files_only {next = b.1} a.1 (part_at s a.0.path) k y p.0.within b.2 in
     subst (λ (fs : List File). Stands s at (entries_of (map (entry_in s) fs)) next × AllGood s prev fs × (length fs ≡ suc k)) f
     (stands_join p.0 (stands_as refl n r.0), (p.1, r.1), ap suc r.2)
 

@@ -27,7 +27,7 @@ use Rattle.entry.proofs.Sizes.{part_length}
 use Rattle.entry.proofs.Writers.{digest_within}
 use Rattle.entry.proofs.Rounds.{file_within}
 use Rattle.manifest.specs.Manifest.{Listing, seed_at, files_at, list_at, agrees, sealed_at, created_at, Ending, end_at, manifest_at}
-use Rattle.manifest.specs.Writing.{Secret, some, Said, seed_in, said_in, secret_of, entries_of, created_of, said_of, manifest_of, seed_allowed, created_allowed, listed, manifest_verdict, CreatedFits, Typed}
+use Rattle.manifest.specs.Writing.{Secret, Said, seed_in, said_in, secret_of, entries_of, created_of, said_of, manifest_of, seed_allowed, created_allowed, listed, manifest_verdict, CreatedFits, Typed}
 use Rattle.manifest.specs.Answer.{padded, answer_for}
 use Rattle.manifest.specs.declared.Seed.{Seed}
 use Rattle.manifest.specs.declared.Seed.TheVariants as seed

@@ -3,6 +3,8 @@
 // What is written reads back, and what is read is exactly the written form of its value, which the
 // writer accepts (`manifest_back`, `manifest_only`, `manifest_once`: manifest, Rounds). A manifest
 // that its writer accepts has at most 16,384 bytes.
+#![tactic(auto)]
+
 mod fields;
 mod files;
 mod form;
@@ -19,7 +21,7 @@ ghost use Rattle.manifest.specs.Private.{seed_told, end_told};
 use entry::{File, Mtime};
 use wire::{NumberRead, Span, StepRead, Wrote};
 
-#[derive(Drop)]
+#[derive(Clone, Copy)]
 pub enum Seed {
     Null,
     // A place in the pool of the manifest's bytes: of one that was read the pool is the input
@@ -27,7 +29,7 @@ pub enum Seed {
     Bytes { span: Span },
 }
 
-#[derive(Drop)]
+#[derive(Clone, Copy)]
 pub enum Created {
     // The number n, or -1 - n where it is negative (R13.6).
     Integer { negative: bool, n: u64 },
@@ -36,7 +38,7 @@ pub enum Created {
 }
 
 // The first `count` files are meant.
-#[derive(Drop)]
+#[derive(Clone, Copy)]
 pub struct Manifest {
     pub seed: Seed,
     pub files: [File; wire::MOST_FILES],

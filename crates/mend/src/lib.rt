@@ -1,5 +1,7 @@
 // Mend, for a damaged file (R9.11). What it leaves is well formed, what was well formed is
 // untouched, and nothing is invented (mend, Mends).
+#![tactic(auto)]
+
 ghost use Rattle.std.specs.Prelude.{◌≡◌, true, ◌++◌, ◌+◌, ◌*◌, take};
 ghost use Rattle.wire.specs.Answer.{choose, Kept};
 ghost use Rattle.wire.specs.Sizes.{block_size, most_pages};

@@ -7,3 +7,4 @@
 // (`take_join`: model, Sets). Finish gives the data exactly when the set is complete and undisputed
 // and the id matches (`finish_whole`, `finish_14`, `finish_15`, `finish_16`: model, Finished;
 // finish, Demand).
+#![tactic(auto)]

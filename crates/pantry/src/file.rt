@@ -2,12 +2,17 @@
 // one and takes its place once it is whole and on the disk, so that a crash leaves the one or the
 // other.
 ghost use Rattle.std.specs.Prelude.{◌≡◌, ◌≤◌, length};
-ghost use Rattle.libc.specs.Io.{Ended};
 
 use crate::said;
 use collection::Answered;
-use libc::PATH_MAX;
 use scan::session::Session;
+use std::fs;
+use std::fs::{File, OpenOptions};
+use std::io::{Error, ErrorKind, Read, Write};
+use std::path::PathBuf;
+
+// A name has fewer bytes: the system wants a 0 behind it.
+pub(crate) const PATH_MAX: usize = 4096;
 
 // One byte more than a collection has, so that a longer file shows and is 13 (R15.7).
 const ENOUGH: usize = wire::COLLECTION_SIZE + 1;
@@ -18,41 +23,50 @@ const BESIDE: usize = 11;
 // A link that leads to more links than this leads nowhere.
 const LINKS: u8 = 40;
 
-// How a file was read.
-#[derive(Drop)]
-enum Loaded {
-    // So many bytes, all of them where the buffer is not full.
-    Done { len: usize },
-    Failed,
-}
-
-// Reads to the end of the file, or until the buffer is full.
-fn load(fd: i32, saved: &mut [u8]) -> Loaded {
+// Reads to the end of the file, or until the buffer is full. Answers how many bytes came: all of
+// them where the buffer is not full.
+fn load(file: &mut File, saved: &mut [u8]) -> Result<usize, Error> {
     let mut len = 0;
     while len < saved.len() {
-        let got = libc::read(fd, &mut saved[len..]);
-        if got < 0 {
-            return Loaded::Failed;
-        }
-        let n = io::count(got, &saved[len..]);
+        let n = file.read(&mut saved[len..])?;
         if n < 1 {
-            return Loaded::Done { len };
+            return Ok(len);
         }
         len += n;
     }
-    Loaded::Done { len }
+    Ok(len)
 }
 
 // ---- names
 
-// A name as C reads it, up to a 0.
-fn ended(name: &[u8]) -> [u8; PATH_MAX]
-    ensures { Ended result }
-{
-    let mut path = [0u8; PATH_MAX];
-    lend::copy(&mut path, 0, name);
-    path[PATH_MAX - 1] = 0;
-    path
+// A name as std takes it, which is text. Of a name that is not UTF-8 nothing can be asked: such a
+// file is refused as one that the system lets us neither read nor write.
+fn text(name: &[u8]) -> Result<&str, Error> {
+    match str::from_utf8(name) {
+        Ok(text) => Ok(text),
+        Err(_) => Err(Error::from(ErrorKind::InvalidFilename)),
+    }
+}
+
+fn open_read(rt: HostRuntime, name: &[u8]) -> Result<File, Error> {
+    File::open(&rt, text(name)?)
+}
+
+// What a link says. No more of its name is read than the system takes.
+fn read_link(rt: HostRuntime, name: &[u8]) -> Result<PathBuf, Error> {
+    let len = name.len().min(PATH_MAX - 1);
+    fs::read_link(&rt, text(&name[..len])?)
+}
+
+fn rename(rt: HostRuntime, from: &[u8], to: &[u8]) -> Result<(), Error> {
+    fs::rename(&rt, text(from)?, text(to)?)
+}
+
+// Where a new file cannot be removed, it stays, and the next run says so.
+fn remove(rt: HostRuntime, name: &[u8]) {
+    if let Ok(text) = text(name) {
+        let _gone = fs::remove_file(&rt, text);
+    }
 }
 
 // Where the last part of a name begins: behind its last slash.
@@ -98,42 +112,40 @@ fn follow(name: &mut [u8], len: usize, link: &[u8]) -> usize {
 }
 
 // A name that is no link, or not there, is the file's own. Any other fault is told.
-fn unlinked(name: &[u8]) -> usize {
-    let error = os::errno();
-    if error == libc::EINVAL {
+fn unlinked(rt: HostRuntime, name: &[u8], error: Error) -> usize {
+    if error.kind() == ErrorKind::InvalidInput {
         return name.len();
     }
-    if error == libc::ENOENT {
+    if error.kind() == ErrorKind::NotFound {
         return name.len();
     }
-    said::failed(name);
+    said::failed(rt, name, error);
     0
 }
 
 // The file that a name means: where that is a symbolic link, what the link leads to, so that the
 // link stays. Answers the length of its name, 0 where there is none, which is told.
-fn meant(name: &[u8], real: &mut [u8]) -> usize {
+fn meant(rt: HostRuntime, name: &[u8], real: &mut [u8]) -> usize {
     lend::copy(real, 0, name);
     let mut n = name.len();
-    let mut link = [0u8; PATH_MAX];
     let mut turns = LINKS;
     while turns > 0 {
         if real.len() < n {
             return 0;
         }
-        let got = libc::readlink(&ended(&real[0..n]), &mut link);
-        if got < 0 {
-            return unlinked(&real[0..n]);
+        match read_link(rt, &real[0..n]) {
+            Ok(link) => {
+                n = follow(real, n, link.as_str().as_bytes());
+            }
+            Err(error) => return unlinked(rt, &real[0..n], error),
         }
-        let m = io::count(got, &link);
-        n = follow(real, n, &link[..m]);
         if n == 0 {
-            said::no_file(name);
+            said::no_file(rt, name);
             return 0;
         }
         turns -= 1;
     }
-    said::no_file(name);
+    said::no_file(rt, name);
     0
 }
 
@@ -168,95 +180,89 @@ fn new_name(real: &[u8], beside: &mut [u8]) -> usize
 // The new file, empty. Who makes it has the file whose place it takes to itself until it is renamed
 // or removed: a second run finds it there, and EEXIST. A launcher (R15.13) holds a lock on it, so
 // what is there under one is of a run that was killed, or the launcher's own, with the right mode.
-fn claim(beside: &[u8], launched: bool) -> i32 {
+fn claim(rt: HostRuntime, beside: &[u8], launched: bool) -> Result<File, Error> {
     if launched {
-        return os::open_overwrite(beside);
+        return File::create(&rt, text(beside)?);
     }
-    os::create(beside)
+    let mut how = OpenOptions::new();
+    how.write(true).create_new(true);
+    how.open(&rt, text(beside)?)
 }
 
 // Tells why there is no new file.
-fn unclaimed(real: &[u8], beside: &[u8]) {
-    let error = os::errno();
-    if error == libc::EEXIST {
-        said::busy(beside);
+fn unclaimed(rt: HostRuntime, real: &[u8], beside: &[u8], error: Error) {
+    if error.kind() == ErrorKind::AlreadyExists {
+        said::busy(rt, beside);
         return;
     }
-    if error == libc::ENOENT {
-        said::no_folder(real);
+    if error.kind() == ErrorKind::NotFound {
+        said::no_folder(rt, real);
         return;
     }
-    said::failed(real);
+    said::failed(rt, real, error);
 }
 
-// Writes all of it, down to the disk; what fails is told by the file's name.
-fn fill(real: &[u8], fd: i32, bytes: &[u8]) -> bool {
-    if !io::write_all(fd, bytes) {
-        said::failed(real);
-        libc::close(fd);
-        return false;
-    }
-    if libc::fsync(fd) != 0 {
-        said::failed(real);
-        libc::close(fd);
-        return false;
-    }
-    if libc::close(fd) != 0 {
-        said::failed(real);
-        return false;
-    }
-    true
+// Writes all of it, down to the disk.
+fn fill(mut file: File, bytes: &[u8]) -> Result<(), Error> {
+    file.write_all(bytes)?;
+    file.sync_all()
 }
 
 // The new name is on the disk only when its folder is. A file system that cannot sync a folder says
 // EINVAL.
-fn sync_folder(real: &[u8]) -> bool {
+fn sync_folder(rt: HostRuntime, real: &[u8]) -> Result<(), Error> {
     let end = base(real);
-    let fd = if end == 0 {
-        os::open_read(b".")
+    let folder = if end == 0 {
+        open_read(rt, b".")?
     } else {
-        os::open_read(&real[0..end])
+        open_read(rt, &real[0..end])?
     };
-    if fd < 0 {
-        return false;
+    match folder.sync_all() {
+        Err(error) => {
+            if error.kind() == ErrorKind::InvalidInput {
+                return Ok(());
+            }
+            Err(error)
+        }
+        Ok(()) => Ok(()),
     }
-    let synced = libc::fsync(fd) == 0 || os::errno() == libc::EINVAL;
-    libc::close(fd);
-    synced
 }
 
-// Puts bytes in the place of the file of this name, by the new file beside it.
-fn replace(real: &[u8], beside: &[u8], fd: i32, bytes: &[u8]) -> bool {
-    if !fill(real, fd, bytes) {
-        os::unlink(beside);
+// Puts bytes in the place of the file of this name, by the new file beside it. What fails is told
+// by the file's name.
+fn replace(rt: HostRuntime, real: &[u8], beside: &[u8], file: File, bytes: &[u8]) -> bool {
+    if let Err(error) = fill(file, bytes) {
+        said::failed(rt, real, error);
+        remove(rt, beside);
         return false;
     }
-    if os::rename(beside, real) != 0 {
-        said::failed(real);
-        os::unlink(beside);
+    if let Err(error) = rename(rt, beside, real) {
+        said::failed(rt, real, error);
+        remove(rt, beside);
         return false;
     }
-    if !sync_folder(real) {
-        said::failed(real);
+    if let Err(error) = sync_folder(rt, real) {
+        said::failed(rt, real, error);
         return false;
     }
     true
 }
 
-fn put_at(real: &[u8], beside: &[u8], launched: bool, bytes: &[u8]) -> bool {
-    let fd = claim(beside, launched);
-    if fd < 0 {
-        unclaimed(real, beside);
-        return false;
+fn put_at(rt: HostRuntime, real: &[u8], beside: &[u8], launched: bool, bytes: &[u8]) -> bool {
+    match claim(rt, beside, launched) {
+        Ok(file) => replace(rt, real, beside, file, bytes),
+        Err(error) => {
+            unclaimed(rt, real, beside, error);
+            false
+        }
     }
-    replace(real, beside, fd, bytes)
 }
 
 // The file that this name means then holds these bytes, whole and on the disk, or what it held
 // before.
-pub(crate) fn put(name: &[u8], launched: bool, bytes: &[u8]) -> bool {
+pub(crate) fn put(rt: HostRuntime, name: &[u8], launched: bool, bytes: &[u8]) -> bool {
     let mut real = [0u8; PATH_MAX];
-    let n = meant(name, &mut real);
+    let n = meant(rt, name, &mut real);
     if n == 0 {
         return false;
     }
@@ -266,10 +272,10 @@ pub(crate) fn put(name: &[u8], launched: bool, bytes: &[u8]) -> bool {
     let mut beside = [0u8; PATH_MAX];
     let end = new_name(&real[0..n], &mut beside);
     if end == 0 {
-        said::no_file(name);
+        said::no_file(rt, name);
         return false;
     }
-    put_at(&real[0..n], &beside[0..end], launched, bytes)
+    put_at(rt, &real[0..n], &beside[0..end], launched, bytes)
 }
 
 // ---- keeping
@@ -284,62 +290,72 @@ enum Gathered {
 }
 
 // Joins what was saved into c.
-fn join(s: Session, saved: &[u8], c: &mut [u8]) -> Gathered {
+fn join(rt: HostRuntime, s: Session, saved: &[u8], c: &mut [u8]) -> Gathered {
     let r = pantry_work::resume(s, saved, c);
     if let Answered::Refused { no } = r {
         if no == wire::OTHER_DOCUMENT {
-            said::stranger(saved, &c[..]);
+            said::stranger(rt, saved, &c[..]);
         }
         return Gathered::Refused { no };
     }
     if lend::equal(saved, c) {
-        said::nothing_new();
+        said::nothing_new(rt);
         return Gathered::Same;
     }
     Gathered::More
 }
 
+// Tells why a file cannot be read, which is 11.
+fn unread(rt: HostRuntime, real: &[u8], error: Error) -> Gathered {
+    said::failed(rt, real, error);
+    Gathered::Refused { no: wire::NO_ROOM }
+}
+
 // Joins the file's collection into c. No file is as an empty collection. 11 is a file that the
 // system does not let us read.
-fn gather(real: &[u8], s: Session, c: &mut [u8]) -> Gathered {
-    let fd = os::open_read(real);
-    if fd < 0 {
-        if os::errno() == libc::ENOENT {
-            return Gathered::More;
+fn gather(rt: HostRuntime, real: &[u8], s: Session, c: &mut [u8]) -> Gathered {
+    let mut file = match open_read(rt, real) {
+        Ok(file) => file,
+        Err(error) => {
+            if error.kind() == ErrorKind::NotFound {
+                return Gathered::More;
+            }
+            return unread(rt, real, error);
         }
-        said::failed(real);
-        return Gathered::Refused { no: wire::NO_ROOM };
-    }
-    let mut saved = [0u8; ENOUGH];
-    let r = load(fd, &mut saved);
-    let Loaded::Done { len } = r else {
-        said::failed(real);
-        libc::close(fd);
-        return Gathered::Refused { no: wire::NO_ROOM };
     };
-    libc::close(fd);
+    let mut saved = [0u8; ENOUGH];
+    let len = match load(&mut file, &mut saved) {
+        Ok(len) => len,
+        Err(error) => return unread(rt, real, error),
+    };
+    drop(file);
     if len <= saved.len() {
-        return join(s, &saved[0..len], c);
+        return join(rt, s, &saved[0..len], c);
     }
     Gathered::Refused { no: wire::NO_ROOM }
 }
 
 // Nothing is written: what was claimed goes.
-fn leave(beside: &[u8], fd: i32) {
-    if fd < 0 {
-        return;
+fn leave(rt: HostRuntime, beside: &[u8], claimed: Result<File, Error>) {
+    if let Ok(file) = claimed {
+        drop(file);
+        remove(rt, beside);
     }
-    libc::close(fd);
-    os::unlink(beside);
 }
 
 // Where the new file could not be made, that is said only here: a file that need not be written may
 // stand where nobody can write.
-fn save(real: &[u8], beside: &[u8], launched: bool, claimed: i32, c: &[u8]) -> u8 {
-    let saved = if claimed < 0 {
-        put_at(real, beside, launched, c)
-    } else {
-        replace(real, beside, claimed, c)
+fn save(
+    rt: HostRuntime,
+    real: &[u8],
+    beside: &[u8],
+    launched: bool,
+    claimed: Result<File, Error>,
+    c: &[u8],
+) -> u8 {
+    let saved = match claimed {
+        Ok(file) => replace(rt, real, beside, file, c),
+        Err(_) => put_at(rt, real, beside, launched, c),
     };
     if saved {
         return wire::DONE;
@@ -347,20 +363,35 @@ fn save(real: &[u8], beside: &[u8], launched: bool, claimed: i32, c: &[u8]) -> u
     wire::NO_ROOM
 }
 
-fn keep_at(real: &[u8], beside: &[u8], launched: bool, s: Session, c: &mut [u8]) -> u8 {
-    let fd = claim(beside, launched);
-    if fd < 0 && os::errno() == libc::EEXIST {
-        said::busy(beside);
+// Whether the new file of another run is there.
+fn is_taken(claimed: &Result<File, Error>) -> bool {
+    match claimed {
+        Ok(_) => false,
+        Err(error) => error.kind() == ErrorKind::AlreadyExists,
+    }
+}
+
+fn keep_at(
+    rt: HostRuntime,
+    real: &[u8],
+    beside: &[u8],
+    launched: bool,
+    s: Session,
+    c: &mut [u8],
+) -> u8 {
+    let claimed = claim(rt, beside, launched);
+    if is_taken(&claimed) {
+        said::busy(rt, beside);
         return wire::NO_ROOM;
     }
-    match gather(real, s, c) {
-        Gathered::More => save(real, beside, launched, fd, c),
+    match gather(rt, real, s, c) {
+        Gathered::More => save(rt, real, beside, launched, claimed, c),
         Gathered::Same => {
-            leave(beside, fd);
+            leave(rt, beside, claimed);
             wire::DONE
         }
         Gathered::Refused { no } => {
-            leave(beside, fd);
+            leave(rt, beside, claimed);
             no
         }
     }
@@ -368,9 +399,9 @@ fn keep_at(real: &[u8], beside: &[u8], launched: bool, s: Session, c: &mut [u8])
 
 // Joins the file's collection into c, and keeps what that gives there. Answers 0 or the number of a
 // refusal: the join's, or 11 for a file that the system does not let us read or write.
-pub(crate) fn keep(name: &[u8], launched: bool, s: Session, c: &mut [u8]) -> u8 {
+pub(crate) fn keep(rt: HostRuntime, name: &[u8], launched: bool, s: Session, c: &mut [u8]) -> u8 {
     let mut real = [0u8; PATH_MAX];
-    let n = meant(name, &mut real);
+    let n = meant(rt, name, &mut real);
     if n == 0 {
         return wire::NO_ROOM;
     }
@@ -380,8 +411,8 @@ pub(crate) fn keep(name: &[u8], launched: bool, s: Session, c: &mut [u8]) -> u8 
     let mut beside = [0u8; PATH_MAX];
     let end = new_name(&real[0..n], &mut beside);
     if end == 0 {
-        said::no_file(name);
+        said::no_file(rt, name);
         return wire::NO_ROOM;
     }
-    keep_at(&real[0..n], &beside[0..end], launched, s, c)
+    keep_at(rt, &real[0..n], &beside[0..end], launched, s, c)
 }

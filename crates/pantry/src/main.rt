@@ -3,22 +3,23 @@
 // With the name of a file it keeps the collection there between runs, and with `--to` it puts the
 // ciphertext in a file's place (R15.7). The work is done by `scan`, `notes`, `told` and
 // `pantry_work`; here are only the words of the command, the reading and the writing.
+#![tactic(auto)]
+
 mod file;
 mod said;
 mod words;
 
+use file::PATH_MAX;
 use finish::Finished;
-use libc::{STDIN_FILENO, STDOUT_FILENO};
 use scan::session;
 use scan::session::Session;
+use std::io::{Error, ErrorKind};
 use words::Asked;
 
 // How much one read asks for.
 const CHUNK: usize = 65_536;
 
-// Where the status is told, asked for with `--status-3` (R15.12).
-const STATUS_FILENO: i32 = 3;
-
+// The status is told where it is asked for, with `--status-3` (R15.12).
 const DONE: u8 = b'0';
 
 const FAILED: u8 = b'1';
@@ -30,7 +31,6 @@ const WRONG: u8 = b'2';
 enum Turned {
     More { session: Session },
     End,
-    Failed,
 }
 
 // The session at the end of the input; none where the input could not be read to its end (R15.8).
@@ -41,160 +41,182 @@ enum Taken {
 }
 
 // Reads once, and takes what came into the session and the notes.
-fn turn(s: Session, input: &mut [u8], line: &mut [u8], c: &mut [u8], notes: &mut [u64]) -> Turned {
-    let got = libc::read(STDIN_FILENO, input);
-    if got < 0 {
-        return Turned::Failed;
-    }
-    let n = io::count(got, input);
+fn turn(
+    rt: HostRuntime,
+    s: Session,
+    input: &mut [u8],
+    line: &mut [u8],
+    c: &mut [u8],
+    notes: &mut [u64],
+) -> Result<Turned, Error> {
+    let n = edge::read(rt, input)?;
     if n < 1 {
-        return Turned::End;
+        return Ok(Turned::End);
     }
     let session = notes::feed(&input[..n], s, line, c, notes);
-    Turned::More { session }
+    Ok(Turned::More { session })
 }
 
 // A proved loop has to end, and nothing says that the input does: it counts down from a number that
 // no run uses up.
-fn collect(input: &mut [u8], line: &mut [u8], c: &mut [u8], notes: &mut [u64]) -> Taken {
+fn collect(
+    rt: HostRuntime,
+    input: &mut [u8],
+    line: &mut [u8],
+    c: &mut [u8],
+    notes: &mut [u64],
+) -> Result<Session, Error> {
     let mut s = Session {
         phase: session::WAITING,
         len: 0,
     };
     let mut turns = u64::MAX;
     while turns > 0 {
-        match turn(s, input, line, c, notes) {
+        match turn(rt, s, input, line, c, notes)? {
             Turned::More { session } => {
                 s = session;
             }
-            Turned::End => return Taken::Whole { session: s },
-            Turned::Failed => return Taken::Failed,
+            Turned::End => return Ok(s),
         }
         turns -= 1;
     }
-    Taken::Failed
+    Err(Error::from(ErrorKind::TimedOut))
 }
 
 // Reads all of the input, or says that it could not: of a part nothing is given out and nothing
 // kept (R15.8).
-fn scanned(c: &mut [u8], notes: &mut [u64]) -> Taken {
+fn scanned(rt: HostRuntime, c: &mut [u8], notes: &mut [u64]) -> Taken {
     let mut input = [0u8; CHUNK];
     let mut line = [0u8; session::LINE_BUFFER];
-    let Taken::Whole { session } = collect(&mut input, &mut line, c, notes) else {
-        os::fail(b"standard input");
-        return Taken::Failed;
-    };
-    let session = notes::close(session, &line, c, notes);
-    Taken::Whole { session }
+    match collect(rt, &mut input, &mut line, c, notes) {
+        Ok(session) => {
+            let session = notes::close(session, &line, c, notes);
+            Taken::Whole { session }
+        }
+        Err(error) => {
+            edge::fail(rt, b"standard input", error);
+            Taken::Failed
+        }
+    }
 }
 
 // A write can also fail at the end, when the file is closed.
-fn print(bytes: &[u8]) -> u8 {
-    if !io::write_all(STDOUT_FILENO, bytes) {
-        os::fail(b"standard output");
-        return FAILED;
-    }
-    if libc::close(STDOUT_FILENO) != 0 {
-        os::fail(b"standard output");
+fn printed(rt: HostRuntime, bytes: &[u8]) -> Result<(), Error> {
+    edge::print(rt, bytes)?;
+    edge::finish_output(rt)
+}
+
+fn print(rt: HostRuntime, bytes: &[u8]) -> u8 {
+    if let Err(error) = printed(rt, bytes) {
+        edge::fail(rt, b"standard output", error);
         return FAILED;
     }
     DONE
 }
 
-fn deliver(bytes: &[u8], to: usize, launched: bool) -> u8 {
+fn deliver(rt: HostRuntime, bytes: &[u8], to: usize, launched: bool) -> u8 {
     if to == 0 {
-        return print(bytes);
+        return print(rt, bytes);
     }
-    let mut name = io::buffer();
-    let len = os::arg(to, &mut name);
-    if file::put(&name[..len], launched, bytes) {
+    let mut name = [0u8; PATH_MAX];
+    let word = edge::arg(rt, to, &mut name);
+    if file::put(rt, &name[..word.len], launched, bytes) {
         return DONE;
     }
-    said::advice(wire::NO_ROOM);
+    said::advice(rt, wire::NO_ROOM);
     FAILED
 }
 
 // What stands in the collection is told in any case, and that it is complete only once the
 // ciphertext is where it belongs.
-fn give(s: Session, c: &[u8], notes: &[u64], to: usize, launched: bool) -> u8 {
-    said::standing(c, notes);
+fn give(rt: HostRuntime, s: Session, c: &[u8], notes: &[u64], to: usize, launched: bool) -> u8 {
+    said::standing(rt, c, notes);
     let mut out = [0u8; wire::MOST_CIPHERTEXT];
     match pantry_work::answer(s, c, &mut out) {
         Finished::Done { len } => {
             if out.len() < len {
                 return FAILED;
             }
-            let status = deliver(&out[0..len], to, launched);
+            let status = deliver(rt, &out[0..len], to, launched);
             if status == DONE {
-                said::advice(wire::DONE);
+                said::advice(rt, wire::DONE);
             }
             status
         }
         Finished::Refused { no, place: _ } => {
-            said::advice(no);
+            said::advice(rt, no);
             FAILED
         }
     }
 }
 
 // The file is written before anything is given out: a ciphertext that came out is kept (R15.7).
-fn keep(s: Session, c: &mut [u8], notes: &[u64], kept: usize, to: usize, launched: bool) -> u8 {
-    let mut name = io::buffer();
-    let len = os::arg(kept, &mut name);
-    let no = file::keep(&name[..len], launched, s, c);
+fn keep(
+    rt: HostRuntime,
+    s: Session,
+    c: &mut [u8],
+    notes: &[u64],
+    kept: usize,
+    to: usize,
+    launched: bool,
+) -> u8 {
+    let mut name = [0u8; PATH_MAX];
+    let word = edge::arg(rt, kept, &mut name);
+    let no = file::keep(rt, &name[..word.len], launched, s, c);
     if no == wire::DONE {
-        return give(s, &c[..], notes, to, launched);
+        return give(rt, s, &c[..], notes, to, launched);
     }
     // Of two documents the file itself has told, by their ids.
     if no != wire::OTHER_DOCUMENT {
-        said::advice(no);
+        said::advice(rt, no);
     }
     FAILED
 }
 
 // Where the first line was no document id, no file is looked at.
-fn run(kept: usize, to: usize, launched: bool) -> u8 {
-    said::waiting();
+fn run(rt: HostRuntime, kept: usize, to: usize, launched: bool) -> u8 {
+    said::waiting(rt);
     let mut c = [0u8; wire::COLLECTION_SIZE];
     let mut notes = [0u64; notes::SIZE];
-    let Taken::Whole { session: s } = scanned(&mut c, &mut notes) else {
+    let Taken::Whole { session: s } = scanned(rt, &mut c, &mut notes) else {
         return FAILED;
     };
     if s.phase != session::COLLECTING {
-        said::first_line(notes[notes::FAULT]);
+        said::first_line(rt, notes[notes::FAULT]);
         return FAILED;
     }
     if kept == 0 {
-        return give(s, &c, &notes, to, launched);
+        return give(rt, s, &c, &notes, to, launched);
     }
-    keep(s, &mut c, &notes, kept, to, launched)
+    keep(rt, s, &mut c, &notes, kept, to, launched)
 }
 
-fn obey(asked: Asked, launched: bool) -> u8 {
+fn obey(rt: HostRuntime, asked: Asked, launched: bool) -> u8 {
     match asked {
-        Asked::Run { kept, to } => run(kept, to, launched),
+        Asked::Run { kept, to } => run(rt, kept, to, launched),
         Asked::Help => {
-            said::help();
+            said::help(rt);
             DONE
         }
         Asked::Version => {
-            said::version();
+            said::version(rt);
             DONE
         }
         Asked::Wrong { at, why } => {
-            said::wrong(at, why);
+            said::wrong(rt, at, why);
             WRONG
         }
     }
 }
 
-fn main() {
-    let mut word = io::buffer();
-    let count = os::arg_count();
-    if words::asks_status(count, &mut word) {
-        let status = [obey(words::parse(2, count, &mut word), true)];
-        io::write_all(STATUS_FILENO, &status);
+fn main(rt: HostRuntime) {
+    let mut word = [0u8; PATH_MAX];
+    let count = edge::arg_count(rt);
+    if words::asks_status(rt, count, &mut word) {
+        let asked = words::parse(rt, 2, count, &mut word);
+        edge::tell_status(obey(rt, asked, true));
         return;
     }
-    obey(words::parse(1, count, &mut word), false);
+    let asked = words::parse(rt, 1, count, &mut word);
+    obey(rt, asked, false);
 }

@@ -1,6 +1,6 @@
 // The words of the command, and what they ask for (R15.7, R15.11).
 use crate::file;
-use libc::PATH_MAX;
+use crate::file::PATH_MAX;
 
 // What is wrong with a word.
 #[derive(Drop)]
@@ -27,7 +27,7 @@ pub(crate) enum Asked {
 
 // What the words ask for so far. Where `--to` came last, and waits for its name, there is its
 // index, and else 0.
-#[derive(Drop)]
+#[derive(Clone, Copy)]
 struct Order {
     kept: usize,
     to: usize,
@@ -120,17 +120,17 @@ fn next(o: Order, at: usize, alone: bool, word: &[u8]) -> Step {
 }
 
 // Whether the words named KEPT and FILE, and both are one name.
-fn one_file(o: Order, word: &mut [u8]) -> bool {
+fn one_file(rt: HostRuntime, o: Order, word: &mut [u8]) -> bool {
     if o.kept == 0 {
         return false;
     }
     if o.to == 0 {
         return false;
     }
-    let mut other = io::buffer();
-    let m = os::arg(o.kept, word);
-    let n = os::arg(o.to, &mut other);
-    lend::equal(&word[..m], &other[..n])
+    let mut other = [0u8; PATH_MAX];
+    let kept = edge::arg(rt, o.kept, word);
+    let to = edge::arg(rt, o.to, &mut other);
+    lend::equal(&word[..kept.len], &other[..to.len])
 }
 
 fn whole(o: Order) -> Asked {
@@ -149,7 +149,7 @@ fn whole(o: Order) -> Asked {
 
 // What all words ask for: those from index first on, of so many. One that the buffer has no room
 // for comes back empty, and is no name.
-pub(crate) fn parse(first: usize, count: usize, word: &mut [u8]) -> Asked {
+pub(crate) fn parse(rt: HostRuntime, first: usize, count: usize, word: &mut [u8]) -> Asked {
     let mut o = Order {
         kept: 0,
         to: 0,
@@ -158,14 +158,14 @@ pub(crate) fn parse(first: usize, count: usize, word: &mut [u8]) -> Asked {
     let mut at = first;
     while at < count {
         let alone = at == first && count - at == 1;
-        let len = os::arg(at, word);
-        match next(o, at, alone, &word[..len]) {
+        let found = edge::arg(rt, at, word);
+        match next(o, at, alone, &word[..found.len]) {
             Step::On { order } => {
                 o = order;
             }
             Step::Stop { asked } => return asked,
         }
-        if one_file(o, word) {
+        if one_file(rt, o, word) {
             return Asked::Wrong {
                 at: o.to,
                 why: Why::Same,
@@ -177,10 +177,10 @@ pub(crate) fn parse(first: usize, count: usize, word: &mut [u8]) -> Asked {
 }
 
 // Whether the first word asks for a status on descriptor 3.
-pub(crate) fn asks_status(count: usize, buffer: &mut [u8]) -> bool {
+pub(crate) fn asks_status(rt: HostRuntime, count: usize, buffer: &mut [u8]) -> bool {
     if count < 2 {
         return false;
     }
-    let len = os::arg(1, buffer);
-    lend::equal(&buffer[..len], b"--status-3")
+    let found = edge::arg(rt, 1, buffer);
+    lend::equal(&buffer[..found.len], b"--status-3")
 }

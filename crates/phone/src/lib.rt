@@ -1,6 +1,8 @@
 // The functions that the phone app, written in C, calls: section 16 of docs/RULES.md.
 // include/stiltbasket.h declares them and takes their one number apart. A slice passes as a pointer
 // and a length.
+#![tactic(auto)]
+
 ghost use Rattle.std.specs.Prelude.{◌≡◌, ◌<◌};
 ghost use Rattle.wire.specs.Answer.{bytes_after, answer_of};
 ghost use Rattle.wire.specs.Writing.{writing};

@@ -5,7 +5,7 @@ use sheet::Asked;
 pub(crate) const MOST_SIZE: u16 = wire::MOST_DATA as u16;
 
 // What is wrong with a word (R15.5).
-#[derive(Drop)]
+#[derive(Clone, Copy)]
 pub(crate) enum Why {
     Unknown,
     NoPage,
@@ -16,7 +16,7 @@ pub(crate) enum Why {
     NotAlone,
 }
 
-#[derive(Drop)]
+#[derive(Clone, Copy)]
 pub(crate) enum Task {
     Scans,
     Typed,
@@ -29,7 +29,7 @@ pub(crate) enum Task {
 
 // What the words ask for so far. A size of 0 is none. Where `--size` came last, and waits for its
 // number, there is its index, and else 0.
-#[derive(Drop)]
+#[derive(Clone, Copy)]
 pub(crate) struct Order {
     pub(crate) task: Task,
     pub(crate) size: u16,
@@ -150,7 +150,7 @@ fn next(o: Order, at: usize, alone: bool, word: &[u8]) -> Order {
 
 // What all words ask for: those from index first on, of so many. A word that the buffer has no room
 // for comes back empty, so a K of too many digits is none.
-pub(crate) fn asked(first: usize, count: usize, buffer: &mut [u8]) -> Order {
+pub(crate) fn asked(rt: HostRuntime, first: usize, count: usize, buffer: &mut [u8]) -> Order {
     let mut o = Order {
         task: Task::Scans,
         size: 0,
@@ -163,7 +163,7 @@ pub(crate) fn asked(first: usize, count: usize, buffer: &mut [u8]) -> Order {
             return o;
         }
         let alone = at == first && count - at == 1;
-        let len = os::arg(at, buffer);
+        let len = edge::arg(rt, at, buffer).len;
         o = next(o, at, alone, &buffer[..len]);
         at += 1;
     }
@@ -174,10 +174,10 @@ pub(crate) fn asked(first: usize, count: usize, buffer: &mut [u8]) -> Order {
 }
 
 // Whether the first word asks for a status on descriptor 3.
-pub(crate) fn asks_status(count: usize, buffer: &mut [u8]) -> bool {
+pub(crate) fn asks_status(rt: HostRuntime, count: usize, buffer: &mut [u8]) -> bool {
     if count < 2 {
         return false;
     }
-    let len = os::arg(1, buffer);
+    let len = edge::arg(rt, 1, buffer).len;
     lend::equal(&buffer[..len], b"--status-3")
 }

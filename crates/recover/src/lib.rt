@@ -4,6 +4,8 @@
 // they come (`secret_back`: recover, Back), and one beyond them that was changed is told
 // (`changed_told`: recover, Changed). The curve is found by Newton's differences, since each takes
 // one division; what is promised says nothing of that, but which curve it is.
+#![tactic(auto)]
+
 mod judge;
 mod newton;
 mod slip;

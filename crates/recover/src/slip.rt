@@ -11,7 +11,7 @@ use shard::{Content, Quorum, ShardRead};
 use wire::Span;
 
 // A payload as it was read.
-#[derive(Drop)]
+#[derive(Clone, Copy)]
 pub(super) struct Read {
     pub public: usize,
     pub sig: usize,

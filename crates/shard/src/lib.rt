@@ -24,7 +24,7 @@ use fields::{ContentRead, QuorumRead};
 use wire::{NumberRead, OUT_OF_RANGE, Span, Wrote};
 
 // What is shared: its type, this share of it, and how many bytes the whole has.
-#[derive(Drop)]
+#[derive(Clone, Copy)]
 pub struct Content {
     pub kind: Span,
     pub share: Span,

@@ -1,6 +1,8 @@
 // Splitting a secret into shares (R19.2 to R19.5): any `threshold` of them give it back, and fewer
 // tell nothing of it but its length (`secrets`: promises, Secrets). Each block of 16 bytes is split
 // by itself, by a curve that has the block as its value at 0; share i is the curve's value at i.
+#![tactic(auto)]
+
 ghost use Rattle.std.specs.Prelude.{◌≡◌, ◌∷◌, ◌+◌, ◌*◌, ◌≤◌, ◌<◌, length};
 ghost use Rattle.wire.specs.Over.{over};
 ghost use Rattle.wire.specs.Writing.{Written};

@@ -1,4 +1,6 @@
 // Where a collection stands: as a line, R9.12 and R9.13, and as numbers (standing, R16.3).
+#![tactic(auto)]
+
 pub mod standing;
 
 ghost use Rattle.std.specs.Prelude.{◌≡◌, ◌+◌, ◌≤◌, length};

@@ -1,7 +1,7 @@
 // A page that is typed at a terminal: line after line is asked for, judged at once, and asked for
 // again where it is wrong (R15.15).
 use crate::told;
-use libc::STDIN_FILENO;
+use std::io::{Error, ErrorKind};
 use typing::Fault;
 
 // Room for a line: more bytes than these are told as too long.
@@ -9,15 +9,15 @@ const LINE_ROOM: usize = 512;
 
 // What was typed: how many bytes a line has, of which the first stand in its buffer, and whether it
 // ended with the input.
-#[derive(Drop)]
-enum Typed {
-    Line { len: usize, end: bool },
-    Failed,
+#[derive(Clone, Copy)]
+struct Typed {
+    len: usize,
+    end: bool,
 }
 
 // The page so far: how many lines it has, and how many bytes; where the last line began, and how
 // many characters it has.
-#[derive(Drop)]
+#[derive(Clone, Copy)]
 struct Page {
     n: u8,
     len: usize,
@@ -30,41 +30,32 @@ struct Page {
 enum Turned {
     More { page: Page },
     Last { page: Page },
-    Failed,
-}
-
-// How many bytes of the page were typed, and whether the input could be read.
-#[derive(Drop)]
-pub(crate) struct Asked {
-    pub(crate) good: bool,
-    pub(crate) len: usize,
 }
 
 // Reads a line, byte by byte: what is behind it stays for the next. Bytes that there is no room for
-// count as one. The loop counts down from a number that no run uses up, since a proved loop has to
-// end.
-fn read_line(line: &mut [u8]) -> Typed {
+// count as one. The loop has more turns than any run uses up, since a proved loop has to end.
+fn read_line(rt: HostRuntime, line: &mut [u8]) -> Result<Typed, Error> {
     let mut one = [0u8; 1];
     let mut len = 0;
-    let mut turns = u64::MAX;
-    while turns > 0 {
-        let got = libc::read(STDIN_FILENO, &mut one);
-        if got < 0 {
-            return Typed::Failed;
-        }
+    for _ in 0..u64::MAX {
+        let got = edge::read(rt, &mut one)?;
         if got < 1 {
-            return Typed::Line { len, end: true };
+            return Ok(Typed { len, end: true });
         }
         if one[0] == b'\n' {
-            return Typed::Line { len, end: false };
+            return Ok(Typed { len, end: false });
         }
         lend::put(line, len, one[0]);
         if len <= LINE_ROOM {
             len += 1;
         }
-        turns -= 1;
     }
-    Typed::Failed
+    Err(endless())
+}
+
+// What is told of an input that has more bytes than there are turns.
+fn endless() -> Error {
+    Error::from(ErrorKind::Other)
 }
 
 // The page with one more line, which is right, and its line feed. There is room for 20.
@@ -91,15 +82,18 @@ fn with_line(p: Page, line: &[u8], page: &mut [u8]) -> Page {
 
 // Behind a line that is shorter than a full one no other can follow: the page without it, and what
 // was typed behind it is dropped too.
-fn without_last(p: Page) -> Page {
+fn without_last(rt: HostRuntime, p: Page) -> Page {
     if p.n < 1 {
         return p;
     }
-    told::fault(Fault::Count {
-        line: p.n,
-        count: p.count,
-        last: false,
-    });
+    told::fault(
+        rt,
+        Fault::Count {
+            line: p.n,
+            count: p.count,
+            last: false,
+        },
+    );
     Page {
         n: p.n - 1,
         len: p.start,
@@ -109,9 +103,9 @@ fn without_last(p: Page) -> Page {
 }
 
 // The page after a line that is not empty, which is told where it is wrong.
-fn taken(p: Page, line: &[u8], page: &mut [u8]) -> Page {
+fn taken(rt: HostRuntime, p: Page, line: &[u8], page: &mut [u8]) -> Page {
     if p.count < typed::FULL_LINE {
-        return without_last(p);
+        return without_last(rt, p);
     }
     if typed::MOST_LINES <= p.n {
         return p;
@@ -120,90 +114,76 @@ fn taken(p: Page, line: &[u8], page: &mut [u8]) -> Page {
     match fault {
         Fault::Good => with_line(p, line, page),
         _ => {
-            told::fault(fault);
+            told::fault(rt, fault);
             p
         }
     }
 }
 
-fn asks(n: u8) {
+fn asks(rt: HostRuntime, n: u8) {
     if n < typed::MOST_LINES {
-        told::prompt(n + 1);
+        told::prompt(rt, n + 1);
     }
 }
 
-fn long(n: u8) {
+fn long(rt: HostRuntime, n: u8) {
     if n < typed::MOST_LINES {
-        told::too_long(n + 1);
+        told::too_long(rt, n + 1);
     }
 }
 
-fn whole_page(p: Page) -> Asked {
-    Asked {
-        good: true,
-        len: p.len,
-    }
-}
-
-fn no_page() -> Asked {
-    Asked {
-        good: false,
-        len: 0,
-    }
+fn whole_page(p: Page) -> usize {
+    p.len
 }
 
 // The page after a line of so many bytes.
-fn judged(p: Page, len: usize, line: &[u8], page: &mut [u8]) -> Page {
+fn judged(rt: HostRuntime, p: Page, len: usize, line: &[u8], page: &mut [u8]) -> Page {
     if line.len() < len {
-        long(p.n);
+        long(rt, p.n);
         return p;
     }
-    taken(p, &line[0..len], page)
+    taken(rt, p, &line[0..len], page)
 }
 
 // Asks for a line, and takes it. An empty one ends the page, and so does the end of the input.
-fn turn(p: Page, line: &mut [u8], page: &mut [u8]) -> Turned {
-    asks(p.n);
-    let Typed::Line { len, end } = read_line(line) else {
-        return Turned::Failed;
-    };
-    if len < 1 {
-        return Turned::Last { page: p };
+fn turn(rt: HostRuntime, p: Page, line: &mut [u8], page: &mut [u8]) -> Result<Turned, Error> {
+    asks(rt, p.n);
+    let typed = read_line(rt, line)?;
+    if typed.len < 1 {
+        return Ok(Turned::Last { page: p });
     }
-    let next = judged(p, len, line, page);
-    if end {
-        return Turned::Last { page: next };
+    let next = judged(rt, p, typed.len, line, page);
+    if typed.end {
+        return Ok(Turned::Last { page: next });
     }
-    Turned::More { page: next }
+    Ok(Turned::More { page: next })
 }
 
-// Asks for lines until the page has ended: 20 are all that it can have.
-fn lines(line: &mut [u8], page: &mut [u8]) -> Asked {
+// Asks for lines until the page has ended: 20 are all that it can have. Answers how many bytes of the
+// page were typed.
+fn lines(rt: HostRuntime, line: &mut [u8], page: &mut [u8]) -> Result<usize, Error> {
     let mut p = Page {
         n: 0,
         len: 0,
         start: 0,
         count: typed::FULL_LINE,
     };
-    let mut turns = u64::MAX;
-    while turns > 0 {
+    for _ in 0..u64::MAX {
         if typed::MOST_LINES <= p.n {
-            return whole_page(p);
+            return Ok(whole_page(p));
         }
-        match turn(p, line, page) {
+        match turn(rt, p, line, page)? {
             Turned::More { page: next } => {
                 p = next;
             }
-            Turned::Last { page: last } => return whole_page(last),
-            Turned::Failed => return no_page(),
+            Turned::Last { page: last } => return Ok(whole_page(last)),
         }
-        turns -= 1;
     }
-    no_page()
+    Err(endless())
 }
 
-pub(crate) fn all(page: &mut [u8]) -> Asked {
-    told::begin();
+pub(crate) fn all(rt: HostRuntime, page: &mut [u8]) -> Result<usize, Error> {
+    told::begin(rt);
     let mut line = [0u8; LINE_ROOM];
-    lines(&mut line, page)
+    lines(rt, &mut line, page)
 }

@@ -1,150 +1,142 @@
 // Reads the typed lines of one page, and prints the scan that `pier` and `pantry` read (R15.14).
 // The work is done by `typing`; here are only the words of the command, the reading and the
 // writing.
+#![tactic(auto)]
+
 mod ask;
 mod told;
 mod words;
 
-use libc::{STDIN_FILENO, STDOUT_FILENO};
+use std::io::Error;
 use typed::TypedRead;
 use words::Task;
 
 // One byte more than is read: so many are enough to know that there are too many (R15.16).
 const INPUT: usize = 16_385;
 
-// Where the status is told, asked for with `--status-3` (R15.16).
-const STATUS_FILENO: i32 = 3;
-
+// What is told on descriptor 3, asked for with `--status-3` (R15.16).
 const DONE: u8 = b'0';
 
 const FAILED: u8 = b'1';
 
 const WRONG: u8 = b'2';
 
-// How many bytes came, and whether the input ended without a fault.
-#[derive(Drop)]
-struct Taken {
-    good: bool,
-    len: usize,
-}
-
-// Reads to the end of the input, or until the buffer is full.
-fn take_all(input: &mut [u8]) -> Taken {
+// Reads to the end of the input, or until the buffer is full, and answers how many bytes came.
+fn take_all(rt: HostRuntime, input: &mut [u8]) -> Result<usize, Error> {
     let mut len = 0;
     while len < input.len() {
-        let got = libc::read(STDIN_FILENO, &mut input[len..]);
-        if got < 0 {
-            return Taken { good: false, len };
-        }
-        let n = io::count(got, &input[len..]);
+        let n = edge::read(rt, &mut input[len..])?;
         if n < 1 {
-            return Taken { good: true, len };
+            return Ok(len);
         }
         len += n;
     }
-    Taken { good: true, len }
+    Ok(len)
 }
 
 // A write can also fail at the end, when the file is closed.
-fn deliver(bytes: &[u8]) -> u8 {
-    if !io::write_all(STDOUT_FILENO, bytes) {
-        os::fail(b"standard output");
+fn deliver(rt: HostRuntime, bytes: &[u8]) -> u8 {
+    if let Err(error) = edge::print(rt, bytes) {
+        edge::fail(rt, b"standard output", error);
         return FAILED;
     }
-    if libc::close(STDOUT_FILENO) != 0 {
-        os::fail(b"standard output");
+    if let Err(error) = edge::finish_output(rt) {
+        edge::fail(rt, b"standard output", error);
         return FAILED;
     }
     DONE
 }
 
-fn answer(text: &[u8]) -> u8 {
+fn answer(rt: HostRuntime, text: &[u8]) -> u8 {
     let mut out = [0u8; typing::SCAN_ROOM];
     let TypedRead::Done { len } = typing::scan(text, &mut out) else {
-        told::fault(typing::page_fault(text));
+        told::fault(rt, typing::page_fault(text));
         return FAILED;
     };
     if out.len() < len {
         return FAILED;
     }
-    deliver(&out[0..len])
+    deliver(rt, &out[0..len])
 }
 
 // The line feed that ends the input is no part of the lines (R15.14).
-fn lines(input: &[u8]) -> u8 {
+fn lines(rt: HostRuntime, input: &[u8]) -> u8 {
     if input.len() == 0 {
-        return answer(input);
+        return answer(rt, input);
     }
     let last = input.len() - 1;
     if input[last] == b'\n' {
-        return answer(&input[0..last]);
+        return answer(rt, &input[0..last]);
     }
-    answer(input)
+    answer(rt, input)
 }
 
 // Lines that come through a pipe, or from a file. Of a part of them nothing is printed.
-fn piped(input: &mut [u8]) -> u8 {
-    let taken = take_all(input);
-    if !taken.good {
-        os::fail(b"standard input");
-        return FAILED;
+fn piped(rt: HostRuntime, input: &mut [u8]) -> u8 {
+    match take_all(rt, input) {
+        Ok(len) => {
+            if input.len() <= len {
+                told::too_much(rt);
+                return FAILED;
+            }
+            lines(rt, &input[0..len])
+        }
+        Err(error) => {
+            edge::fail(rt, b"standard input", error);
+            FAILED
+        }
     }
-    let len = taken.len;
-    if input.len() <= len {
-        told::too_much();
-        return FAILED;
-    }
-    lines(&input[0..len])
 }
 
 // Lines that are typed at a terminal: then they go the way of the others.
-fn typed_in(input: &mut [u8]) -> u8 {
-    let asked = ask::all(input);
-    if !asked.good {
-        os::fail(b"standard input");
-        return FAILED;
+fn typed_in(rt: HostRuntime, input: &mut [u8]) -> u8 {
+    match ask::all(rt, input) {
+        Ok(len) => {
+            if input.len() < len {
+                return FAILED;
+            }
+            lines(rt, &input[0..len])
+        }
+        Err(error) => {
+            edge::fail(rt, b"standard input", error);
+            FAILED
+        }
     }
-    let len = asked.len;
-    if input.len() < len {
-        return FAILED;
-    }
-    lines(&input[0..len])
 }
 
-fn read_page() -> u8 {
+fn read_page(rt: HostRuntime) -> u8 {
     let mut input = [0u8; INPUT];
-    if libc::isatty(STDIN_FILENO) == 1 {
-        return typed_in(&mut input);
+    if edge::input_is_terminal(rt) {
+        return typed_in(rt, &mut input);
     }
-    piped(&mut input)
+    piped(rt, &mut input)
 }
 
 // A word that is wrong comes before the input (R15.16).
-fn obey(task: Task) -> u8 {
+fn obey(rt: HostRuntime, task: Task) -> u8 {
     match task {
         Task::Help => {
-            told::help();
+            told::help(rt);
             DONE
         }
         Task::Version => {
-            told::version();
+            told::version(rt);
             DONE
         }
         Task::Wrong { at } => {
-            told::wrong(at);
+            told::wrong(rt, at);
             WRONG
         }
-        Task::Page => read_page(),
+        Task::Page => read_page(rt),
     }
 }
 
-fn main() {
+fn main(rt: HostRuntime) {
     let mut word = io::buffer();
-    let count = os::arg_count();
-    if words::asks_status(count, &mut word) {
-        let status = [obey(words::asked(2, count, &mut word))];
-        io::write_all(STATUS_FILENO, &status);
+    let count = edge::arg_count(rt);
+    if words::asks_status(rt, count, &mut word) {
+        edge::tell_status(obey(rt, words::asked(rt, 2, count, &mut word)));
         return;
     }
-    obey(words::asked(1, count, &mut word));
+    obey(rt, words::asked(rt, 1, count, &mut word));
 }

@@ -10,12 +10,12 @@ pub(crate) enum Task {
 }
 
 // What the words ask for: those from index first on, of so many.
-pub(crate) fn asked(first: usize, count: usize, buffer: &mut [u8]) -> Task {
+pub(crate) fn asked(rt: HostRuntime, first: usize, count: usize, buffer: &mut [u8]) -> Task {
     if count <= first {
         return Task::Page;
     }
     let alone = count - first == 1;
-    let len = os::arg(first, buffer);
+    let len = edge::arg(rt, first, buffer).len;
     if alone {
         if lend::equal(&buffer[..len], b"--help") {
             return Task::Help;
@@ -28,10 +28,10 @@ pub(crate) fn asked(first: usize, count: usize, buffer: &mut [u8]) -> Task {
 }
 
 // Whether the first word asks for a status on descriptor 3.
-pub(crate) fn asks_status(count: usize, buffer: &mut [u8]) -> bool {
+pub(crate) fn asks_status(rt: HostRuntime, count: usize, buffer: &mut [u8]) -> bool {
     if count < 2 {
         return false;
     }
-    let len = os::arg(1, buffer);
+    let len = edge::arg(rt, 1, buffer).len;
     lend::equal(&buffer[..len], b"--status-3")
 }

@@ -1,6 +1,8 @@
 // What every crate of Stiltbasket shares: the numbers that a call may answer (R2.2), the house
 // sizes (section 3 of docs/RULES.md), the answers of calls that read and write, and where bytes
 // stand. The definitions that contracts cite are in specs/, their laws in proofs/.
+#![tactic(auto)]
+
 ghost use Rattle.std.specs.Prelude.{◌≡◌};
 ghost use Rattle.wire.specs.Answer.{number_of};
 ghost use Rattle.wire.specs.Reading.{step_told, number_told};
@@ -58,7 +60,7 @@ pub const PAGE_MISSING: u8 = 16;
 pub const OTHER_CIPHERTEXT: u8 = 17;
 
 // Where bytes stand in a buffer: in the input, for what was read.
-#[derive(Drop)]
+#[derive(Clone, Copy)]
 pub struct Span {
     pub start: usize,
     pub len: usize,

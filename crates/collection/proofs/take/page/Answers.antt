@@ -1,0 +1,16 @@
+-- `take::page` meets its contract, for each state of the head. Assumes nothing.
+use borrow.Author.Rules.{rules}
+use Rattle.collection.proofs.Taking.{of_state, taken_disagree, first_block, taken_first}
+use Rattle.collection.proofs.take.page.Goals as goal
+
+pub returns-then-state-eq-DISAGREE : goal.returns-then-state-eq-DISAGREE
+returns-then-state-eq-DISAGREE c = search taken_disagree
+
+pub slot-requires : goal.slot-requires
+slot-requires c = record { block_of = search first_block; bytes_len_bound = search rules }
+
+pub returns-then-state-eq-EMPTY : goal.returns-then-state-eq-EMPTY
+returns-then-state-eq-EMPTY c = search taken_first
+
+pub further-requires : goal.further-requires
+further-requires c = record { of = (search rules, search of_state); fits = search rules }

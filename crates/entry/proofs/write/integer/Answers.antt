@@ -1,0 +1,9 @@
+-- `entry::write::integer` meets its contract: the sign is the major type. Assumes nothing.
+use Rattle.entry.proofs.Writers.{minus_put, plus_put}
+use Rattle.entry.proofs.write.integer.Goals as goal
+
+pub returns-then-negative : goal.returns-then-negative
+returns-then-negative c = search minus_put
+
+pub returns : goal.returns
+returns c = search plus_put

@@ -1,0 +1,9 @@
+-- `stilt_join` meets its contract. Assumes nothing.
+use borrow.Author.Rules.{rules}
+use Rattle.collection.specs.Answer.{told}
+use Rattle.phone.specs.Packed.{packed_answer}
+use Rattle.phone.proofs.Packing.{passed_on}
+use Rattle.phone.proofs.stilt_join.Goals as goal
+
+pub returns : goal.returns
+returns c = record { value = search (passed_on packed_answer told); into_after = search rules }
