@@ -5,6 +5,8 @@
 // Whatever a payload's writer wrote is carried under any id of 8 bytes (`shard_carried`,
 // `auth_carried`; of the calls themselves `Carries`: promises, Demand2), in at most 500 bytes
 // (`payload_frame_short`). Other data above 480 bytes are 9.
+#![tactic(auto)]
+
 ghost use Rattle.std.specs.Prelude.{◌≡◌, length};
 ghost use Rattle.wire.specs.Answer.{done};
 ghost use Rattle.wire.specs.Sizes.{id_size};

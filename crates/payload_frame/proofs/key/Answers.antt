@@ -1,0 +1,16 @@
+-- `payload_frame::key` meets its contract: the id and the length, the payload, and then the frame.
+-- Assumes nothing.
+use Rattle.payload_frame.proofs.Judging.{faulty, fit_id, no_key, a_key}
+use Rattle.payload_frame.proofs.key.Goals as goal
+
+pub returns-then-no-ne-DONE : goal.returns-then-no-ne-DONE
+returns-then-no-ne-DONE c = search faulty
+
+pub returns-in-Refused : goal.returns-in-Refused
+returns-in-Refused c = search no_key
+
+pub lay-requires : goal.lay-requires
+lay-requires c = search fit_id
+
+pub returns : goal.returns
+returns c = search a_key
