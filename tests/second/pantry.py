@@ -145,8 +145,9 @@ class Files:
 
     def claim(self, name):
         """The new file beside this one: a launcher takes over what was left there (R15.13)."""
-        if name in self.faults:
-            raise Told(NO_ROOM, REASONS[NO_ROOM], self.faults[name])
+        fault = no_text(name) or self.faults.get(name)
+        if fault:
+            raise Told(NO_ROOM, REASONS[NO_ROOM], fault)
         new = name + NEW
         if new in self.there and not self.launched:
             raise Told(NO_ROOM, REASONS[NO_ROOM], shown(os.fsencode(new)) + b" is there: another pantry "
@@ -161,6 +162,16 @@ class Files:
         """All files at the end of a run: under a launcher nothing new is left."""
         gone = [str(name) + NEW for name in names] if self.launched else []
         return {name: held for name, held in self.there.items() if name not in gone}
+
+
+def no_text(name):
+    """What is told of a name that is not UTF-8 (decision 104), and nothing of any other."""
+    told = os.fsencode(name)
+    try:
+        told.decode("utf-8")
+    except UnicodeDecodeError:
+        return shown(told) + b": invalid filename"
+    return b""
 
 
 # The run.
