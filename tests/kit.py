@@ -57,7 +57,8 @@ def silent():
 
 @cache
 def shared():
-    """Has libraries be built with what other checkouts on this machine kept, as the command does."""
+    """Has libraries be built with what other checkouts on this machine kept, as the command
+    does."""
     rt().share_work(False)
 
 

@@ -126,16 +126,26 @@ def module(root, path):
     return [crate, *(name for name in rest if name != "lib")]
 
 
+def library_files(root):
+    """The files of the libraries, each with its crate."""
+    return [(module(root, path)[0], path) for path, program in rattle_files(root) if not program]
+
+
+def asking(root):
+    """The libraries that ask something of the system."""
+    found = set()
+    for crate, path in library_files(root):
+        with open(path, encoding="utf-8") as file:
+            found |= {crate} if ASKS_SYSTEM.search(re.sub(r"//.*", "", file.read())) else set()
+    return found
+
+
 def promising(root):
     """The files of the libraries that promise something of their own. What a static library exports
     says again what another library promises (tests/promises), and what the system gives, no
     contract can say."""
-    files = [(module(root, path)[0], path) for path, program in rattle_files(root) if not program]
-    apart = {*for_c(root)}
-    for crate, path in files:
-        with open(path, encoding="utf-8") as file:
-            apart |= {crate} if ASKS_SYSTEM.search(re.sub(r"//.*", "", file.read())) else set()
-    return [path for crate, path in files if crate not in apart]
+    apart = {*for_c(root)} | asking(root)
+    return [path for crate, path in library_files(root) if crate not in apart]
 
 
 def public(root):

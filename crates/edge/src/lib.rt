@@ -29,8 +29,8 @@ const OUTPUT_PATH: &str = "/proc/self/fd/1";
 // ---- the words of the command
 
 // A word of the command: how many bytes of it stand in the buffer. A word that there is no room for
-// is long: it counts as none, and only its first bytes are there. One that is missing counts as none
-// too.
+// is long: it counts as none, and only its first bytes are there. One that is missing counts as
+// none too.
 #[derive(Clone, Copy)]
 pub struct Word {
     pub len: usize,

@@ -101,8 +101,8 @@ module _ (c : List ℕ) (size : ℕ) (y : Bytes c) (p : Printed c size) where
 
 -- ---- key and auth frames
 
--- a key or auth frame for the payload f: each call of its writer keeps what `payload_frame_of` says,
--- and whatever the payload's writer wrote is carried
+-- a key or auth frame for the payload f: each call of its writer keeps what `payload_frame_of`
+-- says, and whatever the payload's writer wrote is carried
 module _ {Place Value : Type 0} (f : Format Place Value) (exactly : Exact f) (kind : ℕ) (k : Kind kind) (reader : List ℕ → Got Place) (rule : (s : List ℕ) → f.read s ≡ value_of (reader s))
     (Writer : List ℕ → List ℕ → List ℕ → List ℕ → Answer ℕ → Type 0)
     (keeps : (id contents out x : List ℕ) (a : Answer ℕ) → Writer id contents out x a → Kept (writing 0 out (payload_frame_of kind id contents (reader contents))) out x a)

@@ -159,8 +159,8 @@ fn turn(rt: HostRuntime, p: Page, line: &mut [u8], page: &mut [u8]) -> Result<Tu
     Ok(Turned::More { page: next })
 }
 
-// Asks for lines until the page has ended: 20 are all that it can have. Answers how many bytes of the
-// page were typed.
+// Asks for lines until the page has ended: 20 are all that it can have. Answers how many bytes of
+// the page were typed.
 fn lines(rt: HostRuntime, line: &mut [u8], page: &mut [u8]) -> Result<usize, Error> {
     let mut p = Page {
         n: 0,
