@@ -40,7 +40,7 @@ attempt() {
     mkdir "$folder/crates/$crate/must-fail"
     cp "$@" "$folder/crates/$crate/must-fail"
     (cd "$folder" && rt "$how") >"$folder/log" 2>&1 || true
-    grep -e ' NOT PROVED' -e 'rt: FAILED' -e ': error' "$folder/log" | head -n 5 || true
+    grep -e ' NOT PROVED' -e 'NOT REFUSED' -e 'NOT TRIED' -e 'BAD EDIT' "$folder/log" | head -n 5 || true
     tests/edits "$folder/log" "$folder" || { rm -r "$folder"; return 1; }
     rm -r "$folder"
 }
