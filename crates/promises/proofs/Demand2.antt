@@ -29,8 +29,8 @@ use Rattle.promises.proofs.Formats.{frames_exact}
 use Rattle.promises.proofs.Texts.{scans_exact, typing_exact}
 use Rattle.promises.proofs.TypedLines.{lines_exact}
 use Rattle.promises.proofs.Payloads.{envelopes_exact, manifests_exact, auths_ruled, auths_exact, shards_ruled, shards_exact}
-use Rattle.promises.proofs.Links.Page.{page-write-base64-link, page-write-link, page-write-zbase32-link}
-use Rattle.promises.proofs.Links.PayloadFrame.{payload-frame-auth-link, payload-frame-key-link}
+use Rattle.promises.proofs.Links.Page.{page_write_base64_link, page_write_link, page_write_zbase32_link}
+use Rattle.promises.proofs.Links.PayloadFrame.{payload_frame_auth_link, payload_frame_key_link}
 
 -- bytes that the rules read as a value are read so by every call
 by_rule : {Place Value : Type 0} (f : Format Place Value) → Exact f → (s : List ℕ) (v : Value) (p : Place) → f.read s ≡ done p → f.says s p ≡ v → ReadAs f s v
@@ -48,7 +48,7 @@ read_as {s} {kind} {id} {index} {total} {contents} r =
 module _ (c : List ℕ) (size : ℕ) (y : Bytes c) (p : Printed c size) (i : ℕ) (here : i < page_count (length c) size) where
   -- what a call of page::write says
   framed : (out x : List ℕ) (a : Answer ℕ) → Framed c size i out x a → Kept (writing 0 out (done (page_frame c size i))) out x a
-  framed out x a (k, d, e, f, g, h, t) = rw (page_written c size p i here) at (rw (d, e, f, g, h, t) at (page-write-link k))
+  framed out x a (k, d, e, f, g, h, t) = rw (page_written c size p i here) at (rw (d, e, f, g, h, t) at (page_write_link k))
 
   framed_front : (out x : List ℕ) (n : ℕ) → Framed c size i out x (done n) → take n x ≡ page_frame c size i
   framed_front out x n k =
@@ -76,7 +76,7 @@ module _ (c : List ℕ) (size : ℕ) (y : Bytes c) (p : Printed c size) (i : ℕ
 module _ (c : List ℕ) (size : ℕ) (y : Bytes c) (p : Printed c size) where
   through_scans : ThroughText Scanned scans.Reads c size
   through_scans i here out x m out' z n a k (l, d, e, f, g, h, t) r =
-      let s = text_front c size y p i here base64 out' z n (rw (d, e, f, g, h, t) at (page-write-base64-link l)) in
+      let s = text_front c size y p i here base64 out' z n (rw (d, e, f, g, h, t) at (page_write_base64_link l)) in
       scans_exact.reason (take n z) a r
       ∙ ap (read_text base64) s
       ∙ text_back c size y p i here base64 base64_lawful
@@ -84,7 +84,7 @@ module _ (c : List ℕ) (size : ℕ) (y : Bytes c) (p : Printed c size) where
 
   through_typing : ThroughText Typed typing.Reads c size
   through_typing i here out x m out' z n a k (l, d, e, f, g, h, t) r =
-      let s = text_front c size y p i here zbase32 out' z n (rw (d, e, f, g, h, t) at (page-write-zbase32-link l)) in
+      let s = text_front c size y p i here zbase32 out' z n (rw (d, e, f, g, h, t) at (page_write_zbase32_link l)) in
       typing_exact.reason (take n z) a r
       ∙ ap (read_text zbase32) s
       ∙ text_back c size y p i here zbase32 zbase32_lawful
@@ -129,7 +129,7 @@ module _ {Place Value : Type 0} (f : Format Place Value) (exactly : Exact f) (ki
 key_carries : Carries shards 0x4B Keyed
 key_carries =
     carries shards shards_exact 0x4B (inr (inl refl)) shard_at (λ s. refl) Keyed
-    (λ id contents out x a (k, i, c, o, l, e). rw (i, c, o, l, e) at (payload-frame-key-link k))
+    (λ id contents out x a (k, i, c, o, l, e). rw (i, c, o, l, e) at (payload_frame_key_link k))
     (λ v lent y m w id i.
     let t = shards_ruled.writes v lent y m w in
     let h = shard_carried id i v.signed.public v.signed.sig v.signed.hash v.kind v.share v.len v.quorum t.1 in
@@ -138,7 +138,7 @@ key_carries =
 auth_carries : Carries auths 0x41 Signed
 auth_carries =
     carries auths auths_exact 0x41 (inr (inr refl)) auth_at (λ s. refl) Signed
-    (λ id contents out x a (k, i, c, o, l, e). rw (i, c, o, l, e) at (payload-frame-auth-link k))
+    (λ id contents out x a (k, i, c, o, l, e). rw (i, c, o, l, e) at (payload_frame_auth_link k))
     (λ v lent y m w id i.
     let t = auths_ruled.writes v lent y m w in
     let h = auth_carried id i v.public v.sig v.hash t.1 in

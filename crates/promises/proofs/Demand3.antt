@@ -26,8 +26,8 @@ use Rattle.promises.specs.Collecting.{Interface, library, phone, Tells, Mended}
 use Rattle.promises.specs.Demand3.{Left, SamePages, Demand3, Telling}
 use Rattle.promises.proofs.Interfaces.{Lawful, library_lawful, phone_lawful}
 use Rattle.promises.proofs.Writers.{written_room}
-use Rattle.promises.proofs.Links.Finish.{mend-mend-link}
-use Rattle.promises.proofs.Links.Status.{status-status-link}
+use Rattle.promises.proofs.Links.Finish.{mend_mend_link}
+use Rattle.promises.proofs.Links.Status.{status_status_link}
 
 swap : {A B : Type 0} → A ⊎ B → B ⊎ A
 swap (inl a) = inr a
@@ -119,12 +119,12 @@ module _ (id : List ℕ) (eight : length id ≡ 8) where
       → (line : List ℕ) × LineIs (In id h) line × (a ≡ done (length line)) × (x ≡ over 0 line out)
   status_tells h c out x a l m r (k, i, j, p, q) =
       let s = left_says library library_lawful id eight h c l m in
-      let t = written_room (status_line c) out x a (omega (arith, status_most c)) (rw (i, j, p, q) at (status-status-link k)) in
+      let t = written_room (status_line c) out x a (omega (arith, status_most c)) (rw (i, j, p, q) at (status_status_link k)) in
       (status_line c, status_line_is (In id h) c s.0 s.2, t.0, t.1)
 
   mend_tells : (c x : List ℕ) (a : Answer ℕ) → Mended c x a → Mends c x a
   mend_tells c x a (k, i, p, q) =
-      let l = mend-mend-link k in
+      let l = mend_mend_link k in
       mend_says c x a (sym q ∙ l.answer ∙ rw i) (sym p ∙ l.bytes ∙ rw i)
 
   pub telling : Telling id

@@ -22,7 +22,7 @@ use Rattle.promises.specs.Calls.{Call}
 use Rattle.promises.specs.Formats.{Slice, Format, Exact, Frame, frame_says, frames}
 use Rattle.promises.proofs.Writers.{slice, lent, Stands, stands_front, wrote_done, can_write}
 use Rattle.promises.proofs.Answered.{frame_answer}
-use Rattle.promises.proofs.Links.Frame.{frame-lay-link, frame-read-link}
+use Rattle.promises.proofs.Links.Frame.{frame_lay_link, frame_read_link}
 
 -- ---- what all formats share
 
@@ -106,9 +106,9 @@ frames_ruled = record {
   only = frame_only;
   form = λ v s t a b. a.1 ∙ sym b.1;
   can_read = λ s. (value_of (frame.told (frame_answer s).0), (reading s, refl, refl));
-  reads = λ s a (k, i, e). sym e ∙ ap value_of (frame-read-link k ∙ ap F.frame_of i);
+  reads = λ s a (k, i, e). sym e ∙ ap value_of (frame_read_link k ∙ ap F.frame_of i);
   writes = λ v out x n (al, (k, a, b, c, d, g, i, j, e)).
-      let t = wrote_done (done (layout v.kind v.id v.index v.total v.contents)) out x n (rw (a, b, c, d, g, i, j, e) at (frame-lay-link k)) in
+      let t = wrote_done (done (layout v.kind v.id v.index v.total v.contents)) out x n (rw (a, b, c, d, g, i, j, e) at (frame_lay_link k)) in
       (t.0, (al, sym (done_value t.1)), t.2);
   write = λ v s (al, e) out h. (al, (laying v s out e h, refl, refl, refl, refl, refl, refl, refl, refl));
 }

@@ -35,9 +35,9 @@ use Rattle.phone.proofs.stilt_join as phone-stilt-join
 use Rattle.phone.proofs.stilt_finish as phone-stilt-finish
 use Rattle.promises.specs.Collecting.{Interface, library, phone}
 use Rattle.promises.proofs.Writers.{second_lent, first_lent}
-use Rattle.promises.proofs.Links.Finish.{finish-finish-link}
-use Rattle.promises.proofs.Links.Collection.{collection-join-link, collection-offer-link, collection-open-link}
-use Rattle.promises.proofs.Links.Phone.{phone-stilt-finish-link, phone-stilt-join-link, phone-stilt-offer-link, phone-stilt-open-link}
+use Rattle.promises.proofs.Links.Finish.{finish_finish_link}
+use Rattle.promises.proofs.Links.Collection.{collection_join_link, collection_offer_link, collection_open_link}
+use Rattle.promises.proofs.Links.Phone.{phone_stilt_finish_link, phone_stilt_join_link, phone_stilt_offer_link, phone_stilt_open_link}
 
 pub record Lawful (f : Interface) : Type 1 where
   pub opens : (id c x : List ℕ) → f.Opens id c x → x ≡ bytes_after c (opening id c)
@@ -68,11 +68,11 @@ ended out (refused_at e k) = (F.Refused e k, refl)
 
 pub library_lawful : Lawful library
 library_lawful = record {
-  opens = λ id c x (k, i, j, l). sym l ∙ (collection-open-link k).bytes ∙ rw (i, j);
-  offers = λ c raw x (k, i, j, l). sym l ∙ (collection-offer-link k).bytes ∙ rw (i, j);
-  joins = λ c o x (k, i, j, l). sym l ∙ (collection-join-link k).bytes ∙ rw (i, j);
+  opens = λ id c x (k, i, j, l). sym l ∙ (collection_open_link k).bytes ∙ rw (i, j);
+  offers = λ c raw x (k, i, j, l). sym l ∙ (collection_offer_link k).bytes ∙ rw (i, j);
+  joins = λ c o x (k, i, j, l). sym l ∙ (collection_join_link k).bytes ∙ rw (i, j);
   finishes = λ S c out x a ok m (k, i, j, l, e).
-      let w = finish-finish-link k in
+      let w = finish_finish_link k in
       (sym e ∙ w.answer ∙ rw (i, j), sym l ∙ w.bytes ∙ rw (i, j));
   can_open = λ id c.
       let r = answered (opening id c) (open_placeless id c) in
@@ -107,11 +107,11 @@ finish_apart out (refused_at n k) h =
 
 pub phone_lawful : Lawful phone
 phone_lawful = record {
-  opens = λ id c x (k, i, j, l). sym l ∙ (phone-stilt-open-link k).1 ∙ rw (i, j);
-  offers = λ c raw x (k, i, j, l). sym l ∙ (phone-stilt-offer-link k).1 ∙ rw (i, j);
-  joins = λ c o x (k, i, j, l). sym l ∙ (phone-stilt-join-link k).1 ∙ rw (i, j);
+  opens = λ id c x (k, i, j, l). sym l ∙ (phone_stilt_open_link k).1 ∙ rw (i, j);
+  offers = λ c raw x (k, i, j, l). sym l ∙ (phone_stilt_offer_link k).1 ∙ rw (i, j);
+  joins = λ c o x (k, i, j, l). sym l ∙ (phone_stilt_join_link k).1 ∙ rw (i, j);
   finishes = λ S c out x a ok m (k, i, j, l, e).
-      let w = phone-stilt-finish-link k in
+      let w = phone_stilt_finish_link k in
       let n : k.answer ≡ packed_finish (answer_of (finishing c out)) = w.0 ∙ rw (i, j) in
       (sym e ∙ ap finish_in n ∙ finish_apart out (finished c out) (finish_bytes S c out ok m), sym l ∙ w.1 ∙ rw (i, j));
   can_open = λ id c.

@@ -43,10 +43,10 @@ use Rattle.auth.specs.Answer.{claim_told}
 use Rattle.shard.specs.Answer.{shard_told}
 use Rattle.promises.proofs.Answered.{claim_answer, shard_answer, envelope_answer}
 use Rattle.promises.proofs.Formats.{Ruled, exact}
-use Rattle.promises.proofs.Links.Auth.{auth-read-link, auth-write-link}
-use Rattle.promises.proofs.Links.Envelope.{envelope-read-link, envelope-write-link}
-use Rattle.promises.proofs.Links.Manifest.{manifest-read-link, manifest-write-link}
-use Rattle.promises.proofs.Links.Shard.{shard-read-link, shard-write-link}
+use Rattle.promises.proofs.Links.Auth.{auth_read_link, auth_write_link}
+use Rattle.promises.proofs.Links.Envelope.{envelope_read_link, envelope_write_link}
+use Rattle.promises.proofs.Links.Manifest.{manifest_read_link, manifest_write_link}
+use Rattle.promises.proofs.Links.Shard.{shard_read_link, shard_write_link}
 
 -- ---- the envelope
 
@@ -91,9 +91,9 @@ envelopes_ruled = record {
   only = enclosed_only;
   form = λ v s t a b. done_value (sym a.1 ∙ b.1);
   can_read = λ s. (read_told (envelope_answer (envelope_at s)).0, (envelope_reading s, refl, refl));
-  reads = λ s a (k, i, e). sym e ∙ envelope-read-link k ∙ ap envelope_at i;
+  reads = λ s a (k, i, e). sym e ∙ envelope_read_link k ∙ ap envelope_at i;
   writes = λ v out x n (l, (k, i, j, o, p, e)).
-      let t = wrote_done (verdict v.manifest v.payload) out x n (rw (i, j, o, p, e) at (envelope-write-link k)) in
+      let t = wrote_done (verdict v.manifest v.payload) out x n (rw (i, j, o, p, e) at (envelope_write_link k)) in
       (t.0, (l, t.1), t.2);
   write = λ v s (l, e) out h. (l, (enclosing v s out e h, refl, refl, refl, refl, refl));
 }
@@ -152,10 +152,10 @@ manifests_ruled = record {
   can_read = λ s. (manifest_told (answer_for (manifest_at s)).answer (answer_for (manifest_at s)).value, (manifest_reading s, refl, refl));
   reads = λ s a (k, i, e).
       sym e
-      ∙ ap (λ (r : ManifestRead). manifest_told r.answer r.value) (manifest-read-link k ∙ ap (λ (x : List ℕ). answer_for (manifest_at x)) i)
+      ∙ ap (λ (r : ManifestRead). manifest_told r.answer r.value) (manifest_read_link k ∙ ap (λ (x : List ℕ). answer_for (manifest_at x)) i)
       ∙ listed_said (manifest_at s);
   writes = λ v out x n (k, t, i, o, p, e).
-      let u = wrote_done (manifest_verdict k.args.0.now k.args.1.0) out x n (rw (o, p, e) at (manifest-write-link k)) in
+      let u = wrote_done (manifest_verdict k.args.0.now k.args.1.0) out x n (rw (o, p, e) at (manifest_write_link k)) in
       (u.0, (k.args.0.now, k.args.1.0, t, i, u.1), u.2);
   write = λ v s (pool, m, t, i, e) out h. (listing pool m s out e h, t, i, refl, refl, refl);
 }
@@ -195,9 +195,9 @@ auths_ruled = record {
   only = signed_only;
   form = λ v s t a b. done_value (sym a ∙ b);
   can_read = λ s. (value_of (claim_told (claim_answer s).0), (auth_reading s, refl, refl));
-  reads = λ s a (k, i, e). sym e ∙ ap value_of (auth-read-link k ∙ ap auth_at i);
+  reads = λ s a (k, i, e). sym e ∙ ap value_of (auth_read_link k ∙ ap auth_at i);
   writes = λ v out x n (k, i, j, g, o, p, e).
-      wrote_done (auth_verdict v.public v.sig v.hash) out x n (rw (i, j, g, o, p, e) at (auth-write-link k));
+      wrote_done (auth_verdict v.public v.sig v.hash) out x n (rw (i, j, g, o, p, e) at (auth_write_link k));
   write = λ v s e out h. (signing v s out e h, refl, refl, refl, refl, refl, refl);
 }
 
@@ -241,9 +241,9 @@ shards_ruled = record {
   only = share_only;
   form = λ v s t a b. done_value (sym a ∙ b);
   can_read = λ s. (value_of (shard_told (shard_answer s).0), (shard_reading s, refl, refl));
-  reads = λ s a (k, i, e). sym e ∙ ap value_of (shard-read-link k ∙ ap shard_at i);
+  reads = λ s a (k, i, e). sym e ∙ ap value_of (shard_read_link k ∙ ap shard_at i);
   writes = λ v out x n (k, a, b, c, d, g, l, q, o, p, e).
-      wrote_done (verdict_of v) out x n (rw (a, b, c, d, g, l, q, o, p, e) at (shard-write-link k));
+      wrote_done (verdict_of v) out x n (rw (a, b, c, d, g, l, q, o, p, e) at (shard_write_link k));
   write = λ v s e out h. (sharing v s out e h, refl, refl, refl, refl, refl, refl, refl, refl, refl, refl);
 }
 

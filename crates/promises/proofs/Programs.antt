@@ -44,15 +44,15 @@ use Rattle.promises.specs.Programs.{Feeds, FeedsAll, Closes, Runs, Reports, Resu
 use Rattle.promises.proofs.Writers.{slice, lent, written_room}
 use Rattle.promises.proofs.Interfaces.{library_lawful}
 use Rattle.promises.proofs.Demand3.{left_bytes}
-use Rattle.promises.proofs.Links.Scan.{scan-session-feed-link, scan-session-close-link, scan-session-report-link}
-use Rattle.promises.proofs.Links.Notes.{notes-feed-link, notes-close-link}
-use Rattle.promises.proofs.Links.PantryWork.{pantry-work-resume-link, pantry-work-answer-link}
+use Rattle.promises.proofs.Links.Scan.{scan_session_feed_link, scan_session_close_link, scan_session_report_link}
+use Rattle.promises.proofs.Links.Notes.{notes_feed_link, notes_close_link}
+use Rattle.promises.proofs.Links.PantryWork.{pantry_work_resume_link, pantry_work_answer_link}
 
 -- ---- a run is a session over the whole input
 
 fed_once : (b : Bool) (part : List ℕ) (s t : At) → Feeds b part s t → t ≡ fed s part
-fed_once false part s t (k, i, j, l) = sym l ∙ scan-session-feed-link k ∙ ap₂ fed j i
-fed_once true part s t (k, i, j, l) = sym l ∙ notes-feed-link k ∙ ap₂ fed j i
+fed_once false part s t (k, i, j, l) = sym l ∙ scan_session_feed_link k ∙ ap₂ fed j i
+fed_once true part s t (k, i, j, l) = sym l ∙ notes_feed_link k ∙ ap₂ fed j i
 
 fed_all : (b : Bool) (parts : List (List ℕ)) (s t : At) → FeedsAll b parts s t → t ≡ fed s (flatten parts)
 unfolding fed flatten
@@ -61,8 +61,8 @@ fed_all b (part ∷ parts) s t (m, f, r) =
     fed_all b parts m t r ∙ ap (λ (x : At). fed x (flatten parts)) (fed_once b part s m f) ∙ sym (fed_append s part (flatten parts))
 
 closed_once : (b : Bool) (s t : At) → Closes b s t → t ≡ closed s
-closed_once false s t (k, i, j) = sym j ∙ scan-session-close-link k ∙ ap closed i
-closed_once true s t (k, i, j) = sym j ∙ notes-close-link k ∙ ap closed i
+closed_once false s t (k, i, j) = sym j ∙ scan_session_close_link k ∙ ap closed i
+closed_once true s t (k, i, j) = sym j ∙ notes_close_link k ∙ ap closed i
 
 run_is : (b : Bool) (parts : List (List ℕ)) (line c : List ℕ) (t : At) → Runs b parts line c t → t ≡ session line c (flatten parts)
 run_is b parts line c t (s, f, e) = closed_once b s t e ∙ ap closed (fed_all b parts (new line c) s f)
@@ -150,12 +150,12 @@ runs_happen b parts line c = let r = feeds_happen b parts (new line c) in (close
 -- ---- what each call says
 
 reports_laid : (phase : ℕ) (c out x : List ℕ) (a : Answer ℕ) → length (reported phase c) ≤ length out → Reports phase c out x a → Laid (reported phase c) out x a
-reports_laid phase c out x a h (k, i, j, l, m, e) = written_room (reported phase c) out x a h (rw (i, j, l, m, e) at (scan-session-report-link k))
+reports_laid phase c out x a h (k, i, j, l, m, e) = written_room (reported phase c) out x a h (rw (i, j, l, m, e) at (scan_session_report_link k))
 
 -- a session that collects gives out what finish answers,
 shows_finish : (phase : ℕ) (c out x : List ℕ) (a : Answer ℕ) → phase ≡ 1 → Shows phase c out x a → Kept (finishing c out) out x a
 unfolding answered
-shows_finish phase c out x a p (k, i, j, l, m, e) = rw (p, e) at (rw (i, j, l, m) at (pantry-work-answer-link k))
+shows_finish phase c out x a p (k, i, j, l, m, e) = rw (p, e) at (rw (i, j, l, m) at (pantry_work_answer_link k))
 
 -- which is said of the set that its collection is
 shows_set : (id : List ℕ) → length id ≡ 8 → (c : List ℕ) → length c ≡ 49664 → (raws : List (List ℕ)) → AllBytes raws → (phase : ℕ) (y out x : List ℕ) (a : Answer ℕ)
@@ -169,13 +169,13 @@ shows_set id eight c size raws all phase y out x a p e k =
 shows_none : (phase : ℕ) (c out x : List ℕ) (a : Answer ℕ) → (phase ≡ 1 → ⊥) → Shows phase c out x a → (a ≡ refused 19) × (x ≡ out)
 unfolding answered
 shows_none phase c out x a p (k, i, j, l, m, e) =
-    let w = rw (ne_eqb phase 1 p, e) at (rw (i, j, l, m) at (pantry-work-answer-link k)) in
+    let w = rw (ne_eqb phase 1 p, e) at (rw (i, j, l, m) at (pantry_work_answer_link k)) in
     (w.answer, w.bytes)
 
 resumes_says : (phase : ℕ) (c saved y : List ℕ) (r : Answer Unit) (d : Change Unit) → resuming phase c saved ≡ d → Resumes phase c saved y r
     → (r ≡ answer_of d) × (y ≡ bytes_after c d)
 resumes_says phase c saved y r d q (k, i, j, l, m, e) =
-    let w = rw (i, j, l, m) at (pantry-work-resume-link k) in
+    let w = rw (i, j, l, m) at (pantry_work_resume_link k) in
     (sym e ∙ w.answer ∙ ap answer_of q, w.bytes ∙ ap (bytes_after c) q)
 
 -- ---- an input that names a document

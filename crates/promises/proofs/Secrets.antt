@@ -22,7 +22,7 @@ use Rattle.recover.proofs.Back.{secret_back}
 use Rattle.recover.proofs.Changed.{changed_byte_told}
 use Rattle.recover.proofs.Secrecy.{any_secret, one_choice}
 use Rattle.promises.specs.Secrets.{SplitCall, RecoverCall, Secrets}
-use Rattle.promises.proofs.Links.Secrets.{split-split-link, recover-recover-link}
+use Rattle.promises.proofs.Links.Secrets.{split_split_link, recover_recover_link}
 
 -- ---- shares by their numbers
 
@@ -56,10 +56,10 @@ verdict_shares secret t n cs w e =
 -- ---- what a call says
 
 split_said : (secret : List ℕ) (t n : ℕ) (cs lent shares : List ℕ) (a : Answer ℕ) → SplitCall secret t n cs lent shares a → Kept (writing 0 lent (split_verdict secret t n cs)) lent shares a
-split_said secret t n cs lent shares a (k, e₀, e₁, e₂, e₃, e₄, e₅, e₆) = rw (sym e₀, sym e₁, sym e₂, sym e₃, sym e₄, sym e₅, sym e₆) (split-split-link k)
+split_said secret t n cs lent shares a (k, e₀, e₁, e₂, e₃, e₄, e₅, e₆) = rw (sym e₀, sym e₁, sym e₂, sym e₃, sym e₄, sym e₅, sym e₆) (split_split_link k)
 
 recover_said : (payloads : List (List ℕ)) (out x : List ℕ) (a : Answer ℕ) → RecoverCall payloads out x a → Kept (writing 0 out (recovered payloads)) out x a
-recover_said payloads out x a (k, e₀, e₁, e₂, e₃) = rw (sym e₀, sym e₁, sym e₂, sym e₃) (recover-recover-link k)
+recover_said payloads out x a (k, e₀, e₁, e₂, e₃) = rw (sym e₀, sym e₁, sym e₂, sym e₃) (recover_recover_link k)
 
 split_verdict_lem : (secret : List ℕ) (t n : ℕ) (cs lent shares : List ℕ) (m : ℕ) → SplitCall secret t n cs lent shares (done m) → split_verdict secret t n cs ≡ done (shares_of secret t n cs)
 split_verdict_lem secret t n cs lent shares m c =

@@ -40,7 +40,7 @@ use Rattle.promises.specs.Demand3.{Left, Apart, Showing}
 use Rattle.promises.proofs.Ranges.{frame_range}
 use Rattle.promises.proofs.Interfaces.{phone_lawful}
 use Rattle.promises.proofs.Demand3.{left_says}
-use Rattle.promises.proofs.Links.Phone.{phone-stilt-status-link, phone-stilt-frame-link}
+use Rattle.promises.proofs.Links.Phone.{phone_stilt_status_link, phone_stilt_frame_link}
 
 -- ---- the numbers of a collection are bytes, so each is read apart from the others
 
@@ -102,10 +102,10 @@ record SeenAs (raw x : List ℕ) (n : ℕ) (f : Frame) (next : ℕ) : Type 0 whe
 
 module _ (raw out x : List ℕ) (n : ℕ) (y : Bytes raw) (room : 8 ≤ length out) (k : Sees raw out x n) where
   answered : n ≡ packed_frame (answer_of (seeing raw out))
-  answered = sym k.4 ∙ (phone-stilt-frame-link k.0).0 ∙ rw (k.1, k.2)
+  answered = sym k.4 ∙ (phone_stilt_frame_link k.0).0 ∙ rw (k.1, k.2)
 
   left : x ≡ bytes_after out (seeing raw out)
-  left = sym k.3 ∙ (phone-stilt-frame-link k.0).1 ∙ rw (k.1, k.2)
+  left = sym k.3 ∙ (phone_stilt_frame_link k.0).1 ∙ rw (k.1, k.2)
 
   -- it was read
   seen : (f : Frame) (next : ℕ) → frame_of raw ≡ got f next → SeenAs raw x n f next
@@ -195,7 +195,7 @@ module _ (id : List ℕ) (eight : length id ≡ 8) where
       let s = left_says phone phone_lawful id eight h c l m in
       let b : Book = read_book c in
       let v = decoded_valid c s.0 in
-      let w = phone-stilt-status-link k in
+      let w = phone_stilt_status_link k in
       let d = shown c out s.0 room in
       let answer : n ≡ packed_numbers (done (numbers_of b)) = sym q ∙ w.0 ∙ rw (i, j, d) in
       let bytes : x ≡ over 0 (states_of b) out = sym p ∙ w.1 ∙ rw (i, j, d) in

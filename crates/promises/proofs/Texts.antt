@@ -25,7 +25,7 @@ use Rattle.promises.specs.Formats.{Exact, text_said, texts, scans, typing}
 use Rattle.promises.proofs.Writers.{second_lent, stands_front, wrote_done, can_write}
 use Rattle.promises.proofs.Answered.{can_answer}
 use Rattle.promises.proofs.Formats.{Ruled, exact}
-use Rattle.promises.proofs.Links.Text.{text-base64-read-link, text-base64-write-link, text-zbase32-read-link, text-zbase32-write-link}
+use Rattle.promises.proofs.Links.Text.{text_base64_read_link, text_base64_write_link, text_zbase32_read_link, text_zbase32_write_link}
 
 -- what a text's reader refuses has no place
 text_placeless : (f : Form) (s : List ℕ) → Placeless (read_text f s)
@@ -72,14 +72,14 @@ module _ (f : Form) (law : Lawful f) (Reader Writer : List ℕ → List ℕ → 
 
 pub scans_exact : Exact scans
 scans_exact =
-    texts_exact base64 base64_lawful _ _ (λ s out x a (k, i, j, l, e). rw (i, j, l, e) at (text-base64-read-link k))
-    (λ s out x a (k, i, j, l, e). rw (i, j, l, e) at (text-base64-write-link k))
+    texts_exact base64 base64_lawful _ _ (λ s out x a (k, i, j, l, e). rw (i, j, l, e) at (text_base64_read_link k))
+    (λ s out x a (k, i, j, l, e). rw (i, j, l, e) at (text_base64_write_link k))
     (λ s out x r w. (second_lent text-base64-read.Kinds.r text-base64-read.Reads.Learnt s out x r w, refl, refl, refl, refl))
     (λ s out x r w. (second_lent text-base64-write.Kinds.r text-base64-write.Reads.Learnt s out x r w, refl, refl, refl, refl))
 
 pub typing_exact : Exact typing
 typing_exact =
-    texts_exact zbase32 zbase32_lawful _ _ (λ s out x a (k, i, j, l, e). rw (i, j, l, e) at (text-zbase32-read-link k))
-    (λ s out x a (k, i, j, l, e). rw (i, j, l, e) at (text-zbase32-write-link k))
+    texts_exact zbase32 zbase32_lawful _ _ (λ s out x a (k, i, j, l, e). rw (i, j, l, e) at (text_zbase32_read_link k))
+    (λ s out x a (k, i, j, l, e). rw (i, j, l, e) at (text_zbase32_write_link k))
     (λ s out x r w. (second_lent text-zbase32-read.Kinds.r text-zbase32-read.Reads.Learnt s out x r w, refl, refl, refl, refl))
     (λ s out x r w. (second_lent text-zbase32-write.Kinds.r text-zbase32-write.Reads.Learnt s out x r w, refl, refl, refl, refl))

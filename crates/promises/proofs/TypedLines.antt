@@ -25,7 +25,7 @@ use Rattle.promises.specs.Formats.{Exact, text_said, LinesCall, typed_lines}
 use Rattle.promises.specs.Demand2.{Slips}
 use Rattle.promises.proofs.Formats.{Ruled, exact}
 use Rattle.promises.proofs.Writers.{second_lent, stands_front, wrote_done, can_write}
-use Rattle.promises.proofs.Links.Typed.{typed-read-link, typed-write-link}
+use Rattle.promises.proofs.Links.Typed.{typed_read_link, typed_write_link}
 
 -- the written form of bytes
 abbrev LinesForm : List ℕ → List ℕ → Type 0
@@ -67,9 +67,9 @@ lines_ruled = record {
       let out : List ℕ = replicate 500 0 in
       let c = lines_called s out in
       (text_said c.1 c.0, (out, c.0, c.1, c.2, rw (length-replicate {A = ℕ} 500 0) (omega arith), refl));
-  reads = λ s a (out, x, r, (k, i, j, l, e), h, q). sym q ∙ lines_said s out x h r (rw (i, j, l, e) at (typed-read-link k));
+  reads = λ s a (out, x, r, (k, i, j, l, e), h, q). sym q ∙ lines_said s out x h r (rw (i, j, l, e) at (typed_read_link k));
   writes = λ v out x n (y, (k, i, j, l, e)).
-      let u = wrote_done (write_typed v) out x n (rw (i, j, l, e) at (typed-write-link k)) in
+      let u = wrote_done (write_typed v) out x n (rw (i, j, l, e) at (typed_write_link k)) in
       let f = written_few v u.0 u.1 in
       (u.0, (y, f.0, f.1), u.2);
   write = λ v s (y, h, e) out l.

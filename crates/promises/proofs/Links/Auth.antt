@@ -8,9 +8,9 @@ use Rattle.auth.specs.Answer.{claim_told}
 use Rattle.auth.proofs.read as auth-read
 use Rattle.auth.proofs.write as auth-write
 
-pub auth-read-link : (k : Call auth-read.Kinds.ps auth-read.Kinds.r auth-read.Reads.Learnt) → claim_told k.answer ≡ auth_at k.args.0.now
-auth-read-link k = k.kept
+pub auth_read_link : (k : Call auth-read.Kinds.ps auth-read.Kinds.r auth-read.Reads.Learnt) → claim_told k.answer ≡ auth_at k.args.0.now
+auth_read_link k = k.kept
 
-pub auth-write-link : (k : Call auth-write.Kinds.ps auth-write.Kinds.r auth-write.Reads.Learnt)
+pub auth_write_link : (k : Call auth-write.Kinds.ps auth-write.Kinds.r auth-write.Reads.Learnt)
     → Written 0 (auth_verdict k.args.0.now k.args.1.0.now k.args.1.1.0.now) k.args.1.1.1.0.now k.left.1.1.1.0 k.answer
-auth-write-link k = k.kept
+auth_write_link k = k.kept

@@ -8,14 +8,14 @@ use Rattle.collection.proofs.offer as collection-offer
 use Rattle.collection.proofs.join as collection-join
 use Rattle.promises.specs.Calls.{Call}
 
-pub collection-open-link : (k : Call collection-open.Kinds.ps collection-open.Kinds.r collection-open.Reads.Learnt)
+pub collection_open_link : (k : Call collection-open.Kinds.ps collection-open.Kinds.r collection-open.Reads.Learnt)
     → Kept (opening k.args.0.now k.args.1.0.now) k.args.1.0.now k.left.1.0 (told k.answer)
-collection-open-link k = k.kept
+collection_open_link k = k.kept
 
-pub collection-offer-link : (k : Call collection-offer.Kinds.ps collection-offer.Kinds.r collection-offer.Reads.Learnt)
+pub collection_offer_link : (k : Call collection-offer.Kinds.ps collection-offer.Kinds.r collection-offer.Reads.Learnt)
     → Kept (offering k.args.0.now k.args.1.0.now) k.args.0.now k.left.0 (told_kind k.answer)
-collection-offer-link k = k.kept
+collection_offer_link k = k.kept
 
-pub collection-join-link : (k : Call collection-join.Kinds.ps collection-join.Kinds.r collection-join.Reads.Learnt)
+pub collection_join_link : (k : Call collection-join.Kinds.ps collection-join.Kinds.r collection-join.Reads.Learnt)
     → Kept (joining k.args.0.now k.args.1.0.now) k.args.0.now k.left.0 (told k.answer)
-collection-join-link k = k.kept
+collection_join_link k = k.kept

@@ -7,9 +7,9 @@ use Rattle.envelope.specs.Answer.{read_told, EnvelopeWritten}
 use Rattle.envelope.proofs.read as envelope-read
 use Rattle.envelope.proofs.write as envelope-write
 
-pub envelope-read-link : (k : Call envelope-read.Kinds.ps envelope-read.Kinds.r envelope-read.Reads.Learnt) → read_told k.answer ≡ envelope_at k.args.0.now
-envelope-read-link k = k.kept
+pub envelope_read_link : (k : Call envelope-read.Kinds.ps envelope-read.Kinds.r envelope-read.Reads.Learnt) → read_told k.answer ≡ envelope_at k.args.0.now
+envelope_read_link k = k.kept
 
-pub envelope-write-link : (k : Call envelope-write.Kinds.ps envelope-write.Kinds.r envelope-write.Reads.Learnt)
+pub envelope_write_link : (k : Call envelope-write.Kinds.ps envelope-write.Kinds.r envelope-write.Reads.Learnt)
     → EnvelopeWritten (verdict k.args.0.now k.args.1.0.now) k.args.1.1.0.now k.left.1.1.0 k.answer
-envelope-write-link k = k.kept
+envelope_write_link k = k.kept

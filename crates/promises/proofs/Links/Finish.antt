@@ -7,10 +7,10 @@ use Rattle.mend.specs.Mend as mending
 use Rattle.mend.proofs.mend as mend-mend
 use Rattle.promises.specs.Calls.{Call}
 
-pub finish-finish-link : (k : Call finish-finish.Kinds.ps finish-finish.Kinds.r finish-finish.Reads.Learnt)
+pub finish_finish_link : (k : Call finish-finish.Kinds.ps finish-finish.Kinds.r finish-finish.Reads.Learnt)
     → finishing.Closed (finishing.finished k.args.0.now k.args.1.0.now) k.args.1.0.now k.left.1.0 k.answer
-finish-finish-link k = k.kept
+finish_finish_link k = k.kept
 
-pub mend-mend-link : (k : Call mend-mend.Kinds.ps mend-mend.Kinds.r mend-mend.Reads.Learnt)
+pub mend_mend_link : (k : Call mend-mend.Kinds.ps mend-mend.Kinds.r mend-mend.Reads.Learnt)
     → Kept (mending.mending k.args.0.now) k.args.0.now k.left.0 (mending.told k.answer)
-mend-mend-link k = k.kept
+mend_mend_link k = k.kept

@@ -10,10 +10,10 @@ use Rattle.frame.specs.Answer as frame
 use Rattle.frame.proofs.read as frame-read
 use Rattle.frame.proofs.lay as frame-lay
 
-pub frame-read-link : (k : Call frame-read.Kinds.ps frame-read.Kinds.r frame-read.Reads.Learnt) → frame.told k.answer ≡ F.frame_of k.args.0.now
-frame-read-link k = k.kept
+pub frame_read_link : (k : Call frame-read.Kinds.ps frame-read.Kinds.r frame-read.Reads.Learnt) → frame.told k.answer ≡ F.frame_of k.args.0.now
+frame_read_link k = k.kept
 
-pub frame-lay-link : (k : Call frame-lay.Kinds.ps frame-lay.Kinds.r frame-lay.Reads.Learnt)
+pub frame_lay_link : (k : Call frame-lay.Kinds.ps frame-lay.Kinds.r frame-lay.Reads.Learnt)
     → Written 0 (done (layout k.args.0 k.args.1.0.now k.args.1.1.0 k.args.1.1.1.0 k.args.1.1.1.1.0.now))
     k.args.1.1.1.1.1.0.now k.left.1.1.1.1.1.0 k.answer
-frame-lay-link k = k.kept
+frame_lay_link k = k.kept

@@ -8,10 +8,10 @@ use Rattle.pantry_work.proofs.resume as pantry-work-resume
 use Rattle.pantry_work.proofs.answer as pantry-work-answer
 use Rattle.promises.specs.Calls.{Call}
 
-pub pantry-work-resume-link : (k : Call pantry-work-resume.Kinds.ps pantry-work-resume.Kinds.r pantry-work-resume.Reads.Learnt)
+pub pantry_work_resume_link : (k : Call pantry-work-resume.Kinds.ps pantry-work-resume.Kinds.r pantry-work-resume.Reads.Learnt)
     → Kept (resuming k.args.0.phase k.args.1.1.0.now k.args.1.0.now) k.args.1.1.0.now k.left.1.1.0 (told k.answer)
-pantry-work-resume-link k = k.kept
+pantry_work_resume_link k = k.kept
 
-pub pantry-work-answer-link : (k : Call pantry-work-answer.Kinds.ps pantry-work-answer.Kinds.r pantry-work-answer.Reads.Learnt)
+pub pantry_work_answer_link : (k : Call pantry-work-answer.Kinds.ps pantry-work-answer.Kinds.r pantry-work-answer.Reads.Learnt)
     → Closed (answered k.args.0.phase k.args.1.0.now k.args.1.1.0.now) k.args.1.1.0.now k.left.1.1.0 k.answer
-pantry-work-answer-link k = k.kept
+pantry_work_answer_link k = k.kept

@@ -14,32 +14,32 @@ use Rattle.phone.proofs.stilt_status as phone-stilt-status
 use Rattle.phone.proofs.stilt_frame as phone-stilt-frame
 use Rattle.promises.specs.Calls.{Call}
 
-pub phone-stilt-open-link : (k : Call phone-stilt-open.Kinds.ps phone-stilt-open.Kinds.r phone-stilt-open.Reads.Learnt)
+pub phone_stilt_open_link : (k : Call phone-stilt-open.Kinds.ps phone-stilt-open.Kinds.r phone-stilt-open.Reads.Learnt)
     → (k.answer ≡ packed_answer (answer_of (opening k.args.0.now k.args.1.0.now)))
     × (k.left.1.0 ≡ bytes_after k.args.1.0.now (opening k.args.0.now k.args.1.0.now))
-phone-stilt-open-link k = (k.kept.0, k.kept.1)
+phone_stilt_open_link k = (k.kept.0, k.kept.1)
 
-pub phone-stilt-offer-link : (k : Call phone-stilt-offer.Kinds.ps phone-stilt-offer.Kinds.r phone-stilt-offer.Reads.Learnt)
+pub phone_stilt_offer_link : (k : Call phone-stilt-offer.Kinds.ps phone-stilt-offer.Kinds.r phone-stilt-offer.Reads.Learnt)
     → (k.answer ≡ packed_kind (answer_of (offering k.args.0.now k.args.1.0.now)))
     × (k.left.0 ≡ bytes_after k.args.0.now (offering k.args.0.now k.args.1.0.now))
-phone-stilt-offer-link k = (k.kept.0, k.kept.1)
+phone_stilt_offer_link k = (k.kept.0, k.kept.1)
 
-pub phone-stilt-join-link : (k : Call phone-stilt-join.Kinds.ps phone-stilt-join.Kinds.r phone-stilt-join.Reads.Learnt)
+pub phone_stilt_join_link : (k : Call phone-stilt-join.Kinds.ps phone-stilt-join.Kinds.r phone-stilt-join.Reads.Learnt)
     → (k.answer ≡ packed_answer (answer_of (joining k.args.0.now k.args.1.0.now)))
     × (k.left.0 ≡ bytes_after k.args.0.now (joining k.args.0.now k.args.1.0.now))
-phone-stilt-join-link k = (k.kept.0, k.kept.1)
+phone_stilt_join_link k = (k.kept.0, k.kept.1)
 
-pub phone-stilt-finish-link : (k : Call phone-stilt-finish.Kinds.ps phone-stilt-finish.Kinds.r phone-stilt-finish.Reads.Learnt)
+pub phone_stilt_finish_link : (k : Call phone-stilt-finish.Kinds.ps phone-stilt-finish.Kinds.r phone-stilt-finish.Reads.Learnt)
     → (k.answer ≡ packed_finish (answer_of (finishing.finishing k.args.0.now k.args.1.0.now)))
     × (k.left.1.0 ≡ bytes_after k.args.1.0.now (finishing.finishing k.args.0.now k.args.1.0.now))
-phone-stilt-finish-link k = (k.kept.0, k.kept.1)
+phone_stilt_finish_link k = (k.kept.0, k.kept.1)
 
-pub phone-stilt-status-link : (k : Call phone-stilt-status.Kinds.ps phone-stilt-status.Kinds.r phone-stilt-status.Reads.Learnt)
+pub phone_stilt_status_link : (k : Call phone-stilt-status.Kinds.ps phone-stilt-status.Kinds.r phone-stilt-status.Reads.Learnt)
     → (k.answer ≡ packed_numbers (answer_of (standing k.args.0.now k.args.1.0.now)))
     × (k.left.1.0 ≡ bytes_after k.args.1.0.now (standing k.args.0.now k.args.1.0.now))
-phone-stilt-status-link k = (k.kept.0, k.kept.1)
+phone_stilt_status_link k = (k.kept.0, k.kept.1)
 
-pub phone-stilt-frame-link : (k : Call phone-stilt-frame.Kinds.ps phone-stilt-frame.Kinds.r phone-stilt-frame.Reads.Learnt)
+pub phone_stilt_frame_link : (k : Call phone-stilt-frame.Kinds.ps phone-stilt-frame.Kinds.r phone-stilt-frame.Reads.Learnt)
     → (k.answer ≡ packed_frame (answer_of (seeing k.args.0.now k.args.1.0.now)))
     × (k.left.1.0 ≡ bytes_after k.args.1.0.now (seeing k.args.0.now k.args.1.0.now))
-phone-stilt-frame-link k = (k.kept.0, k.kept.1)
+phone_stilt_frame_link k = (k.kept.0, k.kept.1)

@@ -6,6 +6,6 @@ use Rattle.status.specs.Line.{status_line}
 use Rattle.status.proofs.status as status-status
 use Rattle.promises.specs.Calls.{Call}
 
-pub status-status-link : (k : Call status-status.Kinds.ps status-status.Kinds.r status-status.Reads.Learnt)
+pub status_status_link : (k : Call status-status.Kinds.ps status-status.Kinds.r status-status.Reads.Learnt)
     → Written 0 (done (status_line k.args.0.now)) k.args.1.0.now k.left.1.0 k.answer
-status-status-link k = k.kept
+status_status_link k = k.kept

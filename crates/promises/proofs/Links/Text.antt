@@ -9,18 +9,18 @@ use Rattle.text.proofs.base64_write as text-base64-write
 use Rattle.text.proofs.zbase32_read as text-zbase32-read
 use Rattle.text.proofs.zbase32_write as text-zbase32-write
 
-pub text-base64-read-link : (k : Call text-base64-read.Kinds.ps text-base64-read.Kinds.r text-base64-read.Reads.Learnt)
+pub text_base64_read_link : (k : Call text-base64-read.Kinds.ps text-base64-read.Kinds.r text-base64-read.Reads.Learnt)
     → Written 0 (read_text base64 k.args.0.now) k.args.1.0.now k.left.1.0 k.answer
-text-base64-read-link k = k.kept
+text_base64_read_link k = k.kept
 
-pub text-base64-write-link : (k : Call text-base64-write.Kinds.ps text-base64-write.Kinds.r text-base64-write.Reads.Learnt)
+pub text_base64_write_link : (k : Call text-base64-write.Kinds.ps text-base64-write.Kinds.r text-base64-write.Reads.Learnt)
     → Written 0 (done (text_of base64 k.args.0.now)) k.args.1.0.now k.left.1.0 k.answer
-text-base64-write-link k = k.kept
+text_base64_write_link k = k.kept
 
-pub text-zbase32-read-link : (k : Call text-zbase32-read.Kinds.ps text-zbase32-read.Kinds.r text-zbase32-read.Reads.Learnt)
+pub text_zbase32_read_link : (k : Call text-zbase32-read.Kinds.ps text-zbase32-read.Kinds.r text-zbase32-read.Reads.Learnt)
     → Written 0 (read_text zbase32 k.args.0.now) k.args.1.0.now k.left.1.0 k.answer
-text-zbase32-read-link k = k.kept
+text_zbase32_read_link k = k.kept
 
-pub text-zbase32-write-link : (k : Call text-zbase32-write.Kinds.ps text-zbase32-write.Kinds.r text-zbase32-write.Reads.Learnt)
+pub text_zbase32_write_link : (k : Call text-zbase32-write.Kinds.ps text-zbase32-write.Kinds.r text-zbase32-write.Reads.Learnt)
     → Written 0 (done (text_of zbase32 k.args.0.now)) k.args.1.0.now k.left.1.0 k.answer
-text-zbase32-write-link k = k.kept
+text_zbase32_write_link k = k.kept
