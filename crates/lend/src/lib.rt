@@ -10,7 +10,7 @@ ghost use Rattle.wire.specs.Writing.{Written};
 ghost use Rattle.lend.specs.Plain.{plain_byte};
 ghost use Rattle.lend.specs.Same.{same};
 
-use wire::{Span, Wrote};
+use wire::{Refusal, Span};
 
 // The byte b stands at the index. Nothing changes where that index is outside.
 pub fn put(out: &mut [u8], at: usize, b: u8)
@@ -96,14 +96,14 @@ pub fn equal(a: &[u8], b: &[u8]) -> bool
 // All of a text at the front of out, and its length; or 11 and nothing changed.
 //
 // This is the whole answer of a call that writes what was put together elsewhere.
-pub fn give(text: &[u8], out: &mut [u8]) -> Wrote
+pub fn give(text: &[u8], out: &mut [u8]) -> Result<usize, Refusal>
     ensures { Written 0 (done text.now) out.old out.new result }
 {
     if out.len() < text.len() {
-        return Wrote::Refused { no: wire::NO_ROOM };
+        return Err(Refusal::NoRoom);
     }
     copy(out, 0, text);
-    Wrote::Done { len: text.len() }
+    Ok(text.len())
 }
 
 fn plain_byte(b: u8) -> u8

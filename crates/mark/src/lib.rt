@@ -9,39 +9,30 @@ ghost use Rattle.wire.specs.Over.{over};
 ghost use Rattle.wire.specs.Reading.{step_told};
 ghost use Rattle.mark.specs.Mark.{version_at, mark_of, marked};
 
-use wire::{NumberRead, StepRead};
+use wire::Refusal;
 
-fn version(s: &[u8], at: usize) -> StepRead
+fn version(s: &[u8], at: usize) -> Result<usize, Refusal>
     ensures { step_told result ≡ version_at s.now at }
 {
-    let r = varint::read(s, at);
-    let NumberRead::Value { n, next } = r else {
-        return StepRead::Refused { no: r.no() };
-    };
-    if n == 1 {
-        return StepRead::Past { next };
+    let (n, next) = varint::read(s, at)?;
+    if n != 1 {
+        return Err(Refusal::BadVersion);
     }
-    StepRead::Refused {
-        no: wire::BAD_VERSION,
-    }
+    Ok(next)
 }
 
 // The position past the magic and version 1 at the front of s; or the first fault: 3, 4, 5 or 7.
-pub fn read(magic: &[u8], s: &[u8]) -> StepRead
+pub fn read(magic: &[u8], s: &[u8]) -> Result<usize, Refusal>
     ensures { step_told result ≡ mark_of magic.now s.now }
 {
     let n = magic.len();
     if s.len() < n {
-        return StepRead::Refused {
-            no: wire::CUT_OR_LEFT_OVER,
-        };
+        return Err(Refusal::CutOrLeftOver);
     }
-    if lend::equal(&s[..n], magic) {
-        return version(s, n);
+    if !lend::equal(&s[..n], magic) {
+        return Err(Refusal::BadMagic);
     }
-    StepRead::Refused {
-        no: wire::BAD_MAGIC,
-    }
+    version(s, n)
 }
 
 // The magic and version 1 at the front of out. Nothing changes where they do not fit.
@@ -53,5 +44,5 @@ pub fn lay(magic: &[u8], out: &mut [u8])
         return;
     }
     lend::copy(out, 0, magic);
-    varint::write(1, out, n);
+    let _ = varint::write(1, out, n);
 }

@@ -5,11 +5,11 @@
 ghost use Rattle.std.specs.Prelude.{◌≡◌, ◌+◌, ◌*◌, ◌^◌, ◌<◌, ◌≤◌, length, drop};
 ghost use Rattle.wire.specs.Answer.{done};
 ghost use Rattle.wire.specs.Over.{over};
-ghost use Rattle.wire.specs.Reading.{number_told};
+ghost use Rattle.wire.specs.Reading.{told};
 ghost use Rattle.wire.specs.Writing.{Written};
 ghost use Rattle.varint.specs.Varint.{varint, onto, ending, tenth, later_from, varint_at};
 
-use wire::{NumberRead, Wrote};
+use wire::Refusal;
 
 fn wide(x: u8) -> u64
     ensures { result ≡ x }
@@ -19,38 +19,31 @@ fn wide(x: u8) -> u64
 
 // b is the last byte of a form, at weight w above the n of the bytes before it; next is the
 // position past it. A form that ends in 00 could be shorter (R4.3).
-fn read_ending(b: u64, n: u64, w: u64, next: usize) -> NumberRead
+fn read_ending(b: u64, n: u64, w: u64, next: usize) -> Result<(u64, usize), Refusal>
     requires { n + w * b < 2 ^ 64 }
-    ensures { number_told result ≡ onto n w (ending b next) }
+    ensures { told result ≡ onto n w (ending b next) }
 {
     if b == 0 {
-        return NumberRead::Refused {
-            no: wire::BAD_VARINT,
-        };
+        return Err(Refusal::BadVarint);
     }
-    NumberRead::Value {
-        n: n + w * b,
-        next: next,
-    }
+    Ok((n + w * b, next))
 }
 
 // The same for a tenth byte, the only one that can take a number to 2^64 (R4.3).
-fn read_tenth(b: u64, n: u64, w: u64, next: usize) -> NumberRead
+fn read_tenth(b: u64, n: u64, w: u64, next: usize) -> Result<(u64, usize), Refusal>
     requires { n + w < 2 ^ 64 }
-    ensures { number_told result ≡ onto n w (tenth b next) }
+    ensures { told result ≡ onto n w (tenth b next) }
 {
     if 1 < b {
-        return NumberRead::Refused {
-            no: wire::BAD_VARINT,
-        };
+        return Err(Refusal::BadVarint);
     }
     read_ending(b, n, w, next)
 }
 
 // The rest of a form whose first byte holds low; its second byte stands at position from.
-fn read_later(s: &[u8], from: usize, low: u64) -> NumberRead
+fn read_later(s: &[u8], from: usize, low: u64) -> Result<(u64, usize), Refusal>
     requires { low < 128 }
-    ensures { number_told result ≡ onto low 128 (later_from 8 from (drop from s.now)) }
+    ensures { told result ≡ onto low 128 (later_from 8 from (drop from s.now)) }
 {
     let mut n = low;
     let mut w: u64 = 128;
@@ -69,28 +62,21 @@ fn read_later(s: &[u8], from: usize, low: u64) -> NumberRead
         left -= 1;
         i += 1;
     }
-    NumberRead::Refused {
-        no: wire::CUT_OR_LEFT_OVER,
-    }
+    Err(Refusal::CutOrLeftOver)
 }
 
 // The number at the position, and the position past it; or 3 or 7. What is written reads back
 // whatever follows (`reads_back`); what is read is the written form (`read_stands`). Past the end
 // of s the answer is 3.
-pub fn read(s: &[u8], at: usize) -> NumberRead
-    ensures { number_told result ≡ varint_at s.now at }
+pub fn read(s: &[u8], at: usize) -> Result<(u64, usize), Refusal>
+    ensures { told result ≡ varint_at s.now at }
 {
     if s.len() <= at {
-        return NumberRead::Refused {
-            no: wire::CUT_OR_LEFT_OVER,
-        };
+        return Err(Refusal::CutOrLeftOver);
     }
     let first = wide(s[at]);
     if first < 128 {
-        return NumberRead::Value {
-            n: first,
-            next: at + 1,
-        };
+        return Ok((first, at + 1));
     }
     read_later(s, at + 1, first % 128)
 }
@@ -125,16 +111,16 @@ fn write_fitting(n: u64, out: &mut [u8], at: usize)
 }
 
 // The one form of n in out from the index on, and its length; or 11 and nothing changed.
-pub fn write(n: u64, out: &mut [u8], at: usize) -> Wrote
+pub fn write(n: u64, out: &mut [u8], at: usize) -> Result<usize, Refusal>
     ensures { Written at (done (varint n)) out.old out.new result }
 {
     let len = size(n);
     if out.len() < at {
-        return Wrote::Refused { no: wire::NO_ROOM };
+        return Err(Refusal::NoRoom);
     }
     if out.len() - at < len {
-        return Wrote::Refused { no: wire::NO_ROOM };
+        return Err(Refusal::NoRoom);
     }
     write_fitting(n, out, at);
-    Wrote::Done { len: len }
+    Ok(len)
 }

@@ -3,6 +3,7 @@
 use mathlib.Core.Path.{◌≡◌, refl, sym, ◌∙◌}
 use mathlib.Core.Logic.{◌⊎◌, inl, inr}
 use mathlib.Core.List.{List}
+use Rattle.std.specs.Prelude.{Result, Ok, Err}
 use Prim.Native.Nat.{ℕ, ◌+◌, ◌≤◌, ◌<◌}
 use mathlib.Core.Bool.{Bool, true, false}
 use native.Mathlib.Omega.{arith}
@@ -12,39 +13,34 @@ use lib.ListN.{length}
 use Rattle.wire.specs.Answer.{Answer, done, refused_at, refused, then, demand, leaves, bytes_after, Change, Kept}
 use Rattle.wire.specs.Over.{over}
 use Rattle.wire.specs.Writing.{told, writing, Written}
-use Rattle.wire.specs.declared.Wrote.{Wrote}
-use Rattle.wire.specs.declared.Wrote.TheVariants.{Done, Refused}
+use Rattle.wire.specs.declared.Refusal.{Refusal}
+use Rattle.wire.specs.declared.Refusal.TheVariants.{NoRoom}
+use Rattle.wire.specs.Refusal.{number}
+use Rattle.wire.proofs.Answers.{told_injective}
 use Rattle.wire.proofs.Cases.{lt_or_le, not_done, done_value}
 use Rattle.wire.proofs.Overs.{over_out}
-
--- the enum says no more than its number and value do
-pub told_injective : (r q : Wrote) → told r ≡ told q → r ≡ q
-told_injective (Done m) (Done n) e = cc
-told_injective (Done m) (Refused n) e = cc
-told_injective (Refused m) (Done n) e = cc
-told_injective (Refused m) (Refused n) e = cc
 
 -- a call's promise fixes its answer and every byte of what was lent
 pub kept_once : {A : Type 0} {d : Change A} {l x y : List ℕ} {a b : Answer A} → Kept d l x a → Kept d l y b → (a ≡ b) × (x ≡ y)
 kept_once p o = (p.answer ∙ sym o.answer, p.bytes ∙ sym o.bytes)
 
-pub written_once : {d : Change ℕ} {out x y : List ℕ} (r q : Wrote) → Kept d out x (told r) → Kept d out y (told q) → (r ≡ q) × (x ≡ y)
+pub written_once : {d : Change ℕ} {out x y : List ℕ} (r q : Result ℕ Refusal) → Kept d out x (told r) → Kept d out y (told q) → (r ≡ q) × (x ≡ y)
 written_once r q p o = let (a, b) = kept_once p o in (told_injective r q a, b)
 
 module _ (at : ℕ) (out : List ℕ) where
   -- the bytes fit
-  pub written : (bs out' : List ℕ) (n : ℕ) → at + length bs ≤ length out → n ≡ length bs → out' ≡ over at bs out → Written at (done bs) out out' (Done n)
+  pub written : (bs out' : List ℕ) (n : ℕ) → at + length bs ≤ length out → n ≡ length bs → out' ≡ over at bs out → Written at (done bs) out out' (Ok n)
   unfolding writing
   written bs out' n h e o =
       record { answer = rw (le-leb (at + length bs) (length out) h, e); bytes = rw (le-leb (at + length bs) (length out) h) o }
 
   -- they do not
-  pub no_room : (bs : List ℕ) → length out < at + length bs → Written at (done bs) out out (Refused 11)
+  pub no_room : (bs : List ℕ) → length out < at + length bs → Written at (done bs) out out (Err NoRoom)
   unfolding writing
   no_room bs h = record { answer = rw (lt-leb (at + length bs) (length out) h); bytes = rw (lt-leb (at + length bs) (length out) h) }
 
   -- a refusal that comes before the output is looked at
-  pub denied : (e : ℕ) → Written at (refused e) out out (Refused e)
+  pub denied : (e : Refusal) → Written at (refused (number e)) out out (Err e)
   unfolding writing
   denied e = record { answer = refl; bytes = refl }
 

@@ -5,5 +5,6 @@ pub mod Ascii
 pub mod Over
 pub mod Writing
 pub mod Reading
+pub mod Refusal
 pub mod Span
 pub mod Every
