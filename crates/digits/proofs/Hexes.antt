@@ -13,12 +13,13 @@ use mir.Val.{Fits}
 use lib.Dec.{ltb, eqb}
 use lib.ListN.{length, take, drop, get_or, set, length-set}
 use lib.Seq.{take_all, take-suc, length-take-le}
+use Rattle.std.specs.Prelude.{Ok, Err}
 use Rattle.wire.specs.Answer.{done}
 use Rattle.wire.specs.Every.{every}
 use Rattle.wire.specs.Number.{Bytes}
 use Rattle.wire.specs.Over.{over}
 use Rattle.wire.specs.Writing.{Written}
-use Rattle.wire.specs.declared.Wrote.TheVariants.{Done, Refused}
+use Rattle.wire.specs.declared.Refusal.TheVariants.{NoRoom, OutOfRange}
 use Rattle.wire.proofs.Cases.{lt_or_le, both_hold, passed, done_value}
 use Rattle.wire.proofs.Everys.{every_on, every_stop, every_end}
 use Rattle.wire.proofs.Overs.{over_none, over_out, over_then, over_next}
@@ -171,14 +172,14 @@ module _ (s l : List ℕ) where
 -- ---- the answer
 
 module _ (s x : List ℕ) where
-  pub read_odd : (length s % 2 ≡ 0 → ⊥) → Written 0 (hex_verdict s) x x (Refused 19)
+  pub read_odd : (length s % 2 ≡ 0 → ⊥) → Written 0 (hex_verdict s) x x (Err OutOfRange)
   unfolding hex_verdict
-  read_odd h = rw (ne_eqb (length s % 2) 0 h) (denied 0 x 19)
+  read_odd h = rw (ne_eqb (length s % 2) 0 h) (denied 0 x OutOfRange)
 
   module _ (l : length s % 2 ≡ 0) (r : Bool) (p : r ≡ all_hex s) where
-    pub read_other : not r ≡ true → Written 0 (hex_verdict s) x x (Refused 19)
+    pub read_other : not r ≡ true → Written 0 (hex_verdict s) x x (Err OutOfRange)
     unfolding hex_verdict
-    read_other q = let e : all_hex s ≡ false = sym p ∙ not-true r q in rw (eq-eqb (length s % 2) 0 l, e) (denied 0 x 19)
+    read_other q = let e : all_hex s ≡ false = sym p ∙ not-true r q in rw (eq-eqb (length s % 2) 0 l, e) (denied 0 x OutOfRange)
 
     module _ (q : not r ≡ false) where
       pub digits_all : all_hex s ≡ true
@@ -188,10 +189,10 @@ module _ (s x : List ℕ) where
       unfolding hex_verdict
       judged = rw (eq-eqb (length s % 2) 0 l, digits_all)
 
-      pub read_short : length x < length s / 2 → Written 0 (hex_verdict s) x x (Refused 11)
+      pub read_short : length x < length s / 2 → Written 0 (hex_verdict s) x x (Err NoRoom)
       read_short h = rw judged (no_room 0 x (hex_bytes s) (omega (arith, bytes_length s)))
 
-      pub read_done : (z : List ℕ) → length s / 2 ≤ length x → z ≡ over 0 (hex_bytes s) x → Written 0 (hex_verdict s) x z (Done (length s / 2))
+      pub read_done : (z : List ℕ) → length s / 2 ≤ length x → z ≡ over 0 (hex_bytes s) x → Written 0 (hex_verdict s) x z (Ok (length s / 2))
       read_done z h o = rw judged (written 0 x (hex_bytes s) z (length s / 2) (omega (arith, bytes_length s)) (sym (bytes_length s)) o)
 
 -- how many bytes were read

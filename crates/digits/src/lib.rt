@@ -12,7 +12,7 @@ ghost use Rattle.wire.specs.Writing.{Written};
 ghost use Rattle.digits.specs.Decimal.{decimal as decimal_of, numeral, refused_line};
 ghost use Rattle.digits.specs.Hex.{hex_digit, hex_of, hex_value, all_hex, hex_bytes, hex_verdict};
 
-use wire::Wrote;
+use wire::Refusal;
 
 // ---- decimal
 
@@ -75,7 +75,7 @@ const REFUSED_ROOM: usize = 12;
 //
 // A collection that is not well formed is told by this line, and so is an input that a program
 // refuses.
-pub fn refused_line(no: u8, out: &mut [u8]) -> Wrote
+pub fn refused_line(no: u8, out: &mut [u8]) -> Result<usize, Refusal>
     ensures { Written 0 (done (refused_line no)) out.old out.new result }
 {
     let mut room = [0u8; REFUSED_ROOM];
@@ -177,23 +177,19 @@ fn read_fitting(s: &[u8], out: &mut [u8])
 
 // The bytes that lower-case hex digits say, at the front of out, and their number; or 19 where a
 // byte is no such digit or the last digit stands alone, then 11, and nothing changed.
-pub fn hex_read(s: &[u8], out: &mut [u8]) -> Wrote
+pub fn hex_read(s: &[u8], out: &mut [u8]) -> Result<usize, Refusal>
     ensures { Written 0 (hex_verdict s.now) out.old out.new result }
 {
     if s.len() % 2 != 0 {
-        return Wrote::Refused {
-            no: wire::OUT_OF_RANGE,
-        };
+        return Err(Refusal::OutOfRange);
     }
     if !all_hex(s) {
-        return Wrote::Refused {
-            no: wire::OUT_OF_RANGE,
-        };
+        return Err(Refusal::OutOfRange);
     }
     let n = s.len() / 2;
     if out.len() < n {
-        return Wrote::Refused { no: wire::NO_ROOM };
+        return Err(Refusal::NoRoom);
     }
     read_fitting(s, out);
-    Wrote::Done { len: n }
+    Ok(n)
 }

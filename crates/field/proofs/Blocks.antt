@@ -8,7 +8,7 @@ use native.Mathlib.Omega.{arith}
 use lib.Arith.{digits_lt}
 use lib.Dec.{lit<}
 use lib.ListN.{length, take, drop, get_or, length-append, drop_of_length-le}
-use lib.Pow.{shr-shr, shr_mod}
+use lib.Pow.{shr-shr}
 use lib.Seq.{get_or-drop}
 use Rattle.wire.specs.Number.{digits, number_from, number, big_endian, Bytes}
 use Rattle.wire.proofs.Digits.{length_digits, number_snoc, number_digits, digits_number, number_lt, digits_small, bytes_append}
@@ -128,18 +128,17 @@ block_halves bs h l g eh el =
 -- the bytes of a half, as the code makes them
 abbrev pub eight : ℕ → List ℕ
 eight n =
-    n / 2 ^ 56 ∷ n / 2 ^ 48 % 256 ∷ n / 2 ^ 40 % 256 ∷ n / 2 ^ 32 % 256 ∷ n / 2 ^ 24 % 256 ∷ n / 2 ^ 16 % 256 ∷ n / 2 ^ 8 % 256 ∷ n % 256 ∷ []
+    n / 2 ^ 56 % 256 ∷ n / 2 ^ 48 % 256 ∷ n / 2 ^ 40 % 256 ∷ n / 2 ^ 32 % 256 ∷ n / 2 ^ 24 % 256 ∷ n / 2 ^ 16 % 256 ∷ n / 2 ^ 8 % 256 ∷ n % 256 ∷ []
 
-eight_bytes : (n : ℕ) → n < 2 ^ 64 → eight n ≡ big_endian 8 n
+eight_bytes : (n : ℕ) → eight n ≡ big_endian 8 n
 unfolding digits
-eight_bytes n h =
+eight_bytes n =
     let e2 : n / 256 / 256 ≡ n / 2 ^ 16 = shr-shr n 8 8 in
     let e3 : n / 256 / 256 / 256 ≡ n / 2 ^ 24 = ap (λ (x : ℕ). x / 256) e2 ∙ shr-shr n 16 8 in
     let e4 : n / 256 / 256 / 256 / 256 ≡ n / 2 ^ 32 = ap (λ (x : ℕ). x / 256) e3 ∙ shr-shr n 24 8 in
     let e5 : n / 256 / 256 / 256 / 256 / 256 ≡ n / 2 ^ 40 = ap (λ (x : ℕ). x / 256) e4 ∙ shr-shr n 32 8 in
     let e6 : n / 256 / 256 / 256 / 256 / 256 / 256 ≡ n / 2 ^ 48 = ap (λ (x : ℕ). x / 256) e5 ∙ shr-shr n 40 8 in
     let e7 : n / 256 / 256 / 256 / 256 / 256 / 256 / 256 ≡ n / 2 ^ 56 = ap (λ (x : ℕ). x / 256) e6 ∙ shr-shr n 48 8 in
-    let top : n / 2 ^ 56 % 256 ≡ n / 2 ^ 56 = shr_mod 8 56 h in
     cc
 
 pub sixteen_bytes : (h l : ℕ) → h < 2 ^ 64 → l < 2 ^ 64 → eight h ++ eight l ≡ big_endian 16 (h * 2 ^ 64 + l)
@@ -149,6 +148,6 @@ sixteen_bytes h l a b =
     let whole : number 256 (xs ++ ys) ≡ h * 2 ^ 64 + l =
     words_number xs ys (length_digits 256 8 l) ∙ ap₂ (λ (x y : ℕ). x * 2 ^ 64 + y) (number_digits 256 8 h (lit< tt) a) (number_digits 256 8 l (lit< tt) b) in
     let count : length (xs ++ ys) ≡ 16 = length-append xs ys ∙ ap₂ ◌+◌ (length_digits 256 8 h) (length_digits 256 8 l) in
-    ap₂ {C = List ℕ} ◌++◌ (eight_bytes h a) (eight_bytes l b)
+    ap₂ {C = List ℕ} ◌++◌ (eight_bytes h) (eight_bytes l)
     ∙ sym (digits_number 256 (xs ++ ys) 16 count (bytes_append xs ys (digits_small 256 8 h (lit< tt)) (digits_small 256 8 l (lit< tt))))
     ∙ ap (big_endian 16) whole

@@ -3,7 +3,6 @@
 use mathlib.Core.Path.{◌≡◌, sym, ap, ap₂, ◌∙◌}
 use mathlib.Core.List.{List}
 use Prim.Native.Nat.{ℕ, ◌+◌, ◌*◌, ◌/◌, ◌%◌, ◌^◌, ◌<◌}
-use lib.Pow.{shr-shr}
 use Rattle.field.specs.Field.{plus, times_x, pick, times, product}
 use Rattle.field.specs.Element.{joined, halves}
 use Rattle.field.proofs.Polynomials.{power, power_more, times_more}
@@ -11,18 +10,15 @@ use Rattle.field.proofs.Products.{product_halves}
 use Rattle.field.proofs.Elements.{joined_halves}
 
 -- one turn
-module _ (k w v a : ℕ) (b : List ℕ) (eb : joined b ≡ power k a) (ev : v ≡ w / 2 ^ k) where
-  pub turn_sum : (r p s : List ℕ) → r ≡ halves (times k w a) → joined p ≡ pick (v % 2) (joined b) → s ≡ halves (plus (joined r) (joined p))
+module _ (k w a : ℕ) (b : List ℕ) (eb : joined b ≡ power k a) where
+  pub turn_sum : (r p s : List ℕ) → r ≡ halves (times k w a) → joined p ≡ pick (w / 2 ^ k % 2) (joined b) → s ≡ halves (plus (joined r) (joined p))
       → s ≡ halves (times (k + 1) w a)
   turn_sum r p s er ep es =
       let sum : joined r ≡ times k w a = ap joined er ∙ joined_halves (times k w a) in
-      es ∙ ap halves (ap₂ plus sum (ep ∙ ap₂ (λ (x y : ℕ). pick (x % 2) y) ev eb) ∙ sym (times_more k w a))
+      es ∙ ap halves (ap₂ plus sum (ep ∙ ap (pick (w / 2 ^ k % 2)) eb) ∙ sym (times_more k w a))
 
   pub turn_next : (d : List ℕ) → d ≡ halves (times_x (joined b)) → joined d ≡ power (k + 1) a
   turn_next d ed = ap joined ed ∙ joined_halves (times_x (joined b)) ∙ ap times_x eb ∙ sym (power_more k a)
-
-  pub turn_rest : v / 2 ≡ w / 2 ^ (k + 1)
-  turn_rest = ap (λ (x : ℕ). x / 2) ev ∙ shr-shr w k 1
 
 -- the halves of the second factor, one after the other
 pub product_turns : (a h l : ℕ) (s far t r : List ℕ) → l < 2 ^ 64

@@ -47,20 +47,17 @@ struct Turned {
 
 // The polynomial of the n lowest bits of w, times a; and x^n times a, for the bits above them.
 fn times(a: [u64; 2], w: u64, n: u64) -> Turned
+    requires { n ≤ 64 }
     ensures sum { result.sum ≡ halves (F.times n w (joined a)) }
     ensures next { joined result.next ≡ F.times (n + 1) (2 ^ n) (joined a) }
 {
     let mut r = [0u64; 2];
     let mut b = a;
-    let mut v = w;
-    let mut k = 0;
-    while k < n {
-        let s = sum(r, pick(v % 2, b));
+    for k in 0..n {
+        let s = sum(r, pick((w >> k) % 2, b));
         r = s;
         let d = double(b);
         b = d;
-        v = v / 2;
-        k += 1;
     }
     Turned { sum: r, next: b }
 }
@@ -69,8 +66,7 @@ fn times(a: [u64; 2], w: u64, n: u64) -> Turned
 pub fn scale(a: [u64; 2], x: u8) -> [u64; 2]
     ensures { result ≡ halves (F.product (joined a) x) }
 {
-    let t = times(a, x as u64, 8);
-    t.sum
+    times(a, u64::from(x), 8).sum
 }
 
 // The product of two elements.
@@ -78,11 +74,8 @@ pub fn product(a: [u64; 2], b: [u64; 2]) -> [u64; 2]
     ensures { result ≡ halves (F.product (joined a) (joined b)) }
 {
     let low = times(a, b[1], 64);
-    let s = low.sum;
-    let far = low.next;
-    let high = times(far, b[0], 64);
-    let t = high.sum;
-    sum(s, t)
+    let high = times(low.next, b[0], 64);
+    sum(low.sum, high.sum)
 }
 
 // What an element is multiplied by to divide it by d.
@@ -91,7 +84,7 @@ fn inverse(d: u8) -> [u64; 2]
 {
     // Lent: where a constant is indexed itself, all of it is copied each time.
     let t = &inverses::INVERSES;
-    let i = d as usize * 2;
+    let i = usize::from(d) * 2;
     [t[i], t[i + 1]]
 }
 
@@ -106,10 +99,7 @@ pub fn over(a: [u64; 2], d: u8) -> [u64; 2]
 fn byte(s: &[u8], i: usize) -> u64
     ensures { (result ≡ get_or s.now i 0) × (result < 256) }
 {
-    if i < s.len() {
-        return s[i] as u64;
-    }
-    0
+    u64::from(s.get(i).copied().unwrap_or(0))
 }
 
 // The number of 8 bytes from k on, with zeros where there are no more.
@@ -118,10 +108,8 @@ fn word(s: &[u8], k: usize) -> u64
     ensures { result ≡ number 256 (filled 8 (drop k s.now)) }
 {
     let mut w: u64 = 0;
-    let mut i = 0;
-    while i < 8 {
+    for i in 0..8 {
         w = w * 256 + byte(s, k + i);
-        i += 1;
     }
     w
 }
@@ -130,33 +118,15 @@ fn word(s: &[u8], k: usize) -> u64
 pub fn load(s: &[u8]) -> [u64; 2]
     ensures { result ≡ halves (block s.now) }
 {
-    let h = word(s, 0);
-    let l = word(s, 8);
-    [h, l]
+    [word(s, 0), word(s, 8)]
 }
 
 // The 16 bytes of an element.
 pub fn bytes(a: [u64; 2]) -> [u8; 16]
     ensures { result ≡ big_endian 16 (joined a) }
 {
-    let h = a[0];
-    let l = a[1];
-    [
-        (h >> 56) as u8,
-        ((h >> 48) % 256) as u8,
-        ((h >> 40) % 256) as u8,
-        ((h >> 32) % 256) as u8,
-        ((h >> 24) % 256) as u8,
-        ((h >> 16) % 256) as u8,
-        ((h >> 8) % 256) as u8,
-        (h % 256) as u8,
-        (l >> 56) as u8,
-        ((l >> 48) % 256) as u8,
-        ((l >> 40) % 256) as u8,
-        ((l >> 32) % 256) as u8,
-        ((l >> 24) % 256) as u8,
-        ((l >> 16) % 256) as u8,
-        ((l >> 8) % 256) as u8,
-        (l % 256) as u8,
-    ]
+    let mut out = [0; 16];
+    out[..8].copy_from_slice(&a[0].to_be_bytes());
+    out[8..].copy_from_slice(&a[1].to_be_bytes());
+    out
 }

@@ -8,11 +8,12 @@ use borrow.Author.Tests.{le-ltb, ltb-false, eqb-true}
 use lib.Dec.{ltb, eqb}
 use lib.ListN.{length, take, drop, length-append}
 use lib.Seq.{take-append_seam, drop-append_seam}
+use Rattle.std.specs.Prelude.{Result}
 use Rattle.wire.specs.Answer.{done, got}
 use Rattle.wire.specs.Number.{Bytes}
 use Rattle.wire.specs.Over.{over}
 use Rattle.wire.specs.Writing.{Written}
-use Rattle.wire.specs.declared.Wrote.{Wrote}
+use Rattle.wire.specs.declared.Refusal.{Refusal}
 use Rattle.wire.proofs.Cases.{passed, escaped, then_passed, got_next}
 use Rattle.wire.proofs.Overs.{over_run, over_out}
 use Rattle.wire.proofs.Standing.{Stands, stands_join, stands_as, stands_part}
@@ -72,7 +73,7 @@ module _ (magic : List ℕ) where
   pub lay_short : (l : List ℕ) → length l ≤ length magic → l ≡ over 0 (marked magic) l
   lay_short l h = sym (over_out 0 (marked magic) l (omega (arith, mark_length)))
 
-  pub lay_done : (l x y : List ℕ) (r : Wrote) → length magic < length l → x ≡ over 0 magic l → Written (length magic) (done (varint 1)) x y r
+  pub lay_done : (l x y : List ℕ) (r : Result ℕ Refusal) → length magic < length l → x ≡ over 0 magic l → Written (length magic) (done (varint 1)) x y r
       → y ≡ over 0 (marked magic) l
   unfolding marked
   lay_done l x y r room ex w =

@@ -14,7 +14,11 @@ use wire::Refusal;
 fn version(s: &[u8], at: usize) -> Result<usize, Refusal>
     ensures { step_told result ≡ version_at s.now at }
 {
-    let (n, next) = varint::read(s, at)?;
+    // stays (1): R18.4 wants `let .. else` here, and not `?`
+    let r = varint::read(s, at);
+    let Ok((n, next)) = r else {
+        return Err(r.unwrap_err());
+    };
     if n != 1 {
         return Err(Refusal::BadVersion);
     }

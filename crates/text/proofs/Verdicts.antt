@@ -7,11 +7,12 @@ use native.Mathlib.Omega.{arith}
 use borrow.Author.Tests.{le-leb, lt-leb, eq-eqb, ne_eqb}
 use lib.Dec.{leb, eqb}
 use lib.ListN.{length}
+use Rattle.std.specs.Prelude.{Ok, Err}
 use Rattle.wire.specs.Answer.{choose, done, refused}
 use Rattle.wire.specs.Number.{digits, number}
 use Rattle.wire.specs.Over.{over}
 use Rattle.wire.specs.Writing.{Written}
-use Rattle.wire.specs.declared.Wrote.TheVariants.{Done, Refused}
+use Rattle.wire.specs.declared.Refusal.TheVariants.{BadCharacter, BadTextLength, NoRoom}
 use Rattle.wire.proofs.Digits.{length_digits}
 use Rattle.wire.proofs.Writes.{written, no_room, denied}
 use Rattle.wire.specs.Every.{within}
@@ -83,12 +84,12 @@ module _ (w : ℕ) (narrow : Narrow w) (cs : List ℕ) where
 
 -- for `search`: what `read` answers, r being what was judged of the text cs
 module _ (w : ℕ) (narrow : Narrow w) (cs out : List ℕ) (r : Judged) (e : r ≡ judged w cs) where
-  pub read_bad : r ≡ Bad → Written 0 (read_text (form_of w) cs) out out (Refused 1)
-  read_bad q = rw (verdict_bad w narrow cs (sym q ∙ e)) (denied 0 out 1)
+  pub read_bad : r ≡ Bad → Written 0 (read_text (form_of w) cs) out out (Err BadCharacter)
+  read_bad q = rw (verdict_bad w narrow cs (sym q ∙ e)) (denied 0 out BadCharacter)
 
   module _ (b c m : ℕ) (q : r ≡ Good b c m) where
-    pub read_count : w ≤ c → Written 0 (read_text (form_of w) cs) out out (Refused 2)
-    read_count h = rw (verdict_count w narrow cs b c m (sym q ∙ e) h) (denied 0 out 2)
+    pub read_count : w ≤ c → Written 0 (read_text (form_of w) cs) out out (Err BadTextLength)
+    read_count h = rw (verdict_count w narrow cs b c m (sym q ∙ e) h) (denied 0 out BadTextLength)
 
     pub read_below : within (2 ^ w) (values (form_of w) cs) ≡ true
     read_below = verdict_below w narrow cs b c m (sym q ∙ e)
@@ -97,14 +98,14 @@ module _ (w : ℕ) (narrow : Narrow w) (cs out : List ℕ) (r : Judged) (e : r �
     read_fits l = omega (arith, verdict_length w narrow cs b c m (sym q ∙ e))
 
     module _ (h : c < w) where
-      pub read_bits : (b ≡ 0 → ⊥) → Written 0 (read_text (form_of w) cs) out out (Refused 2)
-      read_bits z = rw (verdict_bits w narrow cs b c m (sym q ∙ e) h z) (denied 0 out 2)
+      pub read_bits : (b ≡ 0 → ⊥) → Written 0 (read_text (form_of w) cs) out out (Err BadTextLength)
+      read_bits z = rw (verdict_bits w narrow cs b c m (sym q ∙ e) h z) (denied 0 out BadTextLength)
 
-      pub read_short : b ≡ 0 → length out < m → Written 0 (read_text (form_of w) cs) out out (Refused 11)
+      pub read_short : b ≡ 0 → length out < m → Written 0 (read_text (form_of w) cs) out out (Err NoRoom)
       read_short z l =
           rw (verdict_good w narrow cs b c m (sym q ∙ e) h z) (no_room 0 out (decoded w cs) (omega (arith, verdict_length w narrow cs b c m (sym q ∙ e))))
 
-      pub read_done : (out' : List ℕ) → b ≡ 0 → m ≤ length out → out' ≡ over 0 (decoded w cs) out → Written 0 (read_text (form_of w) cs) out out' (Done m)
+      pub read_done : (out' : List ℕ) → b ≡ 0 → m ≤ length out → out' ≡ over 0 (decoded w cs) out → Written 0 (read_text (form_of w) cs) out out' (Ok m)
       read_done out' z l o =
           rw (verdict_good w narrow cs b c m (sym q ∙ e) h z)
           (written 0 out (decoded w cs) out' m (omega (arith, read_fits l)) (verdict_length w narrow cs b c m (sym q ∙ e)) o)

@@ -16,11 +16,11 @@ ghost use Rattle.wire.specs.Answer.{done};
 ghost use Rattle.wire.specs.Writing.{Written};
 ghost use Rattle.text.specs.Text.{base64, zbase32, value, letter, text_of, read_text};
 
-use wire::Wrote;
+use wire::Refusal;
 
 // The bytes of a base64 text at the front of out, and their number; or 1, then 2, then 11, each
 // over the whole text, and nothing changed.
-pub fn base64_read(text: &[u8], out: &mut [u8]) -> Wrote
+pub fn base64_read(text: &[u8], out: &mut [u8]) -> Result<usize, Refusal>
     ensures { Written 0 (read_text base64 text.now) out.old out.new result }
 {
     read::read(&tables::BASE64_VALUES, 6, text, out)
@@ -28,7 +28,7 @@ pub fn base64_read(text: &[u8], out: &mut [u8]) -> Wrote
 
 // The base64 text of all bytes of src at the front of out, and its length; or 11 and nothing
 // changed.
-pub fn base64_write(src: &[u8], out: &mut [u8]) -> Wrote
+pub fn base64_write(src: &[u8], out: &mut [u8]) -> Result<usize, Refusal>
     ensures { Written 0 (done (text_of base64 src.now)) out.old out.new result }
 {
     write::write(&tables::BASE64_LETTERS, 6, src, out)
@@ -37,7 +37,7 @@ pub fn base64_write(src: &[u8], out: &mut [u8]) -> Wrote
 // The bytes of a z-base-32 text at the front of out, and their number; or 1, then 2, then 11, each
 // over the whole text, and nothing changed. The alphabet is `ybndrfg8ejkmcpqxot1uwisza345h769`.
 // What base64 skips is skipped, and the dash too.
-pub fn zbase32_read(text: &[u8], out: &mut [u8]) -> Wrote
+pub fn zbase32_read(text: &[u8], out: &mut [u8]) -> Result<usize, Refusal>
     ensures { Written 0 (read_text zbase32 text.now) out.old out.new result }
 {
     read::read(&tables::ZBASE32_VALUES, 5, text, out)
@@ -45,7 +45,7 @@ pub fn zbase32_read(text: &[u8], out: &mut [u8]) -> Wrote
 
 // The z-base-32 text of all bytes of src at the front of out, and its length; or 11 and nothing
 // changed.
-pub fn zbase32_write(src: &[u8], out: &mut [u8]) -> Wrote
+pub fn zbase32_write(src: &[u8], out: &mut [u8]) -> Result<usize, Refusal>
     ensures { Written 0 (done (text_of zbase32 src.now)) out.old out.new result }
 {
     write::write(&tables::ZBASE32_LETTERS, 5, src, out)

@@ -7,7 +7,7 @@ ghost use Rattle.text.specs.Text.{read_text, values};
 ghost use Rattle.text.specs.Private.{Narrow, form_of, Sorted, fed, stepped, judged, decoded, emitted};
 
 use super::{pack, tables};
-use wire::Wrote;
+use wire::Refusal;
 
 // What has been read so far: the bits that are not yet a byte and their number, how many bytes were
 // made, and whether the last character made one, and which.
@@ -143,29 +143,23 @@ fn decode(table: &[u8; 256], w: u32, text: &[u8], out: &mut [u8])
     }
 }
 
-pub(super) fn read(table: &[u8; 256], w: u32, text: &[u8], out: &mut [u8]) -> Wrote
+pub(super) fn read(table: &[u8; 256], w: u32, text: &[u8], out: &mut [u8]) -> Result<usize, Refusal>
     requires { Narrow w × Sorted w table.now }
     ensures { Written 0 (read_text (form_of w) text.now) out.old out.new result }
 {
     let Judged::Good { bits, count, made } = judge(table, w, text) else {
-        return Wrote::Refused {
-            no: wire::BAD_CHARACTER,
-        };
+        return Err(Refusal::BadCharacter);
     };
     // A whole character left over: no bytes fill so many (R5.6).
     if w <= count {
-        return Wrote::Refused {
-            no: wire::BAD_TEXT_LENGTH,
-        };
+        return Err(Refusal::BadTextLength);
     }
     if bits != 0 {
-        return Wrote::Refused {
-            no: wire::BAD_TEXT_LENGTH,
-        };
+        return Err(Refusal::BadTextLength);
     }
     if out.len() < made {
-        return Wrote::Refused { no: wire::NO_ROOM };
+        return Err(Refusal::NoRoom);
     }
     decode(table, w, text, out);
-    Wrote::Done { len: made }
+    Ok(made)
 }

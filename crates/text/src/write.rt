@@ -7,7 +7,7 @@ ghost use Rattle.text.specs.Text.{text_of, characters};
 ghost use Rattle.text.specs.Private.{Narrow, form_of, refilled};
 
 use super::pack;
-use wire::Wrote;
+use wire::Refusal;
 
 // The bits that are not yet written, their number, and the next byte.
 #[derive(Clone, Copy)]
@@ -69,14 +69,14 @@ fn encode(letters: &[u8], w: u32, src: &[u8], len: usize, out: &mut [u8])
     }
 }
 
-pub(super) fn write(letters: &[u8], w: u32, src: &[u8], out: &mut [u8]) -> Wrote
+pub(super) fn write(letters: &[u8], w: u32, src: &[u8], out: &mut [u8]) -> Result<usize, Refusal>
     requires { Narrow w × (letters.now ≡ (form_of w).alphabet) }
     ensures { Written 0 (done (text_of (form_of w) src.now)) out.old out.new result }
 {
     let len = length_of(w, src.len());
     if out.len() < len {
-        return Wrote::Refused { no: wire::NO_ROOM };
+        return Err(Refusal::NoRoom);
     }
     encode(letters, w, src, len, out);
-    Wrote::Done { len }
+    Ok(len)
 }

@@ -3,12 +3,8 @@ use borrow.Author.Rules.{rules}
 use mir.Syntax.{w64}
 use mir.Val.{Fits}
 use lib.ListN.{get_or}
-use native.Mathlib.Omega.{arith}
 use Rattle.field.proofs.Elements.{double_halves}
 use Rattle.field.proofs.double.Goals as goal
-
-pub overflow_mul-result : goal.overflow_mul-result
-overflow_mul-result c = let h : Fits w64 (get_or c.args.a 0 0) = search rules in omega arith
 
 pub returns : goal.returns
 returns c =

@@ -5,4 +5,4 @@ use Rattle.field.proofs.Division.{inverse_halves}
 use Rattle.field.proofs.inverse.Goals as goal
 
 pub returns : goal.returns
-returns c = inverse_halves _ _ refl
+returns c = rw c.from-i.ensures (inverse_halves _ _ refl)

@@ -5,5 +5,5 @@ use Rattle.field.proofs.load.Goals as goal
 
 pub returns : goal.returns
 returns c =
-    block_halves c.args.s.now c.word-h.result c.word-l.result (omega arith)
-    c.word-h.ensures c.word-l.ensures
+    block_halves c.args.s.now c.word.result c.word-2.result (omega arith)
+    c.word.ensures c.word-2.ensures

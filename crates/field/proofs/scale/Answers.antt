@@ -8,4 +8,4 @@ use Rattle.field.proofs.scale.Goals as goal
 pub returns : goal.returns
 returns c =
     let a = c.args in
-    c.times-t.ensures.sum ∙ sym (ap halves (product_small (joined a.a) a.x (omega arith)))
+    rw c.from.ensures at c.times.ensures.sum ∙ sym (ap halves (product_small (joined a.a) a.x (omega arith)))

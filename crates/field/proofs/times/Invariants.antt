@@ -1,14 +1,10 @@
 -- `field::times` meets its contract. The loop's invariant: r is what the k lowest bits of w come
--- to, b is x^k times the element, and v is what is left of w. Assumes nothing.
+-- to, and b is x^k times the element. Assumes nothing.
 use mathlib.Core.Path.{◌≡◌}
-use Prim.Native.Nat.{◌-◌, ◌/◌, ◌^◌, ◌≤◌}
 use Rattle.field.specs.Field.{times}
 use Rattle.field.specs.Element.{joined, halves}
 use Rattle.field.proofs.Polynomials.{power}
 use Rattle.field.proofs.times.Given as goal
 
 abbrev pub invariant-loop-k : goal.invariant-loop-k
-invariant-loop-k l = (l.k ≤ l.n) × (l.r ≡ halves (times l.k l.w (joined l.initial.b))) × (joined l.b ≡ power l.k (joined l.initial.b)) × (l.v ≡ l.w / 2 ^ l.k)
-
-abbrev pub decreases-loop-k : goal.decreases-loop-k
-decreases-loop-k l = l.n - l.k
+invariant-loop-k l = (l.r ≡ halves (times l.k l.w (joined l.initial.b))) × (joined l.b ≡ power l.k (joined l.initial.b))
