@@ -3,7 +3,10 @@ use Prim.Native.Nat.{ℕ, ◌+◌, ◌/◌, ◌%◌}
 use mathlib.Core.List.{List}
 use lib.Dec.{ltb, leb, eqb}
 use lib.ListN.{length}
-use Rattle.wire.proofs.Placeless.{Placeless, placeless_demand, placeless_then, placeless}
+use Rattle.wire.specs.Refusal.{number}
+use Rattle.wire.specs.declared.Refusal.{Refusal}
+use Rattle.wire.specs.declared.Refusal.TheVariants.{OutOfRange}
+use Rattle.wire.proofs.Placeless.{Placeless, placeless_demand, placeless_then, placeless, no_place_18}
 use Rattle.cbor.specs.Item.{byte_at, one_at, big_endian_at, argument_at, kind_of, head_at, number_at, contents_at, string_at, name_at, key_at, string_field_at, number_field_at}
 
 module _ (s : List ℕ) where
@@ -22,22 +25,22 @@ module _ (s : List ℕ) where
   unfolding head_at
   head_placeless at kind =
       placeless_then (byte_at s at) _ (byte_placeless at) (λ (x, p).
-      placeless_demand (eqb (kind_of (x / 32)) kind) 18
-      (placeless_demand (leb (x % 32) 27) 18
+      placeless_demand (eqb (kind_of (x / 32)) kind) no_place_18
+      (placeless_demand (leb (x % 32) 27) no_place_18
       (placeless_then (argument_at s p (x % 32)) _ (argument_placeless p (x % 32)) (λ v. search placeless))))
 
-  pub number_placeless : (at kind least most fault : ℕ) → Placeless (number_at s at kind least most fault)
+  pub number_placeless : (at kind least most : ℕ) (why : Refusal) → Placeless (number_at s at kind least most (number why))
   unfolding number_at
-  number_placeless at kind least most fault = placeless_then (head_at s at kind) _ (head_placeless at kind) (λ v. search placeless)
+  number_placeless at kind least most why = placeless_then (head_at s at kind) _ (head_placeless at kind) (λ v. search placeless)
 
   pub contents_placeless : (at len : ℕ) → Placeless (contents_at s at len)
   unfolding contents_at
   contents_placeless at len = search placeless
 
-  string_placeless : (at kind least most fault : ℕ) → Placeless (string_at s at kind least most fault)
+  string_placeless : (at kind least most : ℕ) (why : Refusal) → Placeless (string_at s at kind least most (number why))
   unfolding string_at
-  string_placeless at kind least most fault =
-      placeless_then (number_at s at kind least most fault) _ (number_placeless at kind least most fault) (λ (len, next). contents_placeless next len)
+  string_placeless at kind least most why =
+      placeless_then (number_at s at kind least most (number why)) _ (number_placeless at kind least most why) (λ (len, next). contents_placeless next len)
 
   name_placeless : (at : ℕ) (name : List ℕ) → Placeless (name_at s at name)
   unfolding name_at
@@ -46,14 +49,15 @@ module _ (s : List ℕ) where
   pub key_placeless : (at : ℕ) (name : List ℕ) → Placeless (key_at s at name)
   unfolding key_at
   key_placeless at name =
-      placeless_demand (ltb (length name) 24) 18
+      placeless_demand (ltb (length name) 24) no_place_18
       (placeless_then (one_at s at (96 + length name)) _ (one_placeless at (96 + length name)) (λ (_, p). name_placeless p name))
 
-  pub string_field_placeless : (at : ℕ) (name : List ℕ) (kind least most fault : ℕ) → Placeless (string_field_at s at name kind least most fault)
+  pub string_field_placeless : (at : ℕ) (name : List ℕ) (kind least most : ℕ) (why : Refusal)
+      → Placeless (string_field_at s at name kind least most (number why))
   unfolding string_field_at
-  string_field_placeless at name kind least most fault =
-      placeless_then (key_at s at name) _ (key_placeless at name) (λ (_, p). string_placeless p kind least most fault)
+  string_field_placeless at name kind least most why =
+      placeless_then (key_at s at name) _ (key_placeless at name) (λ (_, p). string_placeless p kind least most why)
 
   pub number_field_placeless : (at : ℕ) (name : List ℕ) (least most : ℕ) → Placeless (number_field_at s at name least most)
   unfolding number_field_at
-  number_field_placeless at name least most = placeless_then (key_at s at name) _ (key_placeless at name) (λ (_, p). number_placeless p 0 least most 19)
+  number_field_placeless at name least most = placeless_then (key_at s at name) _ (key_placeless at name) (λ (_, p). number_placeless p 0 least most OutOfRange)

@@ -3,7 +3,8 @@ use Prim.Native.Nat.{ℕ}
 use mathlib.Core.List.{List}
 use lib.Dec.{leb, eqb}
 use Rattle.wire.specs.Answer.{refused}
-use Rattle.wire.proofs.Placeless.{Placeless, placeless_refused, placeless_choose, placeless_demand, placeless_then, placeless}
+use Rattle.wire.specs.declared.Refusal.TheVariants.{OutOfRange}
+use Rattle.wire.proofs.Placeless.{Placeless, placeless_choose, placeless_demand, placeless_then, placeless, no_place_19}
 use Rattle.cbor.specs.Item.{key_at, number_at, contents_at, string_field_at, number_field_at}
 use Rattle.wire.specs.Ascii.{ascii}
 use Rattle.cbor.proofs.Placeless.{key_placeless, number_placeless, contents_placeless, string_field_placeless, number_field_placeless}
@@ -16,15 +17,15 @@ module _ (s : List ℕ) where
   unfolding kind_at
   kind_placeless at =
       placeless_then (key_at s at (ascii "type")) _ (key_placeless s at (ascii "type")) (λ (_, a).
-      placeless_then (number_at s a 3 10 12 19) _ (number_placeless s a 3 10 12 19) (λ (len, b).
-      placeless_choose (eqb len 11) (refused 19) _ (placeless_refused 19)
+      placeless_then (number_at s a 3 10 12 19) _ (number_placeless s a 3 10 12 OutOfRange) (λ (len, b).
+      placeless_choose (eqb len 11) (refused 19) _ (no_place_19)
       (placeless_then (contents_at s b len) _ (contents_placeless s b len) (λ v. search placeless))))
 
   content_placeless : (at : ℕ) → Placeless (content_at s at)
   unfolding content_at
   content_placeless at =
       placeless_then (kind_at s at) _ (kind_placeless at) (λ (_, a).
-      placeless_then (string_field_at s a (ascii "share") 2 0 224 19) _ (string_field_placeless s a (ascii "share") 2 0 224 19) (λ (_, b).
+      placeless_then (string_field_at s a (ascii "share") 2 0 224 19) _ (string_field_placeless s a (ascii "share") 2 0 224 OutOfRange) (λ (_, b).
       placeless_then (number_field_at s b (ascii "length") 1 0xFFFFFFFFFFFFFFFF) _ (number_field_placeless s b (ascii "length") 1 0xFFFFFFFFFFFFFFFF) (λ v. search placeless)))
 
   quorum_placeless : (at : ℕ) → Placeless (quorum_at s at)
@@ -32,7 +33,7 @@ module _ (s : List ℕ) where
   quorum_placeless at =
       placeless_then (number_field_at s at (ascii "threshold") 1 255) _ (number_field_placeless s at (ascii "threshold") 1 255) (λ (threshold, a).
       placeless_then (number_field_at s a (ascii "share_count") 1 255) _ (number_field_placeless s a (ascii "share_count") 1 255) (λ (count, b).
-      placeless_demand (leb threshold count) 19
+      placeless_demand (leb threshold count) no_place_19
       (placeless_then (number_field_at s b (ascii "share_index") 1 255) _ (number_field_placeless s b (ascii "share_index") 1 255) (λ v. search placeless))))
 
   body_placeless : (at : ℕ) (claim : Claim) → Placeless (body_at s at claim)
