@@ -10,7 +10,8 @@ use lib.ListN.{length, length-append}
 use Rattle.wire.specs.Over.{over}
 use Rattle.wire.specs.Answer.{done, Answer, Kept}
 use Rattle.wire.specs.Writing.{Written, writing}
-use Rattle.wire.specs.declared.Wrote.TheVariants.{Done, Refused}
+use Rattle.std.specs.Prelude.{Ok, Err}
+use Rattle.wire.specs.declared.Refusal.TheVariants.{NoRoom}
 use Rattle.wire.proofs.Overs.{over_run}
 use Rattle.wire.proofs.Writes.{written, no_room, written_over}
 use Rattle.varint.specs.Varint.{varint}
@@ -61,12 +62,12 @@ module _ (m p l : List ℕ) where
   -- i and j are how many bytes the lengths take
   module _ (i j : ℕ) (ei : i ≡ length (varint (length m))) (ej : j ≡ length (varint (length p))) where
     -- the parts are longer than what the heads leave
-    pub lay_short : length l < 3 + i + j + length m + length p → Written 0 (done (cover_of m p)) l l (Refused 11)
+    pub lay_short : length l < 3 + i + j + length m + length p → Written 0 (done (cover_of m p)) l l (Err NoRoom)
     lay_short h = no_room 0 l (cover_of m p) (omega (arith, cover_length m p, chunk_length m, chunk_length p))
 
     pub lay_fits : 3 + i + j + length m + length p ≤ length l → length (cover_of m p) ≤ length l
     lay_fits h = omega (arith, cover_length m p, chunk_length m, chunk_length p)
 
     pub lay_done : 3 + i + j + length m + length p ≤ length l → (z : List ℕ) (n : ℕ) → (n ≡ length (cover_of m p)) × (z ≡ over 0 (cover_of m p) l)
-        → Written 0 (done (cover_of m p)) l z (Done n)
+        → Written 0 (done (cover_of m p)) l z (Ok n)
     lay_done h z n (e, o) = written 0 l (cover_of m p) z n (omega (arith, lay_fits h)) e o

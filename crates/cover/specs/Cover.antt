@@ -5,11 +5,8 @@ use Rattle.wire.specs.Answer.{then, demand, Got, got}
 use Rattle.wire.specs.declared.Span.{Span}
 use Rattle.varint.specs.Varint.{varint, varint_at}
 use Rattle.mark.specs.Mark.{mark_of, marked}
-
 -- what is read of an envelope: where its manifest and its payload stand in the input
-pub record Cover : Type 0 where
-  pub manifest : Span
-  pub payload : Span
+pub use Rattle.cover.specs.declared.Cover.{Cover}
 
 -- ---- the fields, left to right: each is judged once it is whole (R14.2)
 

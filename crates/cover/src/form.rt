@@ -5,7 +5,7 @@ ghost use Rattle.wire.specs.Answer.{done};
 ghost use Rattle.wire.specs.Writing.{Written};
 ghost use Rattle.cover.specs.Cover.{chunk_of, cover_of};
 
-use wire::Wrote;
+use wire::Refusal;
 
 // Two bytes of magic and one of version (R14.1).
 const OPENING: usize = 3;
@@ -16,7 +16,7 @@ fn chunk(bs: &[u8], out: &mut [u8], at: usize) -> usize
     ensures { (result ≡ at + length (chunk_of bs.now)) × (out.new ≡ over at (chunk_of bs.now) out.old) }
 {
     let len = bs.len() as u64;
-    varint::write(len, out, at);
+    let _ = varint::write(len, out, at);
     let start = at + varint::size(len);
     lend::copy(out, start, bs);
     start + bs.len()
@@ -32,21 +32,19 @@ fn lay_fitting(manifest: &[u8], payload: &[u8], out: &mut [u8]) -> usize
 }
 
 // The lengths of two slices can sum past 2^64, so the room is judged by what is left of it.
-pub(super) fn lay(manifest: &[u8], payload: &[u8], out: &mut [u8]) -> Wrote
+pub(super) fn lay(manifest: &[u8], payload: &[u8], out: &mut [u8]) -> Result<usize, Refusal>
     ensures { Written 0 (done (cover_of manifest.now payload.now)) out.old out.new result }
 {
     let heads = OPENING + varint::size(manifest.len() as u64) + varint::size(payload.len() as u64);
     if out.len() < heads {
-        return Wrote::Refused { no: wire::NO_ROOM };
+        return Err(Refusal::NoRoom);
     }
     let left = out.len() - heads;
     if left < manifest.len() {
-        return Wrote::Refused { no: wire::NO_ROOM };
+        return Err(Refusal::NoRoom);
     }
     if left - manifest.len() < payload.len() {
-        return Wrote::Refused { no: wire::NO_ROOM };
+        return Err(Refusal::NoRoom);
     }
-    Wrote::Done {
-        len: lay_fitting(manifest, payload, out),
-    }
+    Ok(lay_fitting(manifest, payload, out))
 }
