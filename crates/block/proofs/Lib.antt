@@ -1,5 +1,6 @@
 pub mod Lengths
 pub mod Writing
 pub mod Reading
+pub mod States
 pub mod Slots
 pub mod Round

@@ -60,56 +60,65 @@ slot_disputed b h = rw (ne_eqb (get_or b 2 0) 0 (λ e. omega (arith, h, e)), ne_
 
 -- x is the block, and b is what the code has of it
 module _ (b x : List ℕ) (e : b ≡ x) where
-  pub state_low : get_or b 2 0 < 2 → get_or b 2 0 ≡ state_of (read_slot x)
+  pub state_zero : get_or b 2 0 ≡ 0 → 0 ≡ state_of (read_slot x)
   unfolding state_of
-  state_low h = rw (← e) (go (get_or b 2 0) refl h)
-    where
-      go : (s : ℕ) → get_or b 2 0 ≡ s → s < 2 → s ≡ state_of (read_slot b)
-      go zero q k = rw (slot_absent b q)
-      go (suc zero) q k = rw (slot_held b q)
-      go (suc (suc s)) q k = absurd (omega arith)
+  state_zero h = rw (← e, slot_absent b h)
 
-  pub state_high : 2 ≤ get_or b 2 0 → 2 ≡ state_of (read_slot x)
+  pub state_one : get_or b 2 0 ≡ 1 → 1 ≡ state_of (read_slot x)
   unfolding state_of
-  state_high h = rw (← e, slot_disputed b h)
+  state_one h = rw (← e, slot_held b h)
+
+  pub state_other : (get_or b 2 0 ≡ 0 → ⊥) → (get_or b 2 0 ≡ 1 → ⊥) → 2 ≡ state_of (read_slot x)
+  unfolding state_of
+  state_other h k = rw (← e, slot_disputed b (omega arith))
 
 -- the block is not whole
 pub state_none : (at : ℕ) (c b : List ℕ) → b ≡ block_at at c → length b < 512 → 0 ≡ state_of (read_slot (block_at at c))
 unfolding read_slot slot_for state_of
 state_none at c b e h = rw (← block_short at c b e h)
 
-pub data_none : (at : ℕ) (c b : List ℕ) → b ≡ block_at at c → length b < 512 → [] ≡ data_of (read_slot (block_at at c))
-unfolding read_slot slot_for data_of
-data_none at c b e h = rw (← block_short at c b e h)
+-- a block that says it is held is whole
+pub held_whole : (at : ℕ) (c b : List ℕ) → b ≡ block_at at c → state_of (read_slot (block_at at c)) ≡ 1 → 512 ≤ length b
+held_whole at c b e h = ⊎_elim (λ o. absurd (omega (arith, h, state_none at c b e o))) (λ r. r) (lt_or_le (length b) 512)
+
+held_byte : (b : List ℕ) → state_of (read_slot b) ≡ 1 → get_or b 2 0 ≡ 1
+unfolding state_of
+held_byte b h = go (get_or b 2 0) refl
+  where
+    go : (s : ℕ) → get_or b 2 0 ≡ s → get_or b 2 0 ≡ 1
+    go zero q = let z : ◌≡◌ {A = ℕ} 0 1 = rw (slot_absent b q) at h in absurd (omega arith)
+    go (suc zero) q = q
+    go (suc (suc s)) q = let z : ◌≡◌ {A = ℕ} 2 1 = rw (slot_disputed b (omega arith)) at h in absurd (omega arith)
 
 -- ---- the data
 
-module _ (b x : List ℕ) (e : b ≡ x) where
-  pub data_other : (get_or b 2 0 ≡ 1 → ⊥) → [] ≡ data_of (read_slot x)
-  unfolding data_of
-  data_other n = rw (← e) (go (get_or b 2 0) refl)
-    where
-      go : (s : ℕ) → get_or b 2 0 ≡ s → [] ≡ data_of (read_slot b)
-      go zero q = rw (slot_absent b q)
-      go (suc zero) q = absurd (n q)
-      go (suc (suc s)) q = rw (slot_disputed b (omega arith))
+-- none unless the state is held
+pub data_other : (p : Slot) → (state_of p ≡ 1 → ⊥) → [] ≡ data_of p
+unfolding state_of data_of
+data_other absent n = refl
+data_other (held d) n = absurd (n refl)
+data_other disputed n = refl
 
-  module _ (hi lo : ℕ) (high : (hi ≡ get_or b 12 0) × (hi < 256)) (low : (lo ≡ get_or b 13 0) × (lo < 256)) (isheld : get_or b 2 0 ≡ 1) where
+module _ (b x : List ℕ) (e : b ≡ x) (isheld : state_of (read_slot x) ≡ 1) where
+  module _ (hi lo : ℕ) (high : hi ≡ get_or b 12 0) (low : lo ≡ get_or b 13 0) where
+    byte : get_or b 2 0 ≡ 1
+    byte = held_byte b (rw e isheld)
+
     said : length_in b ≡ hi * 256 + lo
     unfolding length_in
-    said = rw (← high.0, ← low.0)
+    said = rw (← high, ← low)
 
     pub data_cut : 480 < hi * 256 + lo → take 480 (drop 14 b) ≡ data_of (read_slot x)
     unfolding data_of
     data_cut h =
         let w : length (take 480 (drop 14 b)) ≤ hi * 256 + lo = simp length-take (omega arith) in
-        rw (← e, slot_held b isheld, said) (sym (take_all (hi * 256 + lo) (take 480 (drop 14 b)) w))
+        rw (← e, slot_held b byte, said) (sym (take_all (hi * 256 + lo) (take 480 (drop 14 b)) w))
 
     pub data_whole : hi * 256 + lo ≤ 480 → take (14 + (hi * 256 + lo) - 14) (drop 14 b) ≡ data_of (read_slot x)
     unfolding data_of
     data_whole h =
         let q : 14 + (hi * 256 + lo) - 14 ≡ hi * 256 + lo = omega arith in
-        rw (q, ← e, slot_held b isheld, said) (sym (take-take (hi * 256 + lo) 480 (drop 14 b) h))
+        rw (q, ← e, slot_held b byte, said) (sym (take-take (hi * 256 + lo) 480 (drop 14 b) h))
 
 -- what is read is short enough for a block
 pub read_fits : (b : List ℕ) → length (data_of (read_slot b)) ≤ 480
@@ -123,17 +132,17 @@ read_fits b = go (eqb (get_or b 2 0) 0) (eqb (get_or b 2 0) 1)
 
 -- ---- whether given bytes are held
 
-module _ (p : Slot) (d : List ℕ) (s : ℕ) (e : s ≡ state_of p) where
-  pub holds_not : (s ≡ 1 → ⊥) → false ≡ holding p d
-  holds_not n = go p e
+module _ (p : Slot) (d : List ℕ) where
+  pub holds_not : (state_of p ≡ 1 → ⊥) → false ≡ holding p d
+  holds_not n = go p n
     where
-      go : (q : Slot) → s ≡ state_of q → false ≡ holding q d
+      go : (q : Slot) → (state_of q ≡ 1 → ⊥) → false ≡ holding q d
       go absent h = unfold holding is_held in refl
-      go (held x) h = absurd (n (unfold state_of in h))
+      go (held x) h = absurd (h (unfold state_of in refl))
       go disputed h = unfold holding is_held in refl
 
-  pub holds_data : (x : List ℕ) (r : Bool) → s ≡ 1 → x ≡ data_of p → r ≡ same x d → r ≡ holding p d
-  holds_data x r one ex er = er ∙ rw ex (go p (sym e ∙ one))
+  pub holds_data : (x : List ℕ) (r : Bool) → state_of p ≡ 1 → x ≡ data_of p → r ≡ same x d → r ≡ holding p d
+  holds_data x r one ex er = er ∙ rw ex (go p one)
     where
       go : (q : Slot) → state_of q ≡ 1 → same (data_of q) d ≡ holding q d
       go absent h = let z : ◌≡◌ {A = ℕ} 0 1 = unfold state_of in h in absurd (omega arith)

@@ -33,12 +33,12 @@ length_laid at n l x y room small ex ey =
 
 -- ---- all before the checksum
 
-pub front_laid : (at a b i s : ℕ) (l w x y z : List ℕ) → at + 4 ≤ length l
-    → w ≡ over at (a ∷ []) l → x ≡ over (at + 1) (i ∷ []) w → y ≡ over (at + 2) (s ∷ []) x → z ≡ over (at + 3) (b ∷ []) y
+pub front_laid : (at a b i s n : ℕ) (l w x y z : List ℕ) → at + 4 ≤ length l → n ≡ s
+    → w ≡ over at (a ∷ []) l → x ≡ over (at + 1) (i ∷ []) w → y ≡ over (at + 2) (n ∷ []) x → z ≡ over (at + 3) (b ∷ []) y
     → z ≡ over at (a ∷ i ∷ s ∷ b ∷ []) l
-front_laid at a b i s l w x y z room ew ex ey ez =
+front_laid at a b i s n l w x y z room en ew ex ey ez =
     let t = over_run at (at + 1) 1 1 (a ∷ []) (i ∷ []) l w x ex (ew, refl) refl refl (omega arith) in
-    let u = over_run at (at + 2) 2 1 (a ∷ i ∷ []) (s ∷ []) l x y ey t refl refl (omega arith) in
+    let u = over_run at (at + 2) 2 1 (a ∷ i ∷ []) (s ∷ []) l x y (ey ∙ rw en refl) t refl refl (omega arith) in
     (over_run at (at + 3) 3 1 (a ∷ i ∷ s ∷ []) (b ∷ []) l y z ez u refl refl (omega arith)).0
 
 pub body_laid : (at : ℕ) (id : List ℕ) (i s : ℕ) (d l v w x y z : List ℕ) → (at + 508 ≤ length l) × (length id ≡ 8) × (length d ≤ 480)

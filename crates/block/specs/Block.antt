@@ -6,12 +6,20 @@ use Rattle.wire.specs.Over.{over}
 use Rattle.wire.specs.Sizes.{most_data, id_size, summed_size}
 use Rattle.crc.specs.Crc.{crc32}
 use Rattle.model.specs.Book.{Slot, absent, held, disputed, data_of}
+use Rattle.block.specs.declared.PageState.{PageState}
+use Rattle.block.specs.declared.PageState.TheVariants as page
 
 -- the number of a state (R8.4)
 unfoldable pub state_of : Slot → ℕ
 state_of absent = 0
 state_of (held d) = 1
 state_of disputed = 2
+
+-- the same of a state alone
+abbrev pub state_number : PageState → ℕ
+state_number page.Absent = 0
+state_number page.Held = 1
+state_number page.Disputed = 2
 
 -- a block: its 508 bytes, and their checksum behind them, the highest byte first (R8.2)
 unfoldable pub sealed : List ℕ → List ℕ

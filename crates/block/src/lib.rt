@@ -7,15 +7,29 @@ ghost use Rattle.wire.specs.Over.{over};
 ghost use Rattle.wire.specs.Number.{big_endian};
 ghost use Rattle.wire.specs.Sizes.{most_data, id_size, summed_size};
 ghost use Rattle.model.specs.Book.{absent, held, disputed, data_of};
-ghost use Rattle.block.specs.Block.{state_of, page_body, sealed, with_page, with_sum};
+ghost use Rattle.block.specs.Block.{state_of, state_number, page_body, sealed, with_page, with_sum};
 ghost use Rattle.block.specs.Read.{block_at, read_slot, ok_page, holding};
 
 // The states of a page (R8.4).
-pub const ABSENT: u8 = 0;
+#[derive(Clone, Copy, Debug, PartialEq, Eq)]
+pub enum PageState {
+    Absent,
+    Held,
+    Disputed,
+}
 
-pub const HELD: u8 = 1;
+// The byte that a block says it by (R8.4).
+impl From<PageState> for u8 {
+    ghost from_gives = { λ state n. n ≡ state_number state };
 
-pub const DISPUTED: u8 = 2;
+    fn from(state: PageState) -> u8 {
+        match state {
+            PageState::Absent => 0,
+            PageState::Held => 1,
+            PageState::Disputed => 2,
+        }
+    }
+}
 
 // Where the data begin (R8.4), and how many bytes stand from there to the checksum: the data and
 // zeros behind them (R8.5).
@@ -42,13 +56,13 @@ pub fn seal(out: &mut [u8], at: usize)
 }
 
 // The four bytes before the id (R8.4).
-fn front(out: &mut [u8], at: usize, index: u8, state: u8)
+fn front(out: &mut [u8], at: usize, index: u8, state: PageState)
     requires { at + 4 ≤ length out.old }
-    ensures { out.new ≡ over at (0x50 ∷ index ∷ state ∷ 0 ∷ []) out.old }
+    ensures { out.new ≡ over at (0x50 ∷ index ∷ state_number state ∷ 0 ∷ []) out.old }
 {
     lend::put(out, at, 0x50);
     lend::put(out, at + 1, index);
-    lend::put(out, at + 2, state);
+    lend::put(out, at + 2, u8::from(state));
     lend::put(out, at + 3, 0);
 }
 
@@ -62,9 +76,9 @@ fn put_length(out: &mut [u8], at: usize, n: usize)
 }
 
 // All before the checksum (R8.4, R8.5).
-fn body(out: &mut [u8], at: usize, id: &[u8], index: u8, state: u8, bytes: &[u8])
+fn body(out: &mut [u8], at: usize, id: &[u8], index: u8, state: PageState, bytes: &[u8])
     requires { (at + summed_size ≤ length out.old) × (length id.now ≡ id_size) × (length bytes.now ≤ most_data) }
-    ensures { out.new ≡ over at (page_body id.now index state bytes.now) out.old }
+    ensures { out.new ≡ over at (page_body id.now index (state_number state) bytes.now) out.old }
 {
     let n = bytes.len();
     front(out, at, index, state);
@@ -75,8 +89,8 @@ fn body(out: &mut [u8], at: usize, id: &[u8], index: u8, state: u8, bytes: &[u8]
 }
 
 // The whole block, where there is one with this id and this data.
-fn write(out: &mut [u8], at: usize, id: &[u8], index: u8, state: u8, bytes: &[u8])
-    ensures { out.new ≡ choose (eqb (length id.now) id_size && leb (length bytes.now) most_data) (over at (sealed (page_body id.now index state bytes.now)) out.old) out.old }
+fn write(out: &mut [u8], at: usize, id: &[u8], index: u8, state: PageState, bytes: &[u8])
+    ensures { out.new ≡ choose (eqb (length id.now) id_size && leb (length bytes.now) most_data) (over at (sealed (page_body id.now index (state_number state) bytes.now)) out.old) out.old }
 {
     if id.len() != wire::ID_SIZE {
         return;
@@ -94,12 +108,15 @@ fn write(out: &mut [u8], at: usize, id: &[u8], index: u8, state: u8, bytes: &[u8
     seal(out, at);
 }
 
+// stays (5): at, id and index go together here and below, but each caller would build a struct for
+// one call.
+//
 // The block of a page that is held with these bytes, from the position on. Nothing changes where
 // there is no such block or no room.
 pub fn hold(out: &mut [u8], at: usize, id: &[u8], index: u8, bytes: &[u8])
     ensures { out.new ≡ with_page at id.now index (held bytes.now) out.old }
 {
-    write(out, at, id, index, HELD, bytes);
+    write(out, at, id, index, PageState::Held, bytes);
 }
 
 // The block of a disputed page, from the position on. Nothing changes where there is no such block
@@ -107,7 +124,7 @@ pub fn hold(out: &mut [u8], at: usize, id: &[u8], index: u8, bytes: &[u8])
 pub fn dispute(out: &mut [u8], at: usize, id: &[u8], index: u8)
     ensures { out.new ≡ with_page at id.now index disputed out.old }
 {
-    write(out, at, id, index, DISPUTED, &id[0..0]);
+    write(out, at, id, index, PageState::Disputed, &id[0..0]);
 }
 
 // The block of an absent page, from the position on. Nothing changes where there is no such block
@@ -115,7 +132,7 @@ pub fn dispute(out: &mut [u8], at: usize, id: &[u8], index: u8)
 pub fn vacate(out: &mut [u8], at: usize, id: &[u8], index: u8)
     ensures { out.new ≡ with_page at id.now index absent out.old }
 {
-    write(out, at, id, index, ABSENT, &id[0..0]);
+    write(out, at, id, index, PageState::Absent, &id[0..0]);
 }
 
 // The block from index at on; no bytes where it is not whole.
@@ -133,38 +150,29 @@ fn block(c: &[u8], at: usize) -> &[u8]
 }
 
 // The state that the block at the position says: any number above 1 counts as 2.
-pub fn state(c: &[u8], at: usize) -> u8
-    ensures { result ≡ state_of (read_slot (block_at at c.now)) }
+pub fn state(c: &[u8], at: usize) -> PageState
+    ensures { state_number result ≡ state_of (read_slot (block_at at c.now)) }
 {
     let b = block(c, at);
     if b.len() < wire::BLOCK_SIZE {
-        return ABSENT;
+        return PageState::Absent;
     }
-    let s = b[2];
-    if s < DISPUTED {
-        return s;
+    match b[2] {
+        0 => PageState::Absent,
+        1 => PageState::Held,
+        _ => PageState::Disputed,
     }
-    DISPUTED
-}
-
-fn wide(b: u8) -> usize
-    ensures { (result ≡ b) × (result < 256) }
-{
-    b as usize
 }
 
 // The data that the block at the position says: none unless it is held.
 pub fn contents(c: &[u8], at: usize) -> &[u8]
     ensures { result.now ≡ data_of (read_slot (block_at at c.now)) }
 {
+    if state(c, at) != PageState::Held {
+        return &c[0..0];
+    }
     let b = block(c, at);
-    if b.len() < wire::BLOCK_SIZE {
-        return &b[0..0];
-    }
-    if b[2] != HELD {
-        return &b[0..0];
-    }
-    let n = wide(b[12]) * 256 + wide(b[13]);
+    let n = usize::from(b[12]) * 256 + usize::from(b[13]);
     if wire::MOST_DATA < n {
         return &b[DATA_AT..DATA_END];
     }
@@ -176,7 +184,7 @@ pub fn contents(c: &[u8], at: usize) -> &[u8]
 pub fn holds(c: &[u8], at: usize, bytes: &[u8]) -> bool
     ensures { result ≡ holding (read_slot (block_at at c.now)) bytes.now }
 {
-    if state(c, at) != HELD {
+    if state(c, at) != PageState::Held {
         return false;
     }
     lend::equal(contents(c, at), bytes)

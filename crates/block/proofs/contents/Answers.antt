@@ -1,16 +1,28 @@
 -- `block::contents` meets its contract: what the length says of the 480 bytes of data, where the
 -- state is 1. Assumes nothing.
-use Rattle.block.proofs.Reading.{data_none, data_other, data_cut, data_whole}
+use native.Mathlib.Omega.{arith}
+use Rattle.block.specs.declared.PageState.TheVariants as page
+use Rattle.block.proofs.States.{ne_yes, ne_no}
+use Rattle.block.proofs.Reading.{held_whole, data_other, data_cut, data_whole}
 use Rattle.block.proofs.contents.Goals as goal
 
-pub returns-then-b-lt-BLOCK_SIZE : goal.returns-then-b-lt-BLOCK_SIZE
-returns-then-b-lt-BLOCK_SIZE c = search data_none
+pub returns-then-ne : goal.returns-then-ne
+returns-then-ne c = data_other _ (ne_yes _ page.Held _ _ c.state.ensures c.ne.ensures c.if-ne.true)
 
-pub returns-then-b-ne-HELD : goal.returns-then-b-ne-HELD
-returns-then-b-ne-HELD c = search data_other
+pub bounds-b-12 : goal.bounds-b-12
+bounds-b-12 c = omega (arith, held_whole _ _ _ c.block-b.ensures (ne_no _ page.Held _ _ c.state.ensures c.ne.ensures c.if-ne.false))
+
+pub bounds-b-13 : goal.bounds-b-13
+bounds-b-13 c = omega (arith, held_whole _ _ _ c.block-b.ensures (ne_no _ page.Held _ _ c.state.ensures c.ne.ensures c.if-ne.false))
+
+pub slice_bounds-result-end-then-n-gt-MOST_DATA : goal.slice_bounds-result-end-then-n-gt-MOST_DATA
+slice_bounds-result-end-then-n-gt-MOST_DATA c = omega (arith, held_whole _ _ _ c.block-b.ensures (ne_no _ page.Held _ _ c.state.ensures c.ne.ensures c.if-ne.false))
+
+pub slice_bounds-result-end-2 : goal.slice_bounds-result-end-2
+slice_bounds-result-end-2 c = omega (arith, held_whole _ _ _ c.block-b.ensures (ne_no _ page.Held _ _ c.state.ensures c.ne.ensures c.if-ne.false))
 
 pub returns-then-n-gt-MOST_DATA : goal.returns-then-n-gt-MOST_DATA
-returns-then-n-gt-MOST_DATA c = search data_cut
+returns-then-n-gt-MOST_DATA c = data_cut _ _ c.block-b.ensures (ne_no _ page.Held _ _ c.state.ensures c.ne.ensures c.if-ne.false) _ _ c.from.ensures c.from-2.ensures c.if-n-gt-MOST_DATA.true
 
 pub returns : goal.returns
-returns c = search data_whole
+returns c = data_whole _ _ c.block-b.ensures (ne_no _ page.Held _ _ c.state.ensures c.ne.ensures c.if-ne.false) _ _ c.from.ensures c.from-2.ensures c.if-n-gt-MOST_DATA.false

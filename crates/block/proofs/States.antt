@@ -1,0 +1,48 @@
+-- Two states compared in code are their numbers compared: for those who read a block and then go by
+-- its state. Assumes nothing.
+use mathlib.Core.Path.{◌≡◌, refl, sym, ◌∙◌}
+use mathlib.Core.Bool.{Bool, true, false, not}
+use Prim.Native.Nat.{ℕ}
+use native.Mathlib.Omega.{arith}
+use borrow.Author.Tests.{not-true, not-false}
+use denote.Enum.Bare.{sameb}
+use Rattle.block.specs.Block.{state_number}
+use Rattle.block.specs.declared.PageState.{PageState}
+use Rattle.block.specs.declared.PageState.TheVariants as page
+use Rattle.block.specs.contracts.PageState.{the_type}
+
+same_yes : (s t : PageState) → sameb the_type s t ≡ true → state_number s ≡ state_number t
+same_yes page.Absent page.Absent e = refl
+same_yes page.Absent page.Held e = cc
+same_yes page.Absent page.Disputed e = cc
+same_yes page.Held page.Absent e = cc
+same_yes page.Held page.Held e = refl
+same_yes page.Held page.Disputed e = cc
+same_yes page.Disputed page.Absent e = cc
+same_yes page.Disputed page.Held e = cc
+same_yes page.Disputed page.Disputed e = refl
+
+same_no : (s t : PageState) → sameb the_type s t ≡ false → state_number s ≡ state_number t → ⊥
+same_no page.Absent page.Absent e n = cc
+same_no page.Absent page.Held e n = omega arith
+same_no page.Absent page.Disputed e n = omega arith
+same_no page.Held page.Absent e n = omega arith
+same_no page.Held page.Held e n = cc
+same_no page.Held page.Disputed e n = omega arith
+same_no page.Disputed page.Absent e n = omega arith
+same_no page.Disputed page.Held e n = omega arith
+same_no page.Disputed page.Disputed e n = cc
+
+-- r is what the code finds of s and t, and n the number of s
+module _ (s t : PageState) (r : Bool) (n : ℕ) (said : state_number s ≡ n) where
+  pub eq_yes : r ≡ sameb the_type s t → r ≡ true → n ≡ state_number t
+  eq_yes e h = sym said ∙ same_yes s t (sym e ∙ h)
+
+  pub eq_no : r ≡ sameb the_type s t → r ≡ false → n ≡ state_number t → ⊥
+  eq_no e h k = same_no s t (sym e ∙ h) (said ∙ k)
+
+  pub ne_yes : r ≡ not (sameb the_type s t) → r ≡ true → n ≡ state_number t → ⊥
+  ne_yes e h k = same_no s t (not-true (sameb the_type s t) (sym e ∙ h)) (said ∙ k)
+
+  pub ne_no : r ≡ not (sameb the_type s t) → r ≡ false → n ≡ state_number t
+  ne_no e h = sym said ∙ same_yes s t (not-false (sameb the_type s t) (sym e ∙ h))
