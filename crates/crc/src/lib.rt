@@ -19,12 +19,12 @@ fn eight_bits(t: &[u32; 256], c: u32) -> u32
 
 // Four bytes. They come into the register together, the first at its low end: one load and one
 // exclusive or in place of four.
-fn word(t: &[u32; 256], c: u32, b0: u8, b1: u8, b2: u8, b3: u8) -> u32
+fn word(t: &[u32; 256], c: u32, b: &[u8; 4]) -> u32
     requires { (k : ℕ) → k < 256 → get_or t.now k 0 ≡ C.bits 8 k }
-    ensures { result ≡ C.byte (C.byte (C.byte (C.byte c b0) b1) b2) b3 }
+    ensures { result ≡ C.through c b.now }
 {
-    let all = ((b3 as u32 * 256 + b2 as u32) * 256 + b1 as u32) * 256 + b0 as u32;
-    eight_bits(t, eight_bits(t, eight_bits(t, eight_bits(t, c ^ all))))
+    let all = c ^ u32::from_le_bytes(*b);
+    eight_bits(t, eight_bits(t, eight_bits(t, eight_bits(t, all))))
 }
 
 // The CRC-32/ISO-HDLC of all of s.
@@ -34,32 +34,19 @@ pub fn crc32(s: &[u8]) -> u32
     // Lent once: where a constant is indexed itself, all of it is copied each time.
     let t = &table::TABLE;
     let mut c: u32 = 0xFFFFFFFF;
-    let mut i = 0;
-    while s.len() - i >= 4 {
-        c = word(t, c, s[i], s[i + 1], s[i + 2], s[i + 3]);
-        i += 4;
+    let (words, rest) = s.as_chunks::<4>();
+    for b in words {
+        c = word(t, c, b);
     }
-    while i < s.len() {
-        c = eight_bits(t, c ^ (s[i] as u32));
-        i += 1;
+    for b in rest {
+        c = eight_bits(t, c ^ u32::from(*b));
     }
     c ^ 0xFFFFFFFF
-}
-
-fn big_endian(n: u32) -> [u8; 4]
-    ensures { result ≡ big_endian 4 n }
-{
-    [
-        (n >> 24) as u8,
-        ((n >> 16) % 256) as u8,
-        ((n >> 8) % 256) as u8,
-        (n % 256) as u8,
-    ]
 }
 
 // The CRC-32/ISO-HDLC of all of s as a frame and a block hold it: four bytes, the highest first.
 pub fn sum(s: &[u8]) -> [u8; 4]
     ensures { result ≡ big_endian 4 (C.crc32 s.now) }
 {
-    big_endian(crc32(s))
+    crc32(s).to_be_bytes()
 }
