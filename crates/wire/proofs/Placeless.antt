@@ -120,6 +120,40 @@ module _ {A : Type 0} where
 
 pub ruleset placeless = (placeless_done, placeless_refused, placeless_choose, placeless_then, no_place_1, no_place_2, no_place_3, no_place_4, no_place_5, no_place_6, no_place_7, no_place_8, no_place_9, no_place_10, no_place_11, no_place_12, no_place_13, no_place_14, no_place_15, no_place_16, no_place_17, no_place_18, no_place_19, no_place_20, no_place_21, no_place_23, no_place_26, no_place_27, no_place_28, no_place_29, no_place_30)
 
+-- ---- a refusal that may have a place: its number has a name all the same
+
+pub record HasName {A : Type 0} (a : Answer A) : Type 0 where
+  pub named : Named a
+
+module _ {A : Type 0} where
+  pub name_at : (why : Refusal) (k : ℕ) → HasName {A = A} (refused_at (number why) k)
+  name_at why k = record { named = (why, refl) }
+
+  pub name_15 : (k : ℕ) → HasName {A = A} (refused_at 15 k)
+  name_15 k = name_at refusal.PageDisputed k
+
+  pub name_16 : (k : ℕ) → HasName {A = A} (refused_at 16 k)
+  name_16 k = name_at refusal.PageMissing k
+
+  pub name_21 : (k : ℕ) → HasName {A = A} (refused_at 21 k)
+  name_21 k = name_at refusal.BadContents k
+
+  pub name_23 : (k : ℕ) → HasName {A = A} (refused_at 23 k)
+  name_23 k = name_at refusal.Mistyped k
+
+  pub name_placeless : (a : Answer A) → Placeless a → HasName a
+  name_placeless a p = record { named = p.named }
+
+  pub name_choose : (t : Bool) (a b : Answer A) → HasName a → HasName b → HasName (choose t a b)
+  name_choose true a b p q = p
+  name_choose false a b p q = q
+
+  pub name_then : {B : Type 0} (g : Answer B) (f : B → Answer A) → HasName g → ((b : B) → HasName (f b)) → HasName (then g f)
+  name_then (done b) f p q = q b
+  name_then (refused_at e place) f p q = record { named = p.named }
+
+pub ruleset names = (placeless, name_15, name_16, name_21, name_23, name_placeless, name_choose, name_then)
+
 -- a refusal without a place is its number
 pub numbered : {A : Type 0} (a : Answer A) (n : ℕ) → Placeless a → n ≡ number_of a → (n ≡ 0 → ⊥) → a ≡ refused n
 numbered (done a) n p e z = absurd (z e)
