@@ -35,19 +35,32 @@ use Rattle.shard.specs.Answer.{shard_told}
 use Rattle.shard.specs.declared.ShardRead.{ShardRead}
 use Rattle.shard.specs.declared.ShardRead.TheVariants as shard-read
 
+-- ---- an answer for each value and each refusal that has a name
+
+pub can_tell : {A : Type 0} (a : Answer A) → Placeless a → (r : Result A Refusal) × (told r ≡ a)
+can_tell (done x) p = (Ok x, refl)
+can_tell (refused_at e place) p = (Err p.named.0, ap₂ refused_at p.named.1 (sym p.none))
+
+pub can_tell_at : {A : Type 0} (a : Answer A) → HasName a → (r : Result A RefusedAt) × (told_at r ≡ a)
+can_tell_at (done x) p = (Ok x, refl)
+can_tell_at (refused_at e place) p = (Err (record { why = p.named.0; place = place }), ap (λ n. refused_at n place) p.named.1)
+
+-- the change's answer is refused where the change is
+kept_placeless : {A : Type 0} (d : Change A) → Placeless d → Placeless (answer_of d)
+kept_placeless (done (x, a)) p = placeless_done a
+kept_placeless (refused_at e place) p = record { none = p.none; named = p.named }
+
+pub can_change : {A : Type 0} (d : Change A) → Placeless d → (r : Result A Refusal) × (told r ≡ answer_of d)
+can_change d p = can_tell (answer_of d) (kept_placeless d p)
+
 -- ---- a reader into lent output, of any length
 
-abbrev fitting : List ℕ → List ℕ → Bool → Change ℕ
-fitting bs out t = demand t 11 (leaves (over 0 bs out) (length bs))
-
-fitted : (bs out : List ℕ) (t : Bool) → (r : Wrote) × Kept (fitting bs out t) out (bytes_after out (fitting bs out t)) (told r)
-fitted bs out true = (O.Done (length bs), record { answer = refl; bytes = refl })
-fitted bs out false = (O.Refused 11, record { answer = refl; bytes = refl })
-
-pub can_answer : (v : Answer (List ℕ)) → Placeless v → (out : List ℕ) → (r : Wrote) × Written 0 v out (bytes_after out (writing 0 out v)) r
+writing_placeless : (at : ℕ) (out : List ℕ) (v : Answer (List ℕ)) → Placeless v → Placeless (writing at out v)
 unfolding writing
-can_answer (refused_at e place) p out = (O.Refused e, record { answer = ap (refused_at e) (sym p.none); bytes = refl })
-can_answer (done bs) p out = fitted bs out (leb (0 + length bs) (length out))
+writing_placeless at out v p = placeless_then v _ p (λ bs. search placeless)
+
+pub can_answer : (v : Answer (List ℕ)) → Placeless v → (out : List ℕ) → (r : Result ℕ Refusal) × Written 0 v out (bytes_after out (writing 0 out v)) r
+can_answer v p out = let r = can_change (writing 0 out v) (writing_placeless 0 out v p) in (r.0, record { answer = r.1; bytes = refl })
 
 -- ---- payloads: an answer for each value and each refusal
 

@@ -8,7 +8,7 @@ use native.Mathlib.Omega.{arith}
 use lib.ListN.{length, take}
 use Rattle.wire.specs.Answer.{Answer, done, refused_at, value_of}
 use Rattle.wire.specs.Over.{over}
-use Rattle.wire.specs.declared.Wrote.TheVariants.{Done}
+use Rattle.std.specs.Prelude.{Ok}
 use Rattle.wire.proofs.Cases.{done_value, value_passed}
 use Rattle.frame.specs.Frame as F
 use Rattle.frame.specs.Layout.{layout}
@@ -92,7 +92,7 @@ module _ (v : Frame) (s out : List ℕ) (e : s ≡ layout v.kind v.id v.index v.
   laying = record {
     lifetimes = ([], ([], ([], tt)));
     args = (v.kind, (slice v.id, (v.index, (v.total, (slice v.contents, (lent out, tt))))));
-    answer = Done (length s);
+    answer = Ok (length s);
     left = (tt, (tt, (tt, (tt, (tt, (over 0 s out, tt))))));
     kept = can_write (done (layout v.kind v.id v.index v.total v.contents)) s out (ap done (sym e)) h;
   }

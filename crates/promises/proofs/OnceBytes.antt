@@ -4,9 +4,7 @@ use mathlib.Core.Path.{refl, sym, ◌∙◌}
 use Rattle.promises.specs.Once.{Once, OnceSeen}
 use Rattle.promises.proofs.Lasts.{here, past}
 use Rattle.wire.proofs.Writes.{kept_once, written_once}
-use Rattle.wire.proofs.Answers.{step_injective, number_injective}
-use Rattle.wire.proofs.StepRead.no as wire-StepRead-no
-use Rattle.wire.proofs.NumberRead.no as wire-NumberRead-no
+use Rattle.wire.proofs.Answers.{step_injective, told_injective, told_at_injective}
 use Rattle.lend.proofs.put as lend-put
 use Rattle.lend.proofs.copy as lend-copy
 use Rattle.lend.proofs.fill as lend-fill
@@ -35,7 +33,6 @@ use Rattle.text.proofs.zbase32_read as text-zbase32-read
 use Rattle.text.proofs.zbase32_write as text-zbase32-write
 use Rattle.text.proofs.zbase32_value as text-zbase32-value
 use Rattle.text.proofs.zbase32_letter as text-zbase32-letter
-use Rattle.typed.proofs.Once.{told_injective, line_told_injective}
 use Rattle.typed.proofs.read as typed-read
 use Rattle.typed.proofs.write as typed-write
 use Rattle.typed.proofs.line as typed-line
@@ -50,12 +47,6 @@ use Rattle.blake2b.proofs.last as blake2b-last
 use Rattle.blake2b.proofs.blake2b as blake2b-blake2b
 use Rattle.document_id.proofs.of_digest as document-id-of-digest
 use Rattle.document_id.proofs.of as document-id-of
-
-pub wire_StepRead_no_once : Once wire-StepRead-no.Kinds.ps wire-StepRead-no.Kinds.r wire-StepRead-no.Reads.Learnt
-wire_StepRead_no_once κs args x y u v p q = (p ∙ sym q, refl)
-
-pub wire_NumberRead_no_once : Once wire-NumberRead-no.Kinds.ps wire-NumberRead-no.Kinds.r wire-NumberRead-no.Reads.Learnt
-wire_NumberRead_no_once κs args x y u v p q = (p ∙ sym q, refl)
 
 pub lend_equal_once : Once lend-equal.Kinds.ps lend-equal.Kinds.r lend-equal.Reads.Learnt
 lend_equal_once κs args x y u v p q = (p ∙ sym q, refl)
@@ -104,7 +95,7 @@ pub digits_hex_read_once : Once digits-hex-read.Kinds.ps digits-hex-read.Kinds.r
 digits_hex_read_once κs args x y u v p q = let e = written_once x y p q in (e.0, past (here e.1))
 
 pub varint_read_once : Once varint-read.Kinds.ps varint-read.Kinds.r varint-read.Reads.Learnt
-varint_read_once κs args x y u v p q = (number_injective x y (p ∙ sym q), refl)
+varint_read_once κs args x y u v p q = (told_injective x y (p ∙ sym q), refl)
 
 pub varint_size_once : Once varint-size.Kinds.ps varint-size.Kinds.r varint-size.Reads.Learnt
 varint_size_once κs args x y u v p q = (p ∙ sym q, refl)
@@ -143,13 +134,13 @@ pub text_zbase32_letter_once : Once text-zbase32-letter.Kinds.ps text-zbase32-le
 text_zbase32_letter_once κs args x y u v p q = (p ∙ sym q, refl)
 
 pub typed_read_once : Once typed-read.Kinds.ps typed-read.Kinds.r typed-read.Reads.Learnt
-typed_read_once κs args x y u v p q = let e = kept_once p q in (told_injective x y e.0, past (here e.1))
+typed_read_once κs args x y u v p q = let e = kept_once p q in (told_at_injective x y e.0, past (here e.1))
 
 pub typed_write_once : Once typed-write.Kinds.ps typed-write.Kinds.r typed-write.Reads.Learnt
 typed_write_once κs args x y u v p q = let e = written_once x y p q in (e.0, past (here e.1))
 
 pub typed_line_once : Once typed-line.Kinds.ps typed-line.Kinds.r typed-line.Reads.Learnt
-typed_line_once κs args x y u v p q = (line_told_injective x y (p ∙ sym q), refl)
+typed_line_once κs args x y u v p q = (told_at_injective x y (p ∙ sym q), refl)
 
 pub typed_skipped_once : Once typed-skipped.Kinds.ps typed-skipped.Kinds.r typed-skipped.Reads.Learnt
 typed_skipped_once κs args x y u v p q = (p ∙ sym q, refl)

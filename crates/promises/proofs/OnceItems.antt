@@ -2,12 +2,10 @@
 use mathlib.Core.Path.{refl, sym, ◌∙◌}
 use Rattle.promises.specs.Once.{Once}
 use Rattle.promises.proofs.Lasts.{here, past}
-use Rattle.wire.proofs.Answers.{step_injective, number_injective}
+use Rattle.wire.proofs.Answers.{step_injective, told_injective}
 use Rattle.wire.proofs.Writes.{written_once}
 use Rattle.cbor.proofs.Answers.{head_injective, string_injective}
 use Rattle.cbor.proofs.Runs.{put_once}
-use Rattle.cbor.proofs.HeadRead.no as cbor-HeadRead-no
-use Rattle.cbor.proofs.StringRead.no as cbor-StringRead-no
 use Rattle.cbor.proofs.float.begins as cbor-float-begins
 use Rattle.cbor.proofs.float.finite as cbor-float-finite
 use Rattle.cbor.proofs.read.byte as cbor-read-byte
@@ -31,12 +29,6 @@ use Rattle.cbor.proofs.write.float_alone as cbor-write-float-alone
 use Rattle.cbor.proofs.write.string_field as cbor-write-string-field
 use Rattle.cbor.proofs.write.number_field as cbor-write-number-field
 
-pub cbor_HeadRead_no_once : Once cbor-HeadRead-no.Kinds.ps cbor-HeadRead-no.Kinds.r cbor-HeadRead-no.Reads.Learnt
-cbor_HeadRead_no_once κs args x y u v p q = (p ∙ sym q, refl)
-
-pub cbor_StringRead_no_once : Once cbor-StringRead-no.Kinds.ps cbor-StringRead-no.Kinds.r cbor-StringRead-no.Reads.Learnt
-cbor_StringRead_no_once κs args x y u v p q = (p ∙ sym q, refl)
-
 pub cbor_float_begins_once : Once cbor-float-begins.Kinds.ps cbor-float-begins.Kinds.r cbor-float-begins.Reads.Learnt
 cbor_float_begins_once κs args x y u v p q = (p ∙ sym q, refl)
 
@@ -44,7 +36,7 @@ pub cbor_float_finite_once : Once cbor-float-finite.Kinds.ps cbor-float-finite.K
 cbor_float_finite_once κs args x y u v p q = (p ∙ sym q, refl)
 
 pub cbor_read_byte_once : Once cbor-read-byte.Kinds.ps cbor-read-byte.Kinds.r cbor-read-byte.Reads.Learnt
-cbor_read_byte_once κs args x y u v p q = (number_injective x y (p ∙ sym q), refl)
+cbor_read_byte_once κs args x y u v p q = (told_injective x y (p ∙ sym q), refl)
 
 pub cbor_read_one_byte_once : Once cbor-read-one-byte.Kinds.ps cbor-read-one-byte.Kinds.r cbor-read-one-byte.Reads.Learnt
 cbor_read_one_byte_once κs args x y u v p q = (step_injective x y (p ∙ sym q), refl)
@@ -53,28 +45,28 @@ pub cbor_read_head_once : Once cbor-read-head.Kinds.ps cbor-read-head.Kinds.r cb
 cbor_read_head_once κs args x y u v p q = (head_injective x y (p ∙ sym q), refl)
 
 pub cbor_read_number_once : Once cbor-read-number.Kinds.ps cbor-read-number.Kinds.r cbor-read-number.Reads.Learnt
-cbor_read_number_once κs args x y u v p q = (number_injective x y (p ∙ sym q), refl)
+cbor_read_number_once κs args x y u v p q = (told_injective x y (p ∙ sym q), refl)
 
 pub cbor_read_contents_once : Once cbor-read-contents.Kinds.ps cbor-read-contents.Kinds.r cbor-read-contents.Reads.Learnt
-cbor_read_contents_once κs args x y u v p q = (string_injective x y (p ∙ sym q), refl)
+cbor_read_contents_once κs args x y u v p q = (told_injective x y (p ∙ sym q), refl)
 
 pub cbor_read_string_once : Once cbor-read-string.Kinds.ps cbor-read-string.Kinds.r cbor-read-string.Reads.Learnt
-cbor_read_string_once κs args x y u v p q = (string_injective x y (p ∙ sym q), refl)
+cbor_read_string_once κs args x y u v p q = (told_injective x y (p ∙ sym q), refl)
 
 pub cbor_read_key_once : Once cbor-read-key.Kinds.ps cbor-read-key.Kinds.r cbor-read-key.Reads.Learnt
 cbor_read_key_once κs args x y u v p q = (step_injective x y (p ∙ sym q), refl)
 
 pub cbor_read_float_once : Once cbor-read-float.Kinds.ps cbor-read-float.Kinds.r cbor-read-float.Reads.Learnt
-cbor_read_float_once κs args x y u v p q = (number_injective x y (p ∙ sym q), refl)
+cbor_read_float_once κs args x y u v p q = (told_injective x y (p ∙ sym q), refl)
 
 pub cbor_read_string_field_once : Once cbor-read-string-field.Kinds.ps cbor-read-string-field.Kinds.r cbor-read-string-field.Reads.Learnt
-cbor_read_string_field_once κs args x y u v p q = (string_injective x y (p ∙ sym q), refl)
+cbor_read_string_field_once κs args x y u v p q = (told_injective x y (p ∙ sym q), refl)
 
 pub cbor_read_number_field_once : Once cbor-read-number-field.Kinds.ps cbor-read-number-field.Kinds.r cbor-read-number-field.Reads.Learnt
-cbor_read_number_field_once κs args x y u v p q = (number_injective x y (p ∙ sym q), refl)
+cbor_read_number_field_once κs args x y u v p q = (told_injective x y (p ∙ sym q), refl)
 
 pub cbor_read_any_field_once : Once cbor-read-any-field.Kinds.ps cbor-read-any-field.Kinds.r cbor-read-any-field.Reads.Learnt
-cbor_read_any_field_once κs args x y u v p q = (number_injective x y (p ∙ sym q), refl)
+cbor_read_any_field_once κs args x y u v p q = (told_injective x y (p ∙ sym q), refl)
 
 pub cbor_write_size_once : Once cbor-write-size.Kinds.ps cbor-write-size.Kinds.r cbor-write-size.Reads.Learnt
 cbor_write_size_once κs args x y u v p q = (p ∙ sym q, refl)

@@ -6,7 +6,6 @@ use Rattle.wire.proofs.Writes.{written_once}
 use Rattle.frame.proofs.Answers as frame
 use Rattle.page.proofs.Answers as page
 use Rattle.frame.proofs.read as frame-read
-use Rattle.frame.proofs.FrameRead.no as frame-FrameRead-no
 use Rattle.frame.proofs.lay as frame-lay
 use Rattle.page.proofs.count as page-count
 use Rattle.page.proofs.write as page-write
@@ -14,9 +13,6 @@ use Rattle.page.proofs.write_base64 as page-write-base64
 use Rattle.page.proofs.write_zbase32 as page-write-zbase32
 use Rattle.payload_frame.proofs.key as payload-frame-key
 use Rattle.payload_frame.proofs.auth as payload-frame-auth
-
-pub frame_FrameRead_no_once : Once frame-FrameRead-no.Kinds.ps frame-FrameRead-no.Kinds.r frame-FrameRead-no.Reads.Learnt
-frame_FrameRead_no_once κs args x y u v p q = (p ∙ sym q, refl)
 
 pub frame_read_once : Once frame-read.Kinds.ps frame-read.Kinds.r frame-read.Reads.Learnt
 frame_read_once κs args x y u v p q = (frame.told_injective x y (p ∙ sym q), refl)

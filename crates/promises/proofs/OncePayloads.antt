@@ -10,16 +10,13 @@ use Rattle.shard.proofs.Answers.{shard_injective}
 use Rattle.entry.proofs.Answers.{file_injective}
 use Rattle.cover.proofs.Answers as cover
 use Rattle.envelope.proofs.Answers as envelope
-use Rattle.auth.proofs.ClaimRead.no as auth-ClaimRead-no
 use Rattle.auth.proofs.claim as auth-claim
 use Rattle.auth.proofs.read as auth-read
 use Rattle.auth.proofs.write as auth-write
 use Rattle.auth.proofs.signed as auth-signed
-use Rattle.shard.proofs.ShardRead.no as shard-ShardRead-no
 use Rattle.shard.proofs.read as shard-read
 use Rattle.shard.proofs.write as shard-write
 use Rattle.shard.proofs.signed as shard-signed
-use Rattle.entry.proofs.FileRead.no as entry-FileRead-no
 use Rattle.entry.proofs.read.integer as entry-read-integer
 use Rattle.entry.proofs.read.file as entry-read-file
 use Rattle.entry.proofs.write.digest as entry-write-digest
@@ -28,14 +25,10 @@ use Rattle.entry.proofs.write.integer as entry-write-integer
 use Rattle.entry.proofs.write.file as entry-write-file
 use Rattle.manifest.proofs.read as manifest-read
 use Rattle.manifest.proofs.write as manifest-write
-use Rattle.cover.proofs.CoverRead.no as cover-CoverRead-no
 use Rattle.cover.proofs.read as cover-read
 use Rattle.cover.proofs.lay as cover-lay
 use Rattle.envelope.proofs.read as envelope-read
 use Rattle.envelope.proofs.write as envelope-write
-
-pub auth_ClaimRead_no_once : Once auth-ClaimRead-no.Kinds.ps auth-ClaimRead-no.Kinds.r auth-ClaimRead-no.Reads.Learnt
-auth_ClaimRead_no_once κs args x y u v p q = (p ∙ sym q, refl)
 
 pub auth_claim_once : Once auth-claim.Kinds.ps auth-claim.Kinds.r auth-claim.Reads.Learnt
 auth_claim_once κs args x y u v p q = (claim_injective x y (p ∙ sym q), refl)
@@ -49,9 +42,6 @@ auth_write_once κs args x y u v p q = let e = written_once x y p q in (e.0, pas
 pub auth_signed_once : Once auth-signed.Kinds.ps auth-signed.Kinds.r auth-signed.Reads.Learnt
 auth_signed_once κs args x y u v p q = let e = written_once x y p q in (e.0, past (past (here e.1)))
 
-pub shard_ShardRead_no_once : Once shard-ShardRead-no.Kinds.ps shard-ShardRead-no.Kinds.r shard-ShardRead-no.Reads.Learnt
-shard_ShardRead_no_once κs args x y u v p q = (p ∙ sym q, refl)
-
 pub shard_read_once : Once shard-read.Kinds.ps shard-read.Kinds.r shard-read.Reads.Learnt
 shard_read_once κs args x y u v p q = (shard_injective x y (p ∙ sym q), refl)
 
@@ -60,9 +50,6 @@ shard_write_once κs args x y u v p q = let e = written_once x y p q in (e.0, pa
 
 pub shard_signed_once : Once shard-signed.Kinds.ps shard-signed.Kinds.r shard-signed.Reads.Learnt
 shard_signed_once κs args x y u v p q = let e = written_once x y p q in (e.0, past3 (past3 (here e.1)))
-
-pub entry_FileRead_no_once : Once entry-FileRead-no.Kinds.ps entry-FileRead-no.Kinds.r entry-FileRead-no.Reads.Learnt
-entry_FileRead_no_once κs args x y u v p q = (p ∙ sym q, refl)
 
 pub entry_read_integer_once : Once entry-read-integer.Kinds.ps entry-read-integer.Kinds.r entry-read-integer.Reads.Learnt
 entry_read_integer_once κs args x y u v p q = (head_injective x y (p ∙ sym q), refl)
@@ -87,9 +74,6 @@ manifest_read_once κs args x y u v p q = (p ∙ sym q, refl)
 
 pub manifest_write_once : Once manifest-write.Kinds.ps manifest-write.Kinds.r manifest-write.Reads.Learnt
 manifest_write_once κs args x y u v p q = let e = written_once x y p q in (e.0, past (past (here e.1)))
-
-pub cover_CoverRead_no_once : Once cover-CoverRead-no.Kinds.ps cover-CoverRead-no.Kinds.r cover-CoverRead-no.Reads.Learnt
-cover_CoverRead_no_once κs args x y u v p q = (p ∙ sym q, refl)
 
 pub cover_read_once : Once cover-read.Kinds.ps cover-read.Kinds.r cover-read.Reads.Learnt
 cover_read_once κs args x y u v p q = (cover.told_injective x y (p ∙ sym q), refl)

@@ -8,12 +8,11 @@ use native.Mathlib.Nat.{min-le_right}
 use lib.ListN.{length, take, drop, length-take, length-drop}
 use Rattle.wire.specs.Answer.{Answer, done, refused_at, Got, value_of}
 use Rattle.wire.specs.Over.{over}
-use Rattle.wire.specs.declared.Wrote.TheVariants.{Done}
+use Rattle.std.specs.Prelude.{Ok}
 use Rattle.wire.proofs.Cases.{then_done, done_value, value_passed}
 use Rattle.cover.specs.Cover.{Cover, cover_of}
 use Rattle.envelope.specs.Envelope.{judged, envelope_at, verdict}
 use Rattle.envelope.specs.Answer.{read_told}
-use Rattle.envelope.specs.declared.EnvelopeWrote.TheVariants as W
 use Rattle.envelope.proofs.Rounds.{Accepted, envelope_back, envelope_only}
 use Rattle.manifest.specs.Manifest.{Listing, manifest_at}
 use Rattle.manifest.specs.Answer.{answer_for, padded}
@@ -77,7 +76,7 @@ module _ (v : Enclosed) (s out : List ℕ) (e : verdict v.manifest v.payload ≡
   enclosing = record {
     lifetimes = ([], ([], ([], tt)));
     args = (slice v.manifest, (slice v.payload, (lent out, tt)));
-    answer = W.Done (length s);
+    answer = Ok (length s);
     left = (tt, (tt, (over 0 s out, tt)));
     kept = can_write (verdict v.manifest v.payload) s out e h;
   }
@@ -136,7 +135,7 @@ module _ (pool : List ℕ) (m : Manifest) (s out : List ℕ) (e : manifest_verdi
   listing = record {
     lifetimes = ([], ([], tt));
     args = (slice pool, (m, (lent out, tt)));
-    answer = Done (length s);
+    answer = Ok (length s);
     left = (tt, (tt, (over 0 s out, tt)));
     kept = can_write (manifest_verdict pool m) s out e h;
   }
@@ -181,7 +180,7 @@ module _ (v : Auth) (s out : List ℕ) (e : AuthForm v s) (h : length s ≤ leng
   signing = record {
     lifetimes = ([], ([], ([], ([], tt))));
     args = (slice v.public, (slice v.sig, (slice v.hash, (lent out, tt))));
-    answer = Done (length s);
+    answer = Ok (length s);
     left = (tt, (tt, (tt, (over 0 s out, tt))));
     kept = can_write (auth_verdict v.public v.sig v.hash) s out e h;
   }
@@ -227,7 +226,7 @@ module _ (v : Share) (s out : List ℕ) (e : ShardForm v s) (h : length s ≤ le
   sharing = record {
     lifetimes = ([], ([], ([], ([], ([], ([], tt))))));
     args = (slice v.signed.public, (slice v.signed.sig, (slice v.signed.hash, (slice v.kind, (slice v.share, (v.len, (v.quorum, (lent out, tt))))))));
-    answer = Done (length s);
+    answer = Ok (length s);
     left = (tt, (tt, (tt, (tt, (tt, (tt, (tt, (over 0 s out, tt))))))));
     kept = can_write (verdict_of v) s out e h;
   }

@@ -9,8 +9,8 @@ use Rattle.wire.specs.Answer.{Answer, done, refused_at, bytes_after, Kept}
 use Rattle.wire.specs.Number.{Bytes}
 use Rattle.wire.specs.Over.{over}
 use Rattle.wire.specs.Writing.{told, writing, Written}
-use Rattle.wire.specs.declared.Wrote.{Wrote}
-use Rattle.wire.specs.declared.Wrote.TheVariants.{Done}
+use Rattle.std.specs.Prelude.{Result, Ok}
+use Rattle.wire.specs.declared.Refusal.{Refusal}
 use Rattle.wire.proofs.Cases.{done_value}
 use Rattle.wire.proofs.Writes.{refused_why}
 use Rattle.wire.proofs.Placeless.{Placeless, placeless}
@@ -44,8 +44,8 @@ module _ (f : Form) (law : Lawful f) (s out x : List ℕ) (h : length s ≤ leng
 module _ (f : Form) (law : Lawful f) (Reader Writer : List ℕ → List ℕ → List ℕ → Answer ℕ → Type 0)
     (reader : (s out x : List ℕ) (a : Answer ℕ) → Reader s out x a → Kept (writing 0 out (read_text f s)) out x a)
     (writer : (s out x : List ℕ) (a : Answer ℕ) → Writer s out x a → Kept (writing 0 out (done (text_of f s))) out x a)
-    (read : (s out x : List ℕ) (r : Wrote) → Written 0 (read_text f s) out x r → Reader s out x (told r))
-    (write : (s out x : List ℕ) (r : Wrote) → Written 0 (done (text_of f s)) out x r → Writer s out x (told r)) where
+    (read : (s out x : List ℕ) (r : Result ℕ Refusal) → Written 0 (read_text f s) out x r → Reader s out x (told r))
+    (write : (s out x : List ℕ) (r : Result ℕ Refusal) → Written 0 (done (text_of f s)) out x r → Writer s out x (told r)) where
   abbrev TextForm : List ℕ → List ℕ → Type 0
   TextForm v s = Bytes v × (s ≡ text_of f v)
 
@@ -64,7 +64,7 @@ module _ (f : Form) (law : Lawful f) (Reader Writer : List ℕ → List ℕ → 
         (u.0, (y, sym (done_value u.1)), u.2);
     write = λ v s (y, e) out h.
         let t : List ℕ = text_of f v in
-        rw e (y, write v out (over 0 t out) (Done (length t)) (can_write (done t) t out refl (rw e at h)));
+        rw e (y, write v out (over 0 t out) (Ok (length t)) (can_write (done t) t out refl (rw e at h)));
   }
 
   texts_exact : Exact (texts f Reader Writer)
