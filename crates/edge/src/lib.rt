@@ -5,8 +5,9 @@
 // A call that a signal interrupts before it moves a byte counts as one that failed.
 #![tactic(auto)]
 
-ghost use Rattle.std.specs.Io.{ReadsAtMost};
-ghost use Rattle.io.specs.Counts.{IsPrefixLen};
+ghost use Rattle.edge.specs.Status.{digit};
+ghost use Rattle.std.specs.Prelude.{◌≡◌};
+ghost use Rattle.std.specs.Io.{ReadsAtMost, WritesAtMost};
 
 mod words;
 
@@ -28,46 +29,34 @@ const OUTPUT_PATH: &str = "/proc/self/fd/1";
 
 // ---- the words of the command
 
-// A word of the command: how many bytes of it stand in the buffer. A word that there is no room for
-// is long: it counts as none, and only its first bytes are there. One that is missing counts as
-// none too.
-#[derive(Clone, Copy)]
-pub struct Word {
-    pub len: usize,
-    pub long: bool,
-}
-
-// The word with this index, at the start of the buffer.
-pub fn arg(rt: HostRuntime, i: usize, buffer: &mut [u8]) -> Word
-    ensures { IsPrefixLen result.len buffer.new }
+// The word with this index, at the start of the buffer, and how many bytes it has. Of one that has no
+// room only the first bytes are there.
+pub fn arg(rt: HostRuntime, i: usize, buffer: &mut [u8]) -> Result<usize, FillError>
+    ensures { WritesAtMost result buffer.new }
 {
-    match rt.arg(i, buffer) {
-        Ok(len) => Word { len, long: false },
-        Err(FillError::TooLong) => Word { len: 0, long: true },
-        Err(FillError::NotPresent) => Word {
-            len: 0,
-            long: false,
-        },
-    }
+    rt.arg(i, buffer)
 }
 
 // Whether there is a word with this index.
 fn is_given(rt: HostRuntime, i: usize) -> bool {
     let mut first = [0u8; 1];
-    match rt.arg(i, &mut first) {
-        Err(FillError::NotPresent) => false,
-        _ => true,
-    }
+    !matches!(rt.arg(i, &mut first), Err(FillError::NotPresent))
 }
 
 // How many words the program was started with, its own name among them.
 pub fn arg_count(rt: HostRuntime) -> usize {
-    for i in 0..usize::MAX {
-        if !is_given(rt, i) {
-            return i;
-        }
+    (0..usize::MAX)
+        .find(|&i| !is_given(rt, i))
+        .unwrap_or(usize::MAX)
+}
+
+// Whether the first word asks for a status on descriptor 3.
+pub fn asks_status(rt: HostRuntime) -> bool {
+    let mut word = [0u8; 16];
+    match rt.arg(1, &mut word) {
+        Ok(len) => word[..len] == b"--status-3"[..],
+        Err(_) => false,
     }
-    usize::MAX
 }
 
 // ---- standard input
@@ -80,6 +69,28 @@ pub fn read(rt: HostRuntime, buffer: &mut [u8]) -> Result<usize, Error>
     rt.stdin().read(buffer)
 }
 
+// Reads to the end, or until the buffer is full, and answers how many bytes came: all of them where
+// the buffer is not full. (How far a turn comes, the read says, so it is no `for`.)
+pub fn fill<R: Read>(from: &mut R, buffer: &mut [u8]) -> Result<usize, Error>
+    ensures { ReadsAtMost result buffer.new }
+{
+    let mut len = 0;
+    while len < buffer.len() {
+        match from.read(&mut buffer[len..])? {
+            0 => return Ok(len),
+            n => len += n,
+        }
+    }
+    Ok(len)
+}
+
+// Reads standard input so.
+pub fn read_all(rt: HostRuntime, buffer: &mut [u8]) -> Result<usize, Error>
+    ensures { ReadsAtMost result buffer.new }
+{
+    fill(&mut rt.stdin(), buffer)
+}
+
 // Whether a person types the input.
 pub fn input_is_terminal(rt: HostRuntime) -> bool {
     rt.stdin().is_terminal()
@@ -87,49 +98,44 @@ pub fn input_is_terminal(rt: HostRuntime) -> bool {
 
 // How large standard input is where it is a file or a disk, and else 0.
 pub fn input_size(rt: HostRuntime) -> u64 {
-    match fs::metadata(&rt, INPUT_PATH) {
-        Ok(found) => {
-            if found.is_file() {
-                return found.len();
-            }
-            if found.file_type().is_block_device() {
-                return disk_size(rt);
-            }
-            0
-        }
-        Err(_) => 0,
+    found_size(rt).unwrap_or(0)
+}
+
+fn found_size(rt: HostRuntime) -> Result<u64, Error> {
+    let found = fs::metadata(&rt, INPUT_PATH)?;
+    if found.is_file() {
+        return Ok(found.len());
     }
+    if found.file_type().is_block_device() {
+        return disk_size(rt);
+    }
+    Ok(0)
 }
 
 // A disk has no size of its own in its metadata: it is where its end is.
-fn disk_size(rt: HostRuntime) -> u64 {
-    match File::open(&rt, INPUT_PATH) {
-        Ok(disk) => {
-            let mut disk = disk;
-            match disk.seek(SeekFrom::End(0)) {
-                Ok(end) => end,
-                Err(_) => 0,
-            }
-        }
-        Err(_) => 0,
-    }
+fn disk_size(rt: HostRuntime) -> Result<u64, Error> {
+    File::open(&rt, INPUT_PATH)?.seek(SeekFrom::End(0))
 }
 
 // ---- standard output
 
 // Writes all of the bytes, or stops at the first write that takes nothing or fails, when some of
-// them may have been written. Of no bytes it makes no call.
-pub fn print(rt: HostRuntime, bytes: &[u8]) -> Result<(), Error> {
-    let out = rt.stdout();
-    let mut done = 0;
-    while done < bytes.len() {
-        let n = out.write_some(&bytes[done..])?;
-        if n < 1 {
-            return Err(Error::from(ErrorKind::WriteZero));
+// them may have been written. Of no bytes it makes no call. (The `write_all` of std tries a write
+// that a signal interrupted again.)
+fn write<P: Print>(to: &P, bytes: &[u8]) -> Result<(), Error> {
+    let mut rest = bytes;
+    while !rest.is_empty() {
+        match to.write_some(rest)? {
+            0 => return Err(Error::from(ErrorKind::WriteZero)),
+            n => rest = &rest[n..],
         }
-        done += n;
     }
     Ok(())
+}
+
+// Writes all of the bytes, as `write` does.
+pub fn print(rt: HostRuntime, bytes: &[u8]) -> Result<(), Error> {
+    write(&rt.stdout(), bytes)
 }
 
 // Whether what was printed has reached its file. A write can also fail late, when the system hands
@@ -143,47 +149,49 @@ pub fn finish_output(rt: HostRuntime) -> Result<(), Error> {
     let out = rt.stdout();
     out.as_fd().try_clone_to_owned()?;
     match fs::metadata(&rt, OUTPUT_PATH) {
-        Ok(found) => {
-            if found.is_file() {
-                return sync(rt);
-            }
-            Ok(())
-        }
-        Err(_) => Ok(()),
+        Ok(found) if found.is_file() => sync(rt),
+        _ => Ok(()),
     }
 }
 
 // EINVAL is a file of a kind that takes no sync.
 fn sync(rt: HostRuntime) -> Result<(), Error> {
-    match File::options().write(true).open(&rt, OUTPUT_PATH) {
-        Ok(file) => match file.sync_all() {
-            Err(error) => {
-                if error.kind() == ErrorKind::InvalidInput {
-                    return Ok(());
-                }
-                Err(error)
-            }
-            Ok(()) => Ok(()),
-        },
-        Err(_) => Ok(()),
+    let Ok(file) = File::options().write(true).open(&rt, OUTPUT_PATH) else {
+        return Ok(());
+    };
+    match file.sync_all() {
+        Err(error) if error.kind() == ErrorKind::InvalidInput => Ok(()),
+        synced => synced,
     }
+}
+
+// Writes all of the bytes, and asks whether they reached their file.
+pub fn deliver(rt: HostRuntime, bytes: &[u8]) -> Result<(), Error> {
+    print(rt, bytes)?;
+    finish_output(rt)
 }
 
 // ---- standard error
 
 // Tells a person. Where that fails there is nobody to tell it to.
 pub fn tell(rt: HostRuntime, bytes: &[u8]) {
-    let err = rt.stderr();
-    let mut done = 0;
-    while done < bytes.len() {
-        let n = match err.write_some(&bytes[done..]) {
-            Ok(n) => n,
-            Err(_) => 0,
-        };
-        if n < 1 {
-            return;
+    let _told = write(&rt.stderr(), bytes);
+}
+
+// Tells the word with this index, as `plain` leaves it; of one that there is no room for the first
+// bytes, and three dots.
+pub fn tell_word<F: FnOnce(&mut [u8])>(rt: HostRuntime, i: usize, word: &mut [u8], plain: F)
+    requires { F.IsAlwaysCallable plain }
+{
+    let given = arg(rt, i, word);
+    plain(word);
+    match given {
+        Ok(len) => tell(rt, &word[..len]),
+        Err(FillError::TooLong) => {
+            tell(rt, word);
+            tell(rt, b"...");
         }
-        done += n;
+        Err(FillError::NotPresent) => {}
     }
 }
 
@@ -204,6 +212,27 @@ pub fn fail(rt: HostRuntime, what: &[u8], error: Error) {
 }
 
 // ---- the status
+
+// What a program came to: done, failed, or asked for by a wrong word.
+#[derive(Clone, Copy, Debug, PartialEq, Eq)]
+pub enum Status {
+    Done,
+    Failed,
+    Wrong,
+}
+
+// The digit of a status.
+impl From<Status> for u8 {
+    ghost from_gives = { λ status n. n ≡ digit status };
+
+    fn from(status: Status) -> u8 {
+        match status {
+            Status::Done => b'0',
+            Status::Failed => b'1',
+            Status::Wrong => b'2',
+        }
+    }
+}
 
 // Tells a status, one digit, on descriptor 3. Where nothing stands open there, nothing is told.
 pub fn tell_status(digit: u8) {

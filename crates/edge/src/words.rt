@@ -1,6 +1,4 @@
 // The system's words for an error, as `perror` has them.
-ghost use Rattle.std.specs.Prelude.{◌≤◌};
-
 use std::fmt;
 use std::fmt::Write;
 use std::io::Error;
@@ -40,21 +38,10 @@ impl Words {
     // Without what std puts behind the words: a blank, and the number in brackets. The system's own
     // words have no bracket.
     pub(crate) fn text(&self) -> &[u8] {
-        &self.bytes[..end(&self.bytes, self.len)]
-    }
-}
-
-// The index of the first blank that a bracket follows, or the length where there is none.
-fn end(bytes: &[u8; 128], len: usize) -> usize
-    ensures { result ≤ 128 }
-{
-    for (i, b) in bytes.iter().enumerate() {
-        if len <= i {
-            return i;
-        }
-        if *b == b'(' && 0 < i {
-            return i - 1;
+        let all = &self.bytes[..self.len.min(ROOM)];
+        match all.iter().skip(1).position(|&b| b == b'(') {
+            Some(n) => &all[..n],
+            None => all,
         }
     }
-    ROOM
 }

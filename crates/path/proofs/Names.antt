@@ -1,22 +1,23 @@
--- A text is its parts joined by slashes; which parts are names; and how a loop over a text's bytes
--- comes to know its parts. Assumes nothing.
+-- A text is its parts joined by slashes; which parts are names; and that the library's `split`
+-- finds its parts. Assumes nothing.
 use mathlib.Core.Path.{◌≡◌, refl, sym, ap, ◌∙◌}
 use mathlib.Core.Logic.{◌⊎◌, inl, inr}
-use mathlib.Core.Bool.{Bool, true, false, not, ◌&&◌}
+use mathlib.Core.Bool.{Bool, true, false, not, ◌&&◌, false≢true}
 use mathlib.Core.List.{List, [], ◌∷◌, ◌++◌, append-nil}
-use Prim.Native.Nat.{ℕ, suc, ◌+◌, ◌-◌, ◌≤◌, ◌<◌}
-use native.Mathlib.Numerals.{add-one}
+use Prim.Native.Nat.{ℕ, ◌<◌}
 use native.Mathlib.Omega.{arith}
 use lib.Dec.{eqb}
-use lib.ListN.{length, take, drop, get_or, length-drop}
-use lib.Seq.{drop-cons, drop-length, take-suc, get_or-drop, append_snoc}
-use borrow.Author.Tests.{eq-eqb, ne_eqb, eqb-false, not-true, not-false}
+use lib.ListN.{length}
+use lib.Seq.{append_snoc}
+use borrow.Author.Tests.{eq-eqb, ne_eqb, eqb-true, eqb-false, not-true}
+use Rattle.std.specs.List.{list_all, slice_split, onto_first}
+use Rattle.std.proofs.lemmas.List.Splits.{length-slice_split}
 use Rattle.wire.proofs.Cases.{both_hold, eq_or_ne}
 use Rattle.lend.specs.Same.{same}
-use Rattle.lend.proofs.Sames.{same_lengths}
+use lib.Pointwise.{pointwise}
+use Rattle.std.specs.Bool.{◌==◌}
 use Rattle.wire.specs.Every.{every, without}
 use Rattle.path.specs.Names.{slash, here, above, parts_after, parts, slashed, is_name}
-use Rattle.wire.proofs.Both.{and_true}
 
 -- ---- the part at hand
 
@@ -95,74 +96,74 @@ parts_joined p (q ∷ ps) e =
     let k = both_hold (without slash p) (every (without slash) (q ∷ ps)) e in
     parts_append p (slashed (q ∷ ps)) ∙ rw (part_whole [] p k.0, parts_joined q ps k.1)
 
--- ---- which parts are names, by their length and their first two bytes
+-- ---- which parts are names, by the `==` of slices
+
+same_is_equal : (xs ys : List ℕ) → same xs ys ≡ pointwise eqb xs ys
+unfolding same
+same_is_equal [] [] = refl
+same_is_equal [] (y ∷ ys) = refl
+same_is_equal (x ∷ xs) [] = refl
+same_is_equal (x ∷ xs) (y ∷ ys) = ap (λ (b : Bool). eqb x y && b) (same_is_equal xs ys)
 
 pub name_empty : (p : List ℕ) → length p ≡ 0 → is_name p ≡ false
 unfolding is_name same
 name_empty [] h = refl
 name_empty (a ∷ p) h = absurd (omega arith)
 
-pub name_long : (p : List ℕ) → 2 < length p → is_name p ≡ true
-unfolding is_name
-name_long p h = rw (same_lengths p [] (λ e. omega arith), same_lengths p here (λ e. omega arith), same_lengths p above (λ e. omega arith))
+pub name_nothing : (p : List ℕ) → true ≡ (length p == 0) → false ≡ is_name p
+name_nothing p h = sym (name_empty p (eqb-true (length p) 0 (sym h)))
 
-pub name_other : (p : List ℕ) → 0 < length p → (get_or p 0 0 ≡ 0x2E → ⊥) → is_name p ≡ true
+name_some : (p : List ℕ) → false ≡ (length p == 0) → is_name p ≡ (not (pointwise eqb p here) && not (pointwise eqb p above))
 unfolding is_name same
-name_other [] h n = absurd (omega arith)
-name_other (a ∷ p) h n = rw (ne_eqb a 0x2E n)
+name_some [] h = absurd (false≢true h)
+name_some (a ∷ p) h = rw (same_is_equal (a ∷ p) here, same_is_equal (a ∷ p) above)
 
-pub name_dot : (p : List ℕ) → length p ≡ 1 → get_or p 0 0 ≡ 0x2E → is_name p ≡ false
-unfolding is_name same
-name_dot [] h e = absurd (omega arith)
-name_dot (a ∷ []) h e = rw (eq-eqb a 0x2E e)
-name_dot (a ∷ b ∷ p) h e = absurd (omega arith)
+-- the tests one after another: l is `here` and m is `above`
+module _ (p l : List ℕ) (v r : Bool) (some : false ≡ (length p == 0)) (e : l ≡ here) (f : r ≡ not (pointwise eqb p l)) (g : v ≡ r) where
+  first : is_name p ≡ (v && not (pointwise eqb p above))
+  first = rw (g, f, e) (name_some p some)
 
-pub name_two : (p : List ℕ) → length p ≡ 2 → get_or p 0 0 ≡ 0x2E → is_name p ≡ not (eqb (get_or p 1 0) 0x2E)
-unfolding is_name same
-name_two [] h e = absurd (omega arith)
-name_two (a ∷ []) h e = absurd (omega arith)
-name_two (a ∷ b ∷ []) h e = rw (eq-eqb a 0x2E e, and_true (eqb b 0x2E))
-name_two (a ∷ b ∷ c ∷ p) h e = absurd (omega arith)
+  pub name_here : v ≡ false → v ≡ is_name p
+  name_here n = n ∙ sym (first ∙ rw n)
 
--- ---- a loop over the bytes: the part at hand began at index from, and the bytes before index to
--- were read. `whole` is the answer for the whole text, as the invariant knows it, and r what
--- `is_name` said of the part at hand
+  pub name_above : (m : List ℕ) (z : Bool) → v ≡ true → m ≡ above → z ≡ not (pointwise eqb p m) → z ≡ is_name p
+  name_above m z n i j = rw (j, i) (sym (first ∙ rw n))
 
-module _ (s : List ℕ) (from to : ℕ) where
-  abbrev at_hand : List ℕ
-  at_hand = take (to - from) (drop from s)
+-- ---- the library cuts a text at its slashes into its parts
 
-  next : to < length s → drop to s ≡ get_or s to 0 ∷ drop (to + 1) s
-  next h = rw (add-one, drop-cons s to 0 h)
+-- p before the first of them
+onto : List ℕ → List (List ℕ) → List (List ℕ)
+onto p [] = []
+onto p (q ∷ qs) = (p ++ q) ∷ qs
 
-  longer : from ≤ to → to < length s → take (to + 1 - from) (drop from s) ≡ at_hand ++ (get_or s to 0 ∷ [])
-  longer m h =
-      let j : to + 1 - from ≡ suc (to - from) = omega arith in
-      let k : from + (to - from) ≡ to = omega arith in
-      let l : to - from < length (drop from s) = omega (arith, length-drop from s) in
-      let e : get_or (drop from s) (to - from) 0 ≡ get_or s to 0 = get_or-drop from s (to - from) 0 ∙ ap (λ (x : ℕ). get_or s x 0) k in
-      rw (j, take-suc (drop from s) (to - from) 0 l, e)
+onto_nothing : (qs : List (List ℕ)) → onto [] qs ≡ qs
+unfolding onto
+onto_nothing [] = refl
+onto_nothing (q ∷ qs) = refl
 
-  module _ (whole : Bool) (x : whole ≡ every is_name (parts_after at_hand (drop to s))) where
-    module _ (h : to < length s) (r : Bool) (d : r ≡ is_name at_hand) (e : get_or s to 0 ≡ slash) where
-      ends : whole ≡ (r && every is_name (parts (drop (to + 1) s)))
-      unfolding every
-      ends = x ∙ rw (next h, d) (ap (every is_name) (part_ends at_hand (get_or s to 0) (drop (to + 1) s) e))
+onto_grown : (p : List ℕ) (b : ℕ) (qs : List (List ℕ)) → 0 < length qs → onto (p ++ (b ∷ [])) qs ≡ onto p (onto_first b qs)
+unfolding onto
+onto_grown p b [] h = absurd (omega arith)
+onto_grown p b (q ∷ qs) h = ap (λ (l : List ℕ). l ∷ qs) (append_snoc p b q)
 
-      pub names_stop : not r ≡ true → false ≡ whole
-      names_stop n = sym (ends ∙ rw (not-true r n))
+cut_parts : (p s : List ℕ) → parts_after p s ≡ onto p (slice_split (λ b. eqb b slash) s)
+unfolding parts_after onto
+cut_parts p [] = rw (append-nil p)
+cut_parts p (b ∷ s) = go (eq_or_ne b slash) (cut_parts [] s) (cut_parts (p ++ (b ∷ [])) s)
+  where
+    cut : List (List ℕ)
+    cut = slice_split (λ b. eqb b slash) s
 
-      pub names_on : not r ≡ false → whole ≡ every is_name (parts_after (take (to + 1 - (to + 1)) (drop (to + 1) s)) (drop (to + 1) s))
-      names_on n =
-          let z : to + 1 - (to + 1) ≡ 0 = omega arith in
-          ends ∙ rw (not-false r n, z)
+    go : (b ≡ slash) ⊎ (b ≡ slash → ⊥) → parts s ≡ onto [] cut → parts_after (p ++ (b ∷ [])) s ≡ onto (p ++ (b ∷ [])) cut
+        → parts_after p (b ∷ s) ≡ onto p (slice_split (λ b. eqb b slash) (b ∷ s))
+    go (inl e) x y = part_ends p b s e ∙ rw (eq-eqb b slash e, append-nil p) (ap (λ (l : List (List ℕ)). p ∷ l) (x ∙ onto_nothing cut))
+    go (inr n) x y = part_grows p b s n ∙ y ∙ rw (ne_eqb b slash n) (onto_grown p b cut (omega (arith, length-slice_split (λ b. eqb b slash) s)))
 
-    pub names_within : from ≤ to → to < length s → (get_or s to 0 ≡ slash → ⊥)
-        → whole ≡ every is_name (parts_after (take (to + 1 - from) (drop from s)) (drop (to + 1) s))
-    names_within m h n = x ∙ rw (longer m h, next h) (ap (every is_name) (part_grows at_hand (get_or s to 0) (drop (to + 1) s) n))
+pub cut_is_parts : (s : List ℕ) → slice_split (λ b. eqb b slash) s ≡ parts s
+cut_is_parts s = sym (cut_parts [] s ∙ onto_nothing _)
 
-    pub names_last : (r : Bool) → r ≡ is_name (take (length s - from) (drop from s)) → to ≤ length s → length s ≤ to → r ≡ whole
-    unfolding every parts_after
-    names_last r d m h =
-        let e : to ≡ length s = omega arith in
-        d ∙ sym (x ∙ rw (e, drop-length s, and_true (is_name (take (length s - from) (drop from s)))))
+-- `all` of the library is `every`
+pub all_every : {A : Type 0} (test : A → Bool) (xs : List A) → list_all test xs ≡ every test xs
+unfolding every
+all_every test [] = refl
+all_every test (x ∷ xs) = ap (λ (b : Bool). test x && b) (all_every test xs)

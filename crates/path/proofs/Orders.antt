@@ -1,15 +1,17 @@
--- `below` is a strict total order of lists, and how a loop comes to know it. Assumes nothing.
+-- `below` is a strict total order of lists, and the `<` of slices. Assumes nothing.
 use mathlib.Core.Path.{◌≡◌, refl, sym, ap₂, ◌∙◌}
 use mathlib.Core.Logic.{◌⊎◌, inl, inr}
-use mathlib.Core.Bool.{true, false, false≢true}
+use mathlib.Core.Bool.{Bool, true, false, false≢true}
 use mathlib.Core.List.{List, [], ◌∷◌, ◌++◌}
-use Prim.Native.Nat.{ℕ, ◌+◌, ◌≤◌, ◌<◌}
-use native.Mathlib.Numerals.{add-one}
+use Prim.Native.Nat.{ℕ, ◌≤◌, ◌<◌}
 use native.Mathlib.Omega.{arith}
 use lib.Dec.{ltb}
-use lib.ListN.{length, drop, get_or, drop_of_length-le}
-use lib.Seq.{drop-cons}
 use borrow.Author.Tests.{lt-ltb, le-ltb, eq-eqb, ne_eqb}
+use Rattle.std.specs.Prelude.{Some}
+use Rattle.std.specs.Ordering.{is_some_and, is_lt, nat_cmp}
+use Rattle.std.specs.Cmp.Lexicographic.{slice_partial_cmp}
+use Rattle.std.proofs.lemmas.Bool.Decides.{nat_tests}
+use Rattle.std.proofs.lemmas.Cmp.{same_from_slice_cmp_tested}
 use Rattle.wire.proofs.Cases.{lt_or_le}
 use Rattle.path.specs.Order.{below}
 
@@ -104,23 +106,8 @@ below_total (x ∷ xs) (y ∷ ys) = go (compared x y) (below_total xs ys)
     go (same h) (inr (inl k)) = inr (inl (ap₂ (λ (z : ℕ) (zs : List ℕ). z ∷ zs) h k))
     go (same h) (inr (inr k)) = inr (inr (below_same y x ys xs (sym h) ∙ k))
 
--- ---- a turn of a loop that compares, and its ends: what is left behind i decides
+-- ---- `<` of the library's slices is this order
 
-module _ (a b : List ℕ) (i : ℕ) (left : below a b ≡ below (drop i a) (drop i b)) where
-  pub below_step : i < length a → i < length b → get_or a i 0 ≡ get_or b i 0 → below a b ≡ below (drop (i + 1) a) (drop (i + 1) b)
-  below_step h k e = left ∙ rw (add-one, drop-cons a i 0 h, drop-cons b i 0 k) (below_same _ _ _ _ e)
-
-  pub below_stop : i < length a → i < length b → (get_or a i 0 ≡ get_or b i 0 → ⊥) → ltb (get_or a i 0) (get_or b i 0) ≡ below a b
-  below_stop h k e = sym (left ∙ rw (drop-cons a i 0 h, drop-cons b i 0 k) (below_differ _ _ _ _ e))
-
-  pub below_outlasts : i < length a → length b ≤ i → false ≡ below a b
-  unfolding below
-  below_outlasts h k = sym (left ∙ rw (drop-cons a i 0 h, drop_of_length-le b {i = i} k))
-
-  pub below_end : length a ≤ i → ltb i (length b) ≡ below a b
-  unfolding below
-  below_end h = sym (left ∙ rw (drop_of_length-le a {i = i} h) (go (lt_or_le i (length b))))
-    where
-      go : (i < length b) ⊎ (length b ≤ i) → below [] (drop i b) ≡ ltb i (length b)
-      go (inl k) = rw (drop-cons b i 0 k, lt-ltb i (length b) k)
-      go (inr k) = rw (drop_of_length-le b {i = i} k, le-ltb i (length b) k)
+pub less_is_below : (xs ys : List ℕ) (r : Bool) → r ≡ is_some_and is_lt (slice_partial_cmp (λ x y. Some (nat_cmp x y)) xs ys) → r ≡ below xs ys
+unfolding below
+less_is_below = same_from_slice_cmp_tested nat_cmp is_lt below refl (λ y ys. refl) (λ x xs. refl) (λ x y xs ys o e. grind (arith, nat_tests))

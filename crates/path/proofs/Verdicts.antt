@@ -1,16 +1,28 @@
 -- What the tests of `path::allowed` say of the rule, one law for each return; r, p, n and z are
 -- what its calls answered. Assumes nothing.
-use mathlib.Core.Path.{◌≡◌}
-use mathlib.Core.Bool.{Bool, true, false, not}
-use mathlib.Core.List.{List}
+use mathlib.Core.Path.{◌≡◌, refl, ap, ◌∙◌}
+use mathlib.Core.Bool.{Bool, true, false, not, ◌&&◌, ◌||◌}
+use mathlib.Core.List.{List, [], ◌∷◌}
 use Prim.Native.Nat.{ℕ, ◌≤◌, ◌<◌}
+use lib.Dec.{eqb}
 use lib.ListN.{length}
+use Rattle.std.specs.List.{list_any}
 use borrow.Author.Tests.{le-leb, lt-leb}
-use Rattle.wire.proofs.Cases.{said_yes, said_no}
+use Rattle.wire.proofs.Cases.{said_no}
 use Rattle.wire.specs.Every.{every, without}
 use Rattle.path.specs.Names.{parts, is_name}
 use Rattle.path.specs.Path.{path_most, plain_text, path_allowed}
 use Rattle.wire.proofs.Both.{tests}
+
+-- `contains` of the library finds what `without` rules out
+none_any : (n : ℕ) (s : List ℕ) → not (list_any (λ y. eqb y n) s) ≡ without n s
+unfolding every
+none_any n [] = refl
+none_any n (x ∷ s) = go (eqb x n) (none_any n s)
+  where
+    go : (t : Bool) → not (list_any (λ y. eqb y n) s) ≡ without n s → not (t || list_any (λ y. eqb y n) s) ≡ (not t && without n s)
+    go true e = refl
+    go false e = e
 
 module _ (s : List ℕ) where
   pub too_long : path_most < length s → false ≡ path_allowed s
@@ -30,7 +42,7 @@ module _ (s : List ℕ) where
       search tests
 
   -- where the other tests have passed byte 00 decides
-  pub zero_decides : (p n z : Bool) → length s ≤ path_most → p ≡ plain_text s → not p ≡ false → n ≡ every is_name (parts s) → not n ≡ false
-      → z ≡ without 0 s → z ≡ path_allowed s
+  pub zero_decides : (z : Bool) → length s ≤ path_most → true ≡ plain_text s → true ≡ every is_name (parts s)
+      → z ≡ list_any (λ y. eqb y 0) s → not z ≡ path_allowed s
   unfolding path_allowed
-  zero_decides p n z h e i f j g = rw (le-leb (length s) path_most h, said_yes p (plain_text s) e i, said_yes n (every is_name (parts s)) f j) g
+  zero_decides z h e f g = rw (le-leb (length s) path_most h, ← e, ← f) (ap not g ∙ none_any 0 s)

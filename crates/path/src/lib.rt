@@ -94,51 +94,14 @@ fn plain(s: &[u8]) -> bool
 fn is_name(p: &[u8]) -> bool
     ensures { result ≡ is_name p.now }
 {
-    if 2 < p.len() {
-        return true;
-    }
-    if p.len() == 0 {
-        return false;
-    }
-    if p[0] != b'.' {
-        return true;
-    }
-    if p.len() == 1 {
-        return false;
-    }
-    p[1] != b'.'
+    !p.is_empty() && p != b".".as_slice() && p != b"..".as_slice()
 }
 
 // Whether each part of s is a name.
 fn are_names(s: &[u8]) -> bool
     ensures { result ≡ every is_name (parts s.now) }
 {
-    let mut from = 0;
-    let mut to = 0;
-    while to < s.len() {
-        if s[to] == b'/' {
-            if !is_name(&s[from..to]) {
-                return false;
-            }
-            from = to + 1;
-        }
-        to += 1;
-    }
-    is_name(&s[from..])
-}
-
-// Whether byte b is nowhere in s.
-fn lacks(s: &[u8], b: u8) -> bool
-    ensures { result ≡ without b s.now }
-{
-    let mut at = 0;
-    while at < s.len() {
-        if s[at] == b {
-            return false;
-        }
-        at += 1;
-    }
-    true
+    s.split(|b| *b == b'/').all(is_name)
 }
 
 // True exactly for a path that a manifest may name: 1 to 200 bytes of UTF-8 below U+0300, none of
@@ -155,22 +118,12 @@ pub fn allowed(s: &[u8]) -> bool
     if !are_names(s) {
         return false;
     }
-    lacks(s, 0)
+    !s.contains(&0)
 }
 
 // True exactly where a is strictly below b by bytes, so that b may follow a in a manifest.
 pub fn ascends(a: &[u8], b: &[u8]) -> bool
     ensures { result ≡ below a.now b.now }
 {
-    let mut i = 0;
-    while i < a.len() {
-        if b.len() <= i {
-            return false;
-        }
-        if a[i] != b[i] {
-            return a[i] < b[i];
-        }
-        i += 1;
-    }
-    i < b.len()
+    a < b
 }

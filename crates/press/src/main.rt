@@ -8,7 +8,6 @@ ghost use Rattle.std.specs.Prelude.{◌≤◌};
 mod told;
 mod words;
 
-use std::io::Error;
 use wire::Wrote;
 use words::{Order, Task};
 
@@ -21,19 +20,6 @@ const DONE: u8 = b'0';
 const FAILED: u8 = b'1';
 
 const WRONG: u8 = b'2';
-
-// Reads to the end of the input, or until the buffer is full, and answers how many bytes came.
-fn take_all(rt: HostRuntime, input: &mut [u8]) -> Result<usize, Error> {
-    let mut len = 0;
-    while len < input.len() {
-        let n = edge::read(rt, &mut input[len..])?;
-        if n < 1 {
-            return Ok(len);
-        }
-        len += n;
-    }
-    Ok(len)
-}
 
 // How many bytes show that pages of this size are too many (R15.8), of so many that there is room
 // for.
@@ -107,7 +93,7 @@ fn answer(rt: HostRuntime, task: Task, c: &[u8], size: u16) -> u8 {
 fn print(rt: HostRuntime, task: Task, size: u16, input: &mut [u8]) -> u8 {
     told::waiting(rt);
     let most = enough(size, input.len());
-    match take_all(rt, &mut input[0..most]) {
+    match edge::read_all(rt, &mut input[0..most]) {
         Ok(len) => {
             if input.len() < len {
                 return FAILED;
@@ -153,7 +139,7 @@ fn obey(rt: HostRuntime, order: Order) -> u8 {
 fn main(rt: HostRuntime) {
     let mut word = io::buffer();
     let count = edge::arg_count(rt);
-    if words::asks_status(rt, count, &mut word) {
+    if edge::asks_status(rt) {
         edge::tell_status(obey(rt, words::asked(rt, 2, count, &mut word)));
         return;
     }

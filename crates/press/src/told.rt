@@ -60,16 +60,7 @@ pub(crate) fn waiting(rt: HostRuntime) {
 
 // A word can hold anything, also what a terminal takes for an order: lend::plain shows that as `?`.
 fn show(rt: HostRuntime, at: usize, word: &mut [u8]) {
-    let given = edge::arg(rt, at, word);
-    lend::plain(word);
-    if given.long {
-        say(rt, word);
-        say(rt, b"...");
-        return;
-    }
-    if given.len <= word.len() {
-        say(rt, &word[0..given.len]);
-    }
+    edge::tell_word(rt, at, word, lend::plain);
 }
 
 fn right(rt: HostRuntime, why: Why) {

@@ -163,7 +163,7 @@ pub(crate) fn asked(rt: HostRuntime, first: usize, count: usize, buffer: &mut [u
             return o;
         }
         let alone = at == first && count - at == 1;
-        let len = edge::arg(rt, at, buffer).len;
+        let len = edge::arg(rt, at, buffer).unwrap_or(0);
         o = next(o, at, alone, &buffer[..len]);
         at += 1;
     }
@@ -171,13 +171,4 @@ pub(crate) fn asked(rt: HostRuntime, first: usize, count: usize, buffer: &mut [u
         return wrong(o, o.waits, Why::SizeLacks);
     }
     o
-}
-
-// Whether the first word asks for a status on descriptor 3.
-pub(crate) fn asks_status(rt: HostRuntime, count: usize, buffer: &mut [u8]) -> bool {
-    if count < 2 {
-        return false;
-    }
-    let len = edge::arg(rt, 1, buffer).len;
-    lend::equal(&buffer[..len], b"--status-3")
 }

@@ -45,9 +45,6 @@ module _ (n more : ℕ) (secret cs : List ℕ) (x at : ℕ) (out₀ : List ℕ) 
   no_block = (omega arith, sym (over_none at out₀))
 
   module _ (k : ℕ) (out : List ℕ) (l : Laid k out) where
-    pub laid_length : length out ≡ length out₀
-    laid_length = ap length l.1 ∙ length_over at (share_of k more secret cs x) out₀
-
     pub laid_all : n ≤ k → out ≡ over at (share_of n more secret cs x) out₀
     laid_all h = let e : k ≡ n = omega arith in l.1 ∙ ap (λ (j : ℕ). over at (share_of j more secret cs x) out₀) e
 

@@ -11,7 +11,8 @@ use lib.ListN.{length}
 use Rattle.wire.specs.Over.{over}
 use Rattle.wire.specs.Answer.{done}
 use Rattle.wire.specs.Writing.{Written}
-use Rattle.wire.specs.declared.Wrote.TheVariants.{Done, Refused}
+use Rattle.std.specs.Prelude.{Ok, Err}
+use Rattle.wire.specs.declared.Refusal.TheVariants.{NoRoom, OutOfRange}
 use Rattle.wire.proofs.Cases.{said_yes, said_no, both_hold}
 use Rattle.wire.proofs.Writes.{written, no_room, denied}
 use Rattle.split.specs.Split.{blocks_in, shares_of, quorum_allowed, split_verdict}
@@ -45,25 +46,25 @@ module _ (t c : ℕ) (r : Bool) (e : r ≡ quorum_allowed t c) (h : not r ≡ fa
 -- ---- the answers
 
 module _ (secret : List ℕ) (t c : ℕ) (cs x : List ℕ) (r : Bool) (e : r ≡ quorum_allowed t c) where
-  pub split_quorum : not r ≡ true → Written 0 (split_verdict secret t c cs) x x (Refused 19)
+  pub split_quorum : not r ≡ true → Written 0 (split_verdict secret t c cs) x x (Err OutOfRange)
   unfolding split_verdict
-  split_quorum h = rw (said_no r _ e h) (denied 0 x 19)
+  split_quorum h = rw (said_no r _ e h) (denied 0 x OutOfRange)
 
   module _ (h : not r ≡ false) where
-    pub split_empty : length secret < 1 → Written 0 (split_verdict secret t c cs) x x (Refused 19)
+    pub split_empty : length secret < 1 → Written 0 (split_verdict secret t c cs) x x (Err OutOfRange)
     unfolding split_verdict
-    split_empty l = rw (said_yes r _ e h, lt-leb 1 (length secret) l) (denied 0 x 19)
+    split_empty l = rw (said_yes r _ e h, lt-leb 1 (length secret) l) (denied 0 x OutOfRange)
 
     module _ (l : 1 ≤ length secret) where
-      pub split_long : 224 < length secret → Written 0 (split_verdict secret t c cs) x x (Refused 19)
+      pub split_long : 224 < length secret → Written 0 (split_verdict secret t c cs) x x (Err OutOfRange)
       unfolding split_verdict
-      split_long m = rw (said_yes r _ e h, le-leb 1 (length secret) l, lt-leb (length secret) 224 m) (denied 0 x 19)
+      split_long m = rw (said_yes r _ e h, le-leb 1 (length secret) l, lt-leb (length secret) 224 m) (denied 0 x OutOfRange)
 
       module _ (m : length secret ≤ 224) where
-        pub split_other : (length cs ≡ blocks_in (length secret) * ((t - 1) * 16) → ⊥) → Written 0 (split_verdict secret t c cs) x x (Refused 19)
+        pub split_other : (length cs ≡ blocks_in (length secret) * ((t - 1) * 16) → ⊥) → Written 0 (split_verdict secret t c cs) x x (Err OutOfRange)
         unfolding split_verdict
         split_other q =
-            rw (said_yes r _ e h, le-leb 1 (length secret) l, le-leb (length secret) 224 m, ne_eqb (length cs) (blocks_in (length secret) * ((t - 1) * 16)) q) (denied 0 x 19)
+            rw (said_yes r _ e h, le-leb 1 (length secret) l, le-leb (length secret) 224 m, ne_eqb (length cs) (blocks_in (length secret) * ((t - 1) * 16)) q) (denied 0 x OutOfRange)
 
         module _ (q : length cs ≡ blocks_in (length secret) * ((t - 1) * 16)) where
           judged : split_verdict secret t c cs ≡ done (shares_of secret t c cs)
@@ -73,9 +74,9 @@ module _ (secret : List ℕ) (t c : ℕ) (cs x : List ℕ) (r : Bool) (e : r ≡
           whole : length (shares_of secret t c cs) ≡ c * (blocks_in (length secret) * 16)
           whole = length_shares c 1 (blocks_in (length secret)) (t - 1) secret cs
 
-          pub split_short : length x < c * (blocks_in (length secret) * 16) → Written 0 (split_verdict secret t c cs) x x (Refused 11)
+          pub split_short : length x < c * (blocks_in (length secret) * 16) → Written 0 (split_verdict secret t c cs) x x (Err NoRoom)
           split_short f = rw judged (no_room 0 x (shares_of secret t c cs) (omega (arith, whole)))
 
           pub split_done : (z : List ℕ) → c * (blocks_in (length secret) * 16) ≤ length x → z ≡ over 0 (shares_of secret t c cs) x
-              → Written 0 (split_verdict secret t c cs) x z (Done (c * (blocks_in (length secret) * 16)))
+              → Written 0 (split_verdict secret t c cs) x z (Ok (c * (blocks_in (length secret) * 16)))
           split_done z f o = rw judged (written 0 x (shares_of secret t c cs) z (c * (blocks_in (length secret) * 16)) (omega (arith, whole)) (sym whole) o)

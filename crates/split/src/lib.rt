@@ -11,7 +11,7 @@ ghost use Rattle.curve.specs.Curve.{value_at, blocks};
 ghost use Rattle.split.specs.Private.{block_of};
 ghost use Rattle.split.specs.Split.{share_of, shares_from, quorum_allowed, split_verdict};
 
-use wire::{OUT_OF_RANGE, Wrote};
+use wire::Refusal;
 
 // The value at a point of the curve that begins with an element and goes on with so many blocks of
 // coefficients: from the highest power down, so that each step is one product and one sum.
@@ -20,13 +20,10 @@ fn value(first: [u64; 2], coefficients: &[u8], more: usize, point: u8) -> [u64; 
     ensures { result ≡ halves (value_at (joined first ∷ blocks more coefficients.now) point) }
 {
     let mut made = [0u64; 2];
-    let mut i = more;
-    while 0 < i {
-        let at = (i - 1) * 16;
-        let c = field::load(&coefficients[at..]);
+    for i in (0..more).rev() {
+        let c = field::load(&coefficients[i * 16..]);
         let s = field::sum(c, field::scale(made, point));
         made = s;
-        i -= 1;
     }
     field::sum(first, field::scale(made, point))
 }
@@ -56,11 +53,9 @@ fn share(
     requires { (n * 16 < length secret.now + 16) × (n * (more * 16) ≤ length coefficients.now) × (at + n * 16 ≤ length out.old) }
     ensures { out.new ≡ over at (share_of n more secret.now coefficients.now point) out.old }
 {
-    let mut k = 0;
-    while k < n {
+    for k in 0..n {
         let b = one_block(secret, coefficients, k, more, point);
         lend::copy(out, at + k * 16, &b);
-        k += 1;
     }
 }
 
@@ -69,25 +64,18 @@ fn shares(secret: &[u8], coefficients: &[u8], n: usize, more: usize, count: usiz
     requires { (count ≤ 255) × (n * 16 < length secret.now + 16) × (n * (more * 16) ≤ length coefficients.now) × (count * (n * 16) ≤ length out.old) }
     ensures { out.new ≡ over 0 (shares_from count 1 n more secret.now coefficients.now) out.old }
 {
-    let mut i = 0;
-    while i < count {
+    for i in 0..count {
         let point = (i + 1) as u8;
         let at = i * (n * 16);
         share(secret, coefficients, n, more, point, out, at);
-        i += 1;
     }
 }
 
+#[tactic(auto, unfolding(crate::specs::Split::quorum_allowed))]
 fn quorum_allowed(threshold: u64, count: u64) -> bool
     ensures { result ≡ quorum_allowed threshold count }
 {
-    if threshold < 1 {
-        return false;
-    }
-    if count < threshold {
-        return false;
-    }
-    count <= 255
+    1 <= threshold && threshold <= count && count <= 255
 }
 
 // The shares of a secret at the front of out, one behind the other by their numbers, and their
@@ -100,27 +88,27 @@ pub fn split(
     count: u64,
     coefficients: &[u8],
     out: &mut [u8],
-) -> Wrote
+) -> Result<usize, Refusal>
     ensures { Written 0 (split_verdict secret.now threshold count coefficients.now) out.old out.new result }
 {
     if !quorum_allowed(threshold, count) {
-        return Wrote::Refused { no: OUT_OF_RANGE };
+        return Err(Refusal::OutOfRange);
     }
     if secret.len() < 1 {
-        return Wrote::Refused { no: OUT_OF_RANGE };
+        return Err(Refusal::OutOfRange);
     }
     if wire::MOST_SHARE < secret.len() {
-        return Wrote::Refused { no: OUT_OF_RANGE };
+        return Err(Refusal::OutOfRange);
     }
     let n = (secret.len() + 15) / 16;
     let more = (threshold - 1) as usize;
     if coefficients.len() != n * (more * 16) {
-        return Wrote::Refused { no: OUT_OF_RANGE };
+        return Err(Refusal::OutOfRange);
     }
     let len = count as usize * (n * 16);
     if out.len() < len {
-        return Wrote::Refused { no: wire::NO_ROOM };
+        return Err(Refusal::NoRoom);
     }
     shares(secret, coefficients, n, more, count as usize, out);
-    Wrote::Done { len }
+    Ok(len)
 }

@@ -7,7 +7,6 @@ mod ask;
 mod told;
 mod words;
 
-use std::io::Error;
 use typed::TypedRead;
 use words::Task;
 
@@ -20,19 +19,6 @@ const DONE: u8 = b'0';
 const FAILED: u8 = b'1';
 
 const WRONG: u8 = b'2';
-
-// Reads to the end of the input, or until the buffer is full, and answers how many bytes came.
-fn take_all(rt: HostRuntime, input: &mut [u8]) -> Result<usize, Error> {
-    let mut len = 0;
-    while len < input.len() {
-        let n = edge::read(rt, &mut input[len..])?;
-        if n < 1 {
-            return Ok(len);
-        }
-        len += n;
-    }
-    Ok(len)
-}
 
 // A write can also fail at the end, when the file is closed.
 fn deliver(rt: HostRuntime, bytes: &[u8]) -> u8 {
@@ -73,7 +59,7 @@ fn lines(rt: HostRuntime, input: &[u8]) -> u8 {
 
 // Lines that come through a pipe, or from a file. Of a part of them nothing is printed.
 fn piped(rt: HostRuntime, input: &mut [u8]) -> u8 {
-    match take_all(rt, input) {
+    match edge::read_all(rt, input) {
         Ok(len) => {
             if input.len() <= len {
                 told::too_much(rt);
@@ -134,7 +120,7 @@ fn obey(rt: HostRuntime, task: Task) -> u8 {
 fn main(rt: HostRuntime) {
     let mut word = io::buffer();
     let count = edge::arg_count(rt);
-    if words::asks_status(rt, count, &mut word) {
+    if edge::asks_status(rt) {
         edge::tell_status(obey(rt, words::asked(rt, 2, count, &mut word)));
         return;
     }

@@ -15,7 +15,7 @@ pub(crate) fn asked(rt: HostRuntime, first: usize, count: usize, buffer: &mut [u
         return Task::Page;
     }
     let alone = count - first == 1;
-    let len = edge::arg(rt, first, buffer).len;
+    let len = edge::arg(rt, first, buffer).unwrap_or(0);
     if alone {
         if lend::equal(&buffer[..len], b"--help") {
             return Task::Help;
@@ -25,13 +25,4 @@ pub(crate) fn asked(rt: HostRuntime, first: usize, count: usize, buffer: &mut [u
         }
     }
     Task::Wrong { at: first }
-}
-
-// Whether the first word asks for a status on descriptor 3.
-pub(crate) fn asks_status(rt: HostRuntime, count: usize, buffer: &mut [u8]) -> bool {
-    if count < 2 {
-        return false;
-    }
-    let len = edge::arg(rt, 1, buffer).len;
-    lend::equal(&buffer[..len], b"--status-3")
 }

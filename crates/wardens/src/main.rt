@@ -178,7 +178,7 @@ fn main(rt: HostRuntime) {
     let mut document = [0u8; NAME_SIZE];
     let mut word = [0u8; WORD];
     let count = edge::arg_count(rt);
-    if words::asks_status(rt, count, &mut word) {
+    if edge::asks_status(rt) {
         let o = words::asked(rt, 2, count, &mut word, &mut key, &mut document);
         edge::tell_status(obey(rt, o, &key, &document));
         return;

@@ -294,17 +294,7 @@ pub(crate) fn no_signature(rt: HostRuntime, i: usize, there: bool) {
 
 // A word can hold anything, also what a terminal takes for an order: lend::plain shows that as `?`.
 fn show(rt: HostRuntime, at: usize, word: &mut [u8]) {
-    let given = edge::arg(rt, at, word);
-    lend::plain(word);
-    if given.long {
-        say(rt, word);
-        say(rt, b"...");
-        return;
-    }
-    let len = given.len;
-    if len <= word.len() {
-        say(rt, &word[0..len]);
-    }
+    edge::tell_word(rt, at, word, lend::plain);
 }
 
 fn right(rt: HostRuntime, why: Why) {

@@ -295,18 +295,9 @@ pub(crate) fn asked(
             return o;
         }
         let alone = at == first && count - at == 1;
-        let word = edge::arg(rt, at, buffer);
-        o = next(o, at, alone, &buffer[..word.len], key, document);
+        let len = edge::arg(rt, at, buffer).unwrap_or(0);
+        o = next(o, at, alone, &buffer[..len], key, document);
         at += 1;
     }
     whole(o, first)
-}
-
-// Whether the first word asks for a status on descriptor 3.
-pub(crate) fn asks_status(rt: HostRuntime, count: usize, buffer: &mut [u8]) -> bool {
-    if count < 2 {
-        return false;
-    }
-    let word = edge::arg(rt, 1, buffer);
-    lend::equal(&buffer[..word.len], b"--status-3")
 }

@@ -14,4 +14,4 @@ pub returns-then-not-are_names : goal.returns-then-not-are_names
 returns-then-not-are_names c = search not_names
 
 pub returns : goal.returns
-returns c = search zero_decides
+returns c = zero_decides _ _ (omega arith) c.if-not-plain.ensures c.if-not-are_names.ensures c.contains.ensures.value

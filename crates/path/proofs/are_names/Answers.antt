@@ -1,28 +1,18 @@
-use mathlib.Core.Path.{refl, ap}
-use mathlib.Core.Bool.{not}
-use native.Mathlib.Omega.{arith}
-use Rattle.path.proofs.Names.{names_stop, names_on, names_within, names_last}
+-- `path::are_names` meets its contract. Assumes nothing.
+use mathlib.Core.Path.{ap, ◌∙◌}
+use Rattle.std.proofs.Common.{rules, tests}
+use Rattle.std.proofs.lemmas.Iterator.Search.{all_from_yields_List}
+use Rattle.std.proofs.lemmas.Iterator.Splits.{YieldsList-from_slice_split}
+use lib.Dec.{eqb}
+use Rattle.wire.specs.Every.{every}
+use Rattle.path.specs.Names.{slash, is_name}
+use Rattle.path.proofs.Names.{cut_is_parts, all_every}
 use Rattle.path.proofs.are_names.Goals as goal
-use Rattle.path.proofs.are_names.Goals.{then-s-to-eq47+else-not-is_name, else-s-to-eq47}
-
-pub loop-to-init : goal.loop-to-init
-loop-to-init c = (omega arith, omega arith, refl)
-
-pub returns-then-not-is_name : goal.returns-then-not-is_name
-returns-then-not-is_name c = search names_stop
-
-pub loop-to-preserved : goal.loop-to-preserved
-loop-to-preserved c =
-    let l = c.loop-to in
-    let s = c.args.s.now in
-    elim c.if-s-to-eq47.branch [
-      | then-s-to-eq47+else-not-is_name w ↦ (
-        omega arith,
-        omega arith,
-        rw w.from-is (names_on s l.from l.to _ l.invariant.2 (omega arith) w.is_name.result w.is_name.ensures w.if-s-to-eq47.true (ap not w.if-not-is_name.false)),
-      )
-      | else-s-to-eq47 w ↦ (omega arith, omega arith, rw w.from-is (names_within s l.from l.to _ l.invariant.2 l.invariant.0 (omega arith) w.if-s-to-eq47.false))
-    ]
 
 pub returns : goal.returns
-returns c = search names_last
+returns c =
+    let s = c.args.s.now in
+    all_from_yields_List is_name _ _ c.all.result c.all.ensures.ran
+    (YieldsList-from_slice_split _ (λ b. eqb b slash) s c.split.ensures.rest c.split.ensures.done c.split.ensures.closure (λ x b q k. search (rules, tests)))
+    (λ x b q k. search (rules, tests))
+    ∙ all_every is_name _ ∙ ap (every is_name) (cut_is_parts s)

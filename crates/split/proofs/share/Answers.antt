@@ -1,5 +1,5 @@
 use native.Mathlib.Omega.{arith}
-use Rattle.split.proofs.Turns.{no_block, block_there, next_block, laid_length, laid_all}
+use Rattle.split.proofs.Turns.{no_block, block_there, next_block, laid_all}
 use Rattle.split.proofs.share.Goals as goal
 
 pub loop-k-init : goal.loop-k-init
@@ -13,9 +13,6 @@ one_block-b-requires c =
 pub loop-k-preserved : goal.loop-k-preserved
 loop-k-preserved c =
     next_block c.args.n _ _ _ _ _ _ c.loop-k.k _ c.loop-k.invariant _ _ (omega arith) c.requires.2 c.one_block-b.ensures c.copy.ensures
-
-pub shape_of-out : goal.shape_of-out
-shape_of-out c = search laid_length
 
 pub returns : goal.returns
 returns c = search laid_all

@@ -1,6 +1,6 @@
 use native.Mathlib.Omega.{arith}
 use Rattle.split.proofs.Sharing.{part_fits}
-use Rattle.split.proofs.Turns.{no_share, share_fits, next_share, given_length, given_all}
+use Rattle.split.proofs.Turns.{no_share, share_fits, next_share, given_all}
 use Rattle.split.proofs.shares.Goals as goal
 
 pub loop-i-init : goal.loop-i-init
@@ -17,9 +17,6 @@ share-requires c =
 
 pub loop-i-preserved : goal.loop-i-preserved
 loop-i-preserved c = search next_share
-
-pub shape_of-out : goal.shape_of-out
-shape_of-out c = search given_length
 
 pub returns : goal.returns
 returns c = search given_all

@@ -5,6 +5,3 @@ use Rattle.split.proofs.value.Given as goal
 
 abbrev pub invariant-loop-i : goal.invariant-loop-i
 invariant-loop-i l = Upper l.more l.i l.coefficients l.point l.made
-
-abbrev pub decreases-loop-i : goal.decreases-loop-i
-decreases-loop-i l = l.i
