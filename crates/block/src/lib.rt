@@ -184,10 +184,7 @@ pub fn contents(c: &[u8], at: usize) -> &[u8]
 pub fn holds(c: &[u8], at: usize, bytes: &[u8]) -> bool
     ensures { result ≡ holding (read_slot (block_at at c.now)) bytes.now }
 {
-    if state(c, at) != PageState::Held {
-        return false;
-    }
-    lend::equal(contents(c, at), bytes)
+    state(c, at) == PageState::Held && lend::equal(contents(c, at), bytes)
 }
 
 // True exactly where the block at the position is the block of what it says, for this id and this

@@ -9,6 +9,9 @@ use native.Mathlib.Omega.{arith}
 use borrow.Author.Tests.{lt-ltb, le-ltb, eq-eqb}
 use lib.Dec.{eqb}
 use Rattle.wire.specs.Answer.{done, refused, number_of, then, demand}
+use Rattle.wire.specs.Refusal.{number}
+use Rattle.wire.specs.declared.Refusal.{Refusal}
+use Rattle.wire.specs.declared.Refusal.TheVariants as refusal
 use Rattle.wire.proofs.Cases.{both_hold}
 use Rattle.wire.proofs.Placeless.{Placeless, placeless, numbered}
 use Rattle.model.specs.Book.{Book}
@@ -27,24 +30,55 @@ module _ (c : List ℕ) (k at t : ℕ) (place : at ≡ 512 + 512 * k) (et : t �
   judged = ok_at (read_head c) k (page_at k c)
 
   -- from the total on, and not absent
-  pub at_past : (s : ℕ) → t ≤ k → s ≡ state_of (read_slot (block_at at c)) → (s ≡ 0 → ⊥) → false ≡ judged
+  pub at_past : t ≤ k → (state_of (read_slot (block_at at c)) ≡ 0 → ⊥) → false ≡ judged
   unfolding ok_at
-  at_past s h e n =
-      let z : is_absent (read_slot (block_at at c)) ≡ false = absent_no (read_slot (block_at at c)) (λ q. n (e ∙ q)) in
+  at_past h n =
+      let z : is_absent (read_slot (block_at at c)) ≡ false = absent_no (read_slot (block_at at c)) n in
       rw (← et, le-ltb k t h, ← place, z)
 
   module _ (i : List ℕ) (r : Bool) (ei : i ≡ (read_head c).id) (e : r ≡ ok_page i k (block_at at c)) where
     -- from the total on, and absent
-    pub at_absent : (s : ℕ) → t ≤ k → s ≡ state_of (read_slot (block_at at c)) → s ≡ 0 → r ≡ judged
+    pub at_absent : t ≤ k → state_of (read_slot (block_at at c)) ≡ 0 → r ≡ judged
     unfolding ok_at
-    at_absent s h es z =
-        let y : is_absent (read_slot (block_at at c)) ≡ true = absent_yes (read_slot (block_at at c)) (sym es ∙ z) in
+    at_absent h z =
+        let y : is_absent (read_slot (block_at at c)) ≡ true = absent_yes (read_slot (block_at at c)) z in
         e ∙ rw (← et, le-ltb k t h, ← place, y, ei)
 
     -- below the total
     pub at_within : k < t → r ≡ judged
     unfolding ok_at
     at_within h = e ∙ rw (← et, lt-ltb k t h, ← place, ei)
+
+-- ---- a refusal has a number
+
+pub some_number : (r : Refusal) → number r ≡ 0 → ⊥
+some_number refusal.BadCharacter e = omega arith
+some_number refusal.BadTextLength e = omega arith
+some_number refusal.CutOrLeftOver e = omega arith
+some_number refusal.BadMagic e = omega arith
+some_number refusal.BadVersion e = omega arith
+some_number refusal.BadFrameType e = omega arith
+some_number refusal.BadVarint e = omega arith
+some_number refusal.BadPlace e = omega arith
+some_number refusal.TooLarge e = omega arith
+some_number refusal.BadChecksum e = omega arith
+some_number refusal.NoRoom e = omega arith
+some_number refusal.OtherDocument e = omega arith
+some_number refusal.BadCollection e = omega arith
+some_number refusal.TotalsDisagree e = omega arith
+some_number refusal.PageDisputed e = omega arith
+some_number refusal.PageMissing e = omega arith
+some_number refusal.OtherCiphertext e = omega arith
+some_number refusal.NotCanonical e = omega arith
+some_number refusal.OutOfRange e = omega arith
+some_number refusal.BadPath e = omega arith
+some_number refusal.BadContents e = omega arith
+some_number refusal.Mistyped e = omega arith
+some_number refusal.TooFewSlips e = omega arith
+some_number refusal.UnlikeSlips e = omega arith
+some_number refusal.SlipTwice e = omega arith
+some_number refusal.OffTheCurve e = omega arith
+some_number refusal.BadPadding e = omega arith
 
 -- ---- the judge of the whole
 
@@ -101,6 +135,10 @@ module _ (c : List ℕ) where
     pub judge_refused : (n ≡ 0 → ⊥) → book_in c ≡ refused n
     judge_refused z = numbered (book_in c) n book_placeless e z
 
+    -- a refusal that was handed out
+    pub judge_err : (r : Refusal) → n ≡ number r → book_in c ≡ refused n
+    judge_err r q = judge_refused (λ z. some_number r (sym q ∙ z))
+
   -- and of the judge of the head
   module _ (n : ℕ) (e : n ≡ number_of (head_in c)) where
     pub head_passed : n ≡ 0 → has_head c ≡ true
@@ -110,6 +148,9 @@ module _ (c : List ℕ) where
     pub head_refused : (n ≡ 0 → ⊥) → head_in c ≡ refused n
     unfolding head_in
     head_refused z = numbered (head_in c) n (search placeless) e z
+
+    pub head_err : (r : Refusal) → n ≡ number r → head_in c ≡ refused n
+    head_err r q = head_refused (λ z. some_number r (sym q ∙ z))
 
 -- ---- all of the page blocks
 
@@ -127,12 +168,12 @@ module _ (c : List ℕ) where
       rw (e, add-one k)
 
   -- a head that the judge of heads refuses
-  pub head_stops : (n : ℕ) → n ≡ number_of (head_in c) → (n ≡ 0 → ⊥) → n ≡ number_of (book_in c)
+  pub head_stops : (r : Refusal) → number r ≡ number_of (head_in c) → number r ≡ number_of (book_in c)
   unfolding book_in
-  head_stops n e z = rw (head_refused c n e z)
+  head_stops r e = rw (head_err c (number r) e r refl)
 
-  pub passed_none : (n : ℕ) → n ≡ number_of (head_in c) → n ≡ 0 → Passed c 0
-  passed_none n e z = let h = head_passed c n e z in record { most = omega arith; head = h; left = ok_is c ∙ rw h }
+  pub passed_none : 0 ≡ number_of (head_in c) → Passed c 0
+  passed_none e = let h = head_passed c 0 e refl in record { most = omega arith; head = h; left = ok_is c ∙ rw h }
 
   -- what the judge answers, from whether the whole is well formed
   answer_0 : ok_book c ≡ true → 0 ≡ number_of (book_in c)

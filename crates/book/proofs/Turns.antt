@@ -32,11 +32,11 @@ module _ (c : List ℕ) (t s : ℕ) where
   pub passed_none : Passed c t s 0
   passed_none = record { most = omega arith; left = omega arith }
 
-  pub passed_end : (k : ℕ) → t ≤ k → Passed c t s k → k ≡ lowest (in_state s) (read_pages 0 t c)
+  pub passed_end : (k : ℕ) → t ≤ k → Passed c t s k → t ≡ lowest (in_state s) (read_pages 0 t c)
   passed_end k h p =
       let e : drop k (read_pages 0 t c) ≡ [] = drop_of_length-le (read_pages 0 t c) {i = k} (omega (arith, length_read 0 t c)) in
       let z : lowest (in_state s) (drop k (read_pages 0 t c)) ≡ 0 = ap (lowest (in_state s)) e ∙ unfold lowest in refl in
-      omega (arith, p.left)
+      omega (arith, p.left, p.most)
 
   pub counted_none : Counted c t s 0 0
   counted_none = record { most = omega arith; few = omega arith; among = unfold count in refl }
@@ -45,9 +45,9 @@ module _ (c : List ℕ) (t s : ℕ) where
   counted_end k n h p = p.among ∙ ap (count (in_state s)) (take_all k (read_pages 0 t c) (omega (arith, length_read 0 t c)))
 
   -- a turn: x is the state that the block of index k says
-  module _ (k at x : ℕ) (h : k < t) (place : at ≡ 512 + 512 * k) (said : x ≡ state_of (read_slot (block_at at c))) where
+  module _ (k at x y : ℕ) (h : k < t) (place : at ≡ 512 + 512 * k) (from : x ≡ y) (said : y ≡ state_of (read_slot (block_at at c))) where
     here : x ≡ state_of (get_or (read_pages 0 t c) k absent)
-    here = said ∙ rw (place, read_at 0 t k k c h (omega arith))
+    here = from ∙ said ∙ rw (place, read_at 0 t k k c h (omega arith))
 
     yes : x ≡ s → in_state s (get_or (read_pages 0 t c) k absent) ≡ true
     unfolding in_state

@@ -10,16 +10,22 @@ pub mod tally;
 
 ghost use Rattle.std.specs.Prelude.{◌≡◌, ◌+◌, ◌*◌, ◌≤◌, length, replicate};
 ghost use Rattle.wire.specs.Answer.{number_of};
+ghost use Rattle.wire.specs.Reading.{told};
 ghost use Rattle.wire.specs.Over.{over};
 ghost use Rattle.wire.specs.Sizes.{id_size, block_size, summed_size};
 ghost use Rattle.book.specs.Head.{head_for, head_body, with_head, read_head, ok_total, has_head, head_in};
 ghost use Rattle.book.specs.Encode.{with_blank};
 ghost use Rattle.book.specs.Read.{page_at, ok_at, book_in};
 
+use block::PageState;
+use wire::Refusal;
+
 // The pages of a collection, by index (R8.1).
 pub const PAGES: u8 = 96;
 
 // The states of a head (R8.3).
+//
+// stays (1): any byte may stand where the state does, and `state` and `write_head` speak of all.
 pub const EMPTY: u8 = 0;
 
 pub const COLLECTING: u8 = 1;
@@ -41,7 +47,7 @@ const ZEROS: usize = wire::SUMMED_SIZE - ZEROS_AT;
 pub fn place(k: u8) -> usize
     ensures { result ≡ block_size + block_size * k }
 {
-    wire::BLOCK_SIZE + wire::BLOCK_SIZE * (k as usize)
+    wire::BLOCK_SIZE + wire::BLOCK_SIZE * usize::from(k)
 }
 
 // All of the head block before its checksum (R8.3).
@@ -92,20 +98,14 @@ fn total_ok(state: u8, total: u8) -> bool
 pub fn state(c: &[u8]) -> u8
     ensures { result ≡ (read_head c.now).state }
 {
-    if c.len() <= STATE_AT {
-        return 0;
-    }
-    c[STATE_AT]
+    c.get(STATE_AT).copied().unwrap_or(0)
 }
 
 // The total that the head says; 0 where c ends before it.
 pub fn total(c: &[u8]) -> u8
     ensures { result ≡ (read_head c.now).total }
 {
-    if c.len() <= TOTAL_AT {
-        return 0;
-    }
-    c[TOTAL_AT]
+    c.get(TOTAL_AT).copied().unwrap_or(0)
 }
 
 // The document's id as the head says it: fewer than 8 bytes where c ends before.
@@ -153,15 +153,15 @@ fn head_ok(c: &[u8]) -> bool
     lend::equal(&c[0..wire::BLOCK_SIZE], &again)
 }
 
-// Why c is refused for its head, the number: 13 where its size is not right or the head is not the
-// head block of what it says; else 0.
-pub fn judge_head(c: &[u8]) -> u8
-    ensures { result ≡ number_of (head_in c.now) }
+// Whether c is refused for its head: 13 where its size is not right or the head is not the head
+// block of what it says.
+pub fn judge_head(c: &[u8]) -> Result<(), Refusal>
+    ensures { number_of (told result) ≡ number_of (head_in c.now) }
 {
     if head_ok(c) {
-        return wire::DONE;
+        return Ok(());
     }
-    wire::BAD_COLLECTION
+    Err(Refusal::BadCollection)
 }
 
 // True exactly where the page block of index k is well formed under the head of c.
@@ -170,30 +170,24 @@ pub fn page_ok(c: &[u8], k: u8) -> bool
 {
     let at = place(k);
     if total(c) <= k {
-        if block::state(c, at) != block::ABSENT {
+        if block::state(c, at) != PageState::Absent {
             return false;
         }
     }
     block::well_formed(c, at, id(c), k)
 }
 
-// Why c is refused as a whole, the number: 13 for its head, then 13 where a page block is not well
-// formed; else 0.
-pub fn judge(c: &[u8]) -> u8
-    ensures { result ≡ number_of (book_in c.now) }
+// Whether c is refused as a whole: 13 for its head, then 13 where a page block is not well formed.
+pub fn judge(c: &[u8]) -> Result<(), Refusal>
+    ensures { number_of (told result) ≡ number_of (book_in c.now) }
 {
-    let no = judge_head(c);
-    if no != wire::DONE {
-        return no;
-    }
-    let mut k: u8 = 0;
-    while k < PAGES {
+    judge_head(c)?;
+    for k in 0..PAGES {
         if !page_ok(c, k) {
-            return wire::BAD_COLLECTION;
+            return Err(Refusal::BadCollection);
         }
-        k += 1;
     }
-    wire::DONE
+    Ok(())
 }
 
 // Every page absent behind the head. Nothing changes where the id has not 8 bytes or there is no
@@ -207,9 +201,7 @@ pub fn blank(c: &mut [u8], id: &[u8])
     if c.len() < wire::COLLECTION_SIZE {
         return;
     }
-    let mut i: u8 = 0;
-    while i < PAGES {
+    for i in 0..PAGES {
         block::vacate(c, place(i), id, i);
-        i += 1;
     }
 }

@@ -1,64 +1,59 @@
 -- What a reader answers is fixed by its contract, and how a chain of items goes on from it.
 -- Assumes nothing.
 use Prim.Native.Nat.{ℕ}
-use mathlib.Core.Path.{◌≡◌, refl, sym, ap, ◌∙◌}
+use mathlib.Core.Path.{◌≡◌, sym, ap, ◌∙◌}
 use mathlib.Core.Bool.{true, false}
 use borrow.Author.Tests.{eq-eqb, ne_eqb}
 use lib.Dec.{eqb}
-use Rattle.wire.specs.Answer.{refused, number_of, then, Got, Answer}
-use Rattle.wire.proofs.Cases.{got_value, got_next}
-use Rattle.wire.proofs.Branch.{go, stop}
-use Rattle.wire.proofs.Answers.{reads}
+use Rattle.std.specs.Prelude.{Result, Ok, Err}
+use Rattle.std.specs.Result.{IsErr, IsErrAnd}
+use Rattle.std.proofs.lemmas.Result.{err_from_is_err_and}
+use Rattle.wire.specs.Answer.{Answer, refused}
+use Rattle.wire.specs.Reading.{told, told_by}
+use Rattle.wire.specs.Refusal.{number}
+use Rattle.wire.specs.declared.Refusal.{Refusal}
 use Rattle.wire.specs.declared.Span.{Span}
-use Rattle.cbor.specs.Item.{Head}
-use Rattle.cbor.specs.Answer.{head_told, string_told}
-use Rattle.cbor.specs.declared.HeadRead.{HeadRead}
-use Rattle.cbor.specs.declared.HeadRead.TheVariants as head
-use Rattle.cbor.specs.declared.StringRead.{StringRead}
-use Rattle.cbor.specs.declared.StringRead.TheVariants as string
+use Rattle.wire.proofs.Cases.{done_value}
+use Rattle.cbor.specs.declared.Head.{Head}
+use Rattle.wire.proofs.Answers.{told_injective, err_is, reads}
 
--- ---- an enum says no more than its number and values do
+-- ---- an answer says no more than its number and values do
 
-pub head_injective : (r q : HeadRead) → head_told r ≡ head_told q → r ≡ q
-head_injective (head.Value a m i) (head.Value b n j) e =
-    cc (ap (λ (h : Head). h.major) (got_value e), ap (λ (h : Head). h.number) (got_value e), got_next e)
-head_injective (head.Value a m i) (head.Refused n) e = cc
-head_injective (head.Refused m) (head.Value b n j) e = cc
-head_injective (head.Refused m) (head.Refused n) e = cc
+pub head_injective : (r q : Result (Head × ℕ) Refusal) → told r ≡ told q → r ≡ q
+head_injective = told_injective
 
-pub string_injective : (r q : StringRead) → string_told r ≡ string_told q → r ≡ q
-string_injective (string.Value a m i) (string.Value b n j) e =
-    cc (ap (λ (h : Span). h.start) (got_value e), ap (λ (h : Span). h.len) (got_value e), got_next e)
-string_injective (string.Value a m i) (string.Refused n) e = cc
-string_injective (string.Refused m) (string.Value b n j) e = cc
-string_injective (string.Refused m) (string.Refused n) e = cc
+pub string_injective : (r q : Result (Span × ℕ) Refusal) → told r ≡ told q → r ≡ q
+string_injective = told_injective
 
--- ---- for `search`: one item of a chain. g is what a reader's contract says, r what it answered, n
--- the number that the code took from r
+-- by whatever numbers, if each leads to one fault (trait `Fault`)
+pub told_by_injective : {A E : Type 0} (n : E → ℕ) → ((x y : E) → n x ≡ n y → x ≡ y) → (r q : Result A E) → told_by n r ≡ told_by n q → r ≡ q
+told_by_injective n one (Ok a) (Ok b) e = ap Ok (done_value e)
+told_by_injective n one (Ok a) (Err k) e = cc
+told_by_injective n one (Err j) (Ok b) e = cc
+told_by_injective n one (Err j) (Err k) e = ap Err (one j k cc)
 
-module _ {B : Type 0} (g : Got Head) (f : Head × ℕ → Answer B) where
-  pub go_head : (r : HeadRead) (m v next : ℕ) (y : Answer B) → head_told r ≡ g → r ≡ head.Value m v next → y ≡ f ((record { major = m; number = v }), next) → y ≡ then g f
-  go_head r m v next y = go head_told g f r (head.Value m v next) y
+-- ---- a reader that is told what to refuse with (trait `Fault`)
 
-  pub no_head : (r : HeadRead) (n e : ℕ) → head_told r ≡ g → r ≡ head.Refused e → n ≡ number_of (head_told r) → refused n ≡ then g f
-  no_head r n e h k q = stop head_told g f r (head.Refused e) n e h k refl q
+-- what `?` hands out of its own kind
+pub handed_own : {A E : Type 0} (n : E → ℕ) (r : Result A E) (e : E) → IsErr r × IsErrAnd r (λ x. x ≡ e) → (y : Answer A) → refused (n e) ≡ y → told_by n r ≡ y
+handed_own n r e h y q = rw (err_is r e h) q
 
-module _ {B : Type 0} (g : Got Span) (f : Span × ℕ → Answer B) where
-  pub go_string : (r : StringRead) (a v next : ℕ) (y : Answer B) → string_told r ≡ g → r ≡ string.Value a v next → y ≡ f ((record { start = a; len = v }), next) → y ≡ then g f
-  go_string r a v next y = go string_told g f r (string.Value a v next) y
+module _ {A E : Type 0} (n : E → ℕ) (gives : Refusal → E → Type 0) (law : (r : Refusal) (e : E) → gives r e → n e ≡ number r) where
+  -- and where it makes it of a refusal: the number stays
+  pub handed_fault : (r : Result A E) (e : Refusal) → IsErr r × IsErrAnd r (gives e) → (y : Answer A) → refused (number e) ≡ y → told_by n r ≡ y
+  handed_fault r e (h, k) y q = let p = err_from_is_err_and r k in rw (p.1, law e p.0 p.2) q
 
-  pub no_string : (r : StringRead) (n e : ℕ) → string_told r ≡ g → r ≡ string.Refused e → n ≡ number_of (string_told r) → refused n ≡ then g f
-  no_string r n e h k q = stop string_told g f r (string.Refused e) n e h k refl q
+-- told to refuse with a refusal, it answers as the other readers do
+pub told_as : {A : Type 0} (r : Result A Refusal) (y : Answer A) → told_by number r ≡ y → told r ≡ y
+told_as (Ok a) y e = e
+told_as (Err k) y e = e
 
--- what a contract says, once the answer's case is known
-pub as_told : {A E : Type 0} (told : E → Got A) {g : Got A} {r x : E} → told r ≡ g → r ≡ x → g ≡ told x
-as_told told e k = sym e ∙ ap told k
+-- ---- a call answered a number, x by its contract, and a test said whether it is k
 
--- a call answered a number, x by its contract, and a test said whether it is k
 pub answered : (r x k : ℕ) → r ≡ x → r ≡ k → eqb x k ≡ true
 answered r x k e h = eq-eqb x k (sym e ∙ h)
 
 pub differed : (r x k : ℕ) → r ≡ x → (r ≡ k → ⊥) → eqb x k ≡ false
 differed r x k e h = ne_eqb x k (λ (q : x ≡ k). h (e ∙ q))
 
-pub ruleset chain = (reads, go_head, no_head, go_string, no_string)
+pub ruleset chain = (reads, told_as)

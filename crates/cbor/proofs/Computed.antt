@@ -12,11 +12,7 @@ use mir.Val.{Fits}
 use lib.Count.{count_leading_zeros, leading_top}
 use lib.Dec.{ltb, eqb}
 use lib.Pow.{pow-add, pow_mono, pow_pos, shl_lt, shl-shr, shr_lt, shr-shr, shr_mono, shr_le}
-use Rattle.wire.specs.Answer.{refused, number_of, got}
-use Rattle.wire.specs.Reading.{number_told}
-use Rattle.wire.specs.declared.NumberRead.{NumberRead}
-use Rattle.wire.specs.declared.NumberRead.TheVariants as number
-use Rattle.wire.proofs.Branch.{go, stop}
+use Rattle.wire.specs.Answer.{Got, refused, got}
 use Rattle.wire.proofs.Cases.{lt_or_le}
 use Rattle.cbor.specs.Float.{exponent_bits, fraction_bits, sign_of, least_of, infinity_of, scale_of, finite, shift_of, packed, widened, narrowed, holds, shortest, magnitude, sign_bit, widened_bits, narrowed_bits}
 use Rattle.cbor.specs.Form.{first_of, bytes_of}
@@ -293,17 +289,17 @@ module _ (w : Width) (m n infinity : ℕ) (c : n ≡ narrowed w m) (e : infinity
   unfolding holds
   has_told h r d = rw (lt-ltb (narrowed w m) (infinity_of w) (omega arith), d, c)
 
--- ---- a float after its first byte: k are its bytes, r what their reader answered
+-- ---- a float after its first byte: k are its bytes
 
-module _ (s : List ℕ) (at k : ℕ) (w : Width) (f : k ≡ bytes_of w) (r : NumberRead) (e : number_told r ≡ big_endian_at s at k) where
-  pub body_cut : (fault n : ℕ) → r ≡ number.Refused fault → n ≡ number_of (number_told r) → refused n ≡ body_at s at w
+module _ (s : List ℕ) (at k : ℕ) (w : Width) (f : k ≡ bytes_of w) where
+  pub body_cut : (e : ℕ) → refused e ≡ big_endian_at s at k → refused e ≡ body_at s at w
   unfolding body_at
-  body_cut fault n v q = rw (← f) (stop number_told _ _ r (number.Refused fault) n fault e v refl q)
+  body_cut e h = rw (← f, ← h)
 
-  module _ (bits next : ℕ) (v : r ≡ number.Value bits next) (t : Bool) (a : t ≡ finite w bits) where
+  module _ (bits next : ℕ) (e : got bits next ≡ big_endian_at s at k) (t : Bool) (a : t ≡ finite w bits) where
     pub body_infinite : not t ≡ true → refused 19 ≡ body_at s at w
     unfolding body_at
-    body_infinite h = rw (← f) (go number_told _ _ r (number.Value bits next) (refused 19) e v (rw (← a, not-true t h)))
+    body_infinite h = rw (← f, ← e, ← a, not-true t h)
 
     module _ (b : not t ≡ false) (value : ℕ) (c : value ≡ widened_bits w bits) (u : Width) (d : u ≡ shortest (magnitude Double value)) (i j : ℕ) (g : i ≡ first_of u) (l : j ≡ first_of w) where
       same_first : first_of (shortest (magnitude Double (widened_bits w bits))) ≡ i
@@ -311,24 +307,24 @@ module _ (s : List ℕ) (at k : ℕ) (w : Width) (f : k ≡ bytes_of w) (r : Num
 
       pub body_longer : (i ≡ j → ⊥) → refused 18 ≡ body_at s at w
       unfolding body_at
-      body_longer h = rw (← f) (go number_told _ _ r (number.Value bits next) (refused 18) e v (rw (← a, not-false t b, same_first, ← l, ne_eqb i j h)))
+      body_longer h = rw (← f, ← e, ← a, not-false t b, same_first, ← l, ne_eqb i j h)
 
       pub body_shortest : i ≡ j → got value next ≡ body_at s at w
       unfolding body_at
-      body_shortest h = rw (← f) (go number_told _ _ r (number.Value bits next) (got value next) e v (rw (← a, not-false t b, same_first, ← l, eq-eqb i j h, c)))
+      body_shortest h = rw (← f, ← e, ← a, not-false t b, same_first, ← l, eq-eqb i j h, c)
 
--- ---- the whole float: r is what the reader of its first byte answered
+-- ---- the whole float
 
-module _ (s : List ℕ) (at : ℕ) (r : NumberRead) (e : number_told r ≡ byte_at s at) where
-  pub float_cut : (fault n : ℕ) → r ≡ number.Refused fault → n ≡ number_of (number_told r) → refused n ≡ float_at s at
+module _ (s : List ℕ) (at : ℕ) where
+  pub float_cut : (e : ℕ) → refused e ≡ byte_at s at → refused e ≡ float_at s at
   unfolding float_at
-  float_cut fault n v q = stop number_told _ _ r (number.Refused fault) n fault e v refl q
+  float_cut e h = rw (← h)
 
-  module _ (x next : ℕ) (v : r ≡ number.Value x next) (t : Bool) (a : t ≡ is_float x) where
+  module _ (x next : ℕ) (e : got x next ≡ byte_at s at) (t : Bool) (a : t ≡ is_float x) where
     pub float_other : not t ≡ true → refused 18 ≡ float_at s at
     unfolding float_at
-    float_other h = go number_told _ _ r (number.Value x next) (refused 18) e v (rw (← a, not-true t h))
+    float_other h = rw (← e, ← a, not-true t h)
 
-    pub float_goes_on : not t ≡ false → (w : Width) → w ≡ width_by x → (y : NumberRead) → number_told y ≡ body_at s next w → number_told y ≡ float_at s at
+    pub float_goes_on : not t ≡ false → (w : Width) → w ≡ width_by x → (y : Got ℕ) → y ≡ body_at s next w → y ≡ float_at s at
     unfolding float_at
-    float_goes_on h w d y g = go number_told _ _ r (number.Value x next) (number_told y) e v (rw (← a, not-false t h, ← d) g)
+    float_goes_on h w d y g = rw (← e, ← a, not-false t h, ← d) g

@@ -17,16 +17,14 @@ use Rattle.wire.specs.Number.{Bytes, big_endian, digits, number}
 use Rattle.wire.proofs.Cases.{lt_or_le, passed, then_passed, got_next, got_value}
 use Rattle.wire.proofs.Digits.{digits_number, number_lt}
 use Rattle.wire.proofs.Standing.{Stands, stands_all, stands_none, stands_as, stands_join, stands_part, byte_stands}
-use Rattle.wire.specs.Reading.{number_told}
-use Rattle.wire.specs.declared.NumberRead.{NumberRead}
-use Rattle.wire.specs.declared.NumberRead.TheVariants as number
 use Rattle.wire.specs.declared.Span.{Span}
 use Rattle.wire.specs.Span.{part_at}
 use Rattle.lend.specs.Same.{same}
 use Rattle.lend.proofs.Sames.{same_eq}
 use Rattle.cbor.specs.Form.{info_of, width_of, head_of, string_of, first_of, bytes_of, float_as, float_of, string_field_of, number_field_of}
-use Rattle.cbor.specs.Item.{byte_at, one_at, big_endian_at, argument_at, kind_of, Head, head_at, number_at, contents_at, string_at, name_at, key_at, is_float, width_by, body_at, float_at, string_field_at, number_field_at, any_field_at}
+use Rattle.cbor.specs.Item.{byte_at, one_at, big_endian_at, argument_at, kind_of, head_at, number_at, contents_at, string_at, name_at, key_at, is_float, width_by, body_at, float_at, string_field_at, number_field_at, any_field_at}
 use Rattle.cbor.specs.Float.{sign_of, finite, shortest, magnitude, widened_bits, narrowed_bits}
+use Rattle.cbor.specs.declared.Head.{Head}
 use Rattle.cbor.specs.declared.Width.{Width}
 use Rattle.cbor.specs.declared.Width.TheVariants.{Double}
 use Rattle.cbor.proofs.Floats.{finite_below, below_finite, widened_finite, magnitude_widened, narrowed_widened_bits, widened_bits_below}
@@ -104,7 +102,7 @@ module _ {s : List ℕ} where
 
 module _ {s : List ℕ} where
   pub head_only : {at next : ℕ} (kind : ℕ) {h : Head} → Bytes s → head_at s at kind ≡ got h next
-      → Stands s at (head_of h.major h.number) next × (kind_of h.major ≡ kind) × (h.number < 2 ^ 64)
+      → Stands s at (head_of h.major h.n) next × (kind_of h.major ≡ kind) × (h.n < 2 ^ 64)
   unfolding head_at head_of
   head_only {at} {next} kind {h} y e =
       let t = then_passed (byte_at s at) _ e in
@@ -113,12 +111,12 @@ module _ {s : List ℕ} where
       let v = passed (leb (t.0 % 32) 27) _ 18 u.1 in
       let w = then_passed (argument_at s t.1 (t.0 % 32)) _ v.1 in
       let a : Stands s t.1 (big_endian (width_of (t.0 % 32)) w.0) w.1 × (w.0 < 2 ^ 64) = argument_only (t.0 % 32) b.within y w.2 in
-      let z = passed (eqb (info_of w.0) (t.0 % 32)) (got (record { major = t.0 / 32; number = w.0 }) w.1) 18 w.3 in
+      let z = passed (eqb (info_of w.0) (t.0 % 32)) (got (record { major = t.0 / 32; n = w.0 }) w.1) 18 w.3 in
       let i : info_of w.0 ≡ t.0 % 32 = eqb-true (info_of w.0) (t.0 % 32) z.0 in
-      let f : ◌≡◌ {A = Head} (record { major = t.0 / 32; number = w.0 }) h = got_value z.1 in
+      let f : ◌≡◌ {A = Head} (record { major = t.0 / 32; n = w.0 }) h = got_value z.1 in
       let n : w.1 ≡ next = got_next z.1 in
       let first : t.0 ≡ t.0 / 32 * 32 + info_of w.0 = omega arith in
-      subst (λ (h : Head). Stands s at (head_of h.major h.number) next × (kind_of h.major ≡ kind) × (h.number < 2 ^ 64)) f
+      subst (λ (h : Head). Stands s at (head_of h.major h.n) next × (kind_of h.major ≡ kind) × (h.n < 2 ^ 64)) f
       (stands_as (ap₂ (λ (b i : ℕ). b ∷ big_endian (width_of i) w.0) first (sym i)) n (stands_join b a.0), eqb-true (kind_of (t.0 / 32)) kind u.0, a.1)
 
   pub number_only : {at next : ℕ} (kind least most fault : ℕ) {n : ℕ} → Bytes s → number_at s at kind least most fault ≡ got n next
@@ -128,9 +126,9 @@ module _ {s : List ℕ} where
       let t = then_passed (head_at s at kind) _ e in
       let h = head_only kind y t.2 in
       let u = passed (eqb t.0.major kind) _ fault t.3 in
-      let v = passed (leb least t.0.number) _ fault u.1 in
-      let w = passed (leb t.0.number most) (got t.0.number t.1) fault v.1 in
-      let f : t.0.number ≡ n = got_value w.1 in
+      let v = passed (leb least t.0.n) _ fault u.1 in
+      let w = passed (leb t.0.n most) (got t.0.n t.1) fault v.1 in
+      let f : t.0.n ≡ n = got_value w.1 in
       let p : t.1 ≡ next = got_next w.1 in
       (stands_as (ap₂ head_of (eqb-true t.0.major kind u.0) f) p h.0, omega (arith, h.2))
 
@@ -221,6 +219,5 @@ any_field_only {s} {at} {a} {x} name h =
     (stands_as refl n (key_only name k.2).0, subst (λ (i : ℕ). Stands s i (x ∷ []) (i + 1)) n d)
 
 -- for `search`: the position past that byte
-pub any_field_next : (s : List ℕ) (at : ℕ) (name : List ℕ) (r : NumberRead) (x a : ℕ) → number_told r ≡ any_field_at s at name → r ≡ number.Value x a
-    → length s < 2 ^ 64 → Fits w64 (a + 1)
-any_field_next s at name r x a e k l = record { fits = omega (arith, (any_field_only name (sym e ∙ ap number_told k)).1.within) }
+pub any_field_next : (s : List ℕ) (at : ℕ) (name : List ℕ) (x a : ℕ) → got x a ≡ any_field_at s at name → length s < 2 ^ 64 → Fits w64 (a + 1)
+any_field_next s at name x a e l = record { fits = omega (arith, (any_field_only name (sym e)).1.within) }

@@ -68,11 +68,11 @@ unfolding number_at
 number_within s at kind least most fault {n} h =
     let t = then_passed (head_at s at kind) _ h in
     let u = passed (eqb t.0.major kind) _ fault t.3 in
-    let v = passed (leb least t.0.number) _ fault u.1 in
-    let w = passed (leb t.0.number most) (got t.0.number t.1) fault v.1 in
-    let f : t.0.number ≡ n = got_value w.1 in
-    let a = leb-true least t.0.number v.0 in
-    let b = leb-true t.0.number most w.0 in
+    let v = passed (leb least t.0.n) _ fault u.1 in
+    let w = passed (leb t.0.n most) (got t.0.n t.1) fault v.1 in
+    let f : t.0.n ≡ n = got_value w.1 in
+    let a = leb-true least t.0.n v.0 in
+    let b = leb-true t.0.n most w.0 in
     (omega arith, omega arith)
 
 -- a string lies within the input, and its length is in the range that was asked for

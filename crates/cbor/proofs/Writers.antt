@@ -9,10 +9,11 @@ use borrow.Author.Tests.{not-true, not-false}
 use lib.ListN.{length, length-append}
 use mir.Syntax.{w64}
 use mir.Val.{Fits}
+use Rattle.std.specs.Prelude.{Ok, Err}
 use Rattle.wire.specs.Over.{over}
 use Rattle.wire.specs.Number.{big_endian}
 use Rattle.wire.specs.Writing.{Written}
-use Rattle.wire.specs.declared.Wrote.TheVariants.{Done, Refused}
+use Rattle.wire.specs.declared.Refusal.TheVariants.{OutOfRange, NoRoom}
 use Rattle.wire.proofs.Writes.{written, no_room, denied}
 use Rattle.wire.proofs.Digits.{length_digits}
 use Rattle.wire.proofs.Overs.{over_append}
@@ -121,15 +122,15 @@ module _ (at r : ℕ) (x : List ℕ) (e : r ≡ length x - at) where
 
 -- a float alone: t says whether it is finite, len how long it is
 module _ (value : ℕ) (out : List ℕ) (t : Bool) (e : t ≡ finite Double value) where
-  pub alone_infinite : not t ≡ true → Written 0 (float_verdict value) out out (Refused 19)
+  pub alone_infinite : not t ≡ true → Written 0 (float_verdict value) out out (Err OutOfRange)
   unfolding float_verdict
-  alone_infinite h = rw (← e, not-true t h) (denied 0 out 19)
+  alone_infinite h = rw (← e, not-true t h) (denied 0 out OutOfRange)
 
   module _ (a : not t ≡ false) (len : ℕ) (f : len ≡ length (float_of value)) where
-    pub alone_short : length out < len → Written 0 (float_verdict value) out out (Refused 11)
+    pub alone_short : length out < len → Written 0 (float_verdict value) out out (Err NoRoom)
     unfolding float_verdict
     alone_short h = rw (← e, not-false t a) (no_room 0 out (float_of value) (omega arith))
 
-    pub alone_done : len ≤ length out → (out' : List ℕ) (next : ℕ) → Put 0 (float_of value) out out' next → Written 0 (float_verdict value) out out' (Done len)
+    pub alone_done : len ≤ length out → (out' : List ℕ) (next : ℕ) → Put 0 (float_of value) out out' next → Written 0 (float_verdict value) out out' (Ok len)
     unfolding float_verdict
     alone_done h out' next p = rw (← e, not-false t a) (written 0 out (float_of value) out' len (omega arith) f p.output)

@@ -79,7 +79,7 @@ module _ {s : List ℕ} {at next : ℕ} where
       rw (le-leb (at + length name) (length s) (omega (arith, h.ends, h.within)), stands_bytes h, same_refl name, h.ends)
 
 module _ {s : List ℕ} {at next : ℕ} where
-  pub head_back : (major n : ℕ) → n < 2 ^ 64 → Stands s at (head_of major n) next → head_at s at (kind_of major) ≡ got (record { major = major; number = n }) next
+  pub head_back : (major n : ℕ) → n < 2 ^ 64 → Stands s at (head_of major n) next → head_at s at (kind_of major) ≡ got (record { major = major; n = n }) next
   unfolding head_at head_of
   head_back major n l h =
       let x : ℕ = major * 32 + info_of n in
@@ -140,7 +140,7 @@ module _ (kind least most fault : ℕ) (k : kind_of kind ≡ kind) where
       → number_at s at kind least most fault ≡ got n next
   unfolding number_at
   number_back {s} {at} {next} n l a b h =
-      let e : head_at s at kind ≡ got (record { major = kind; number = n }) next = ap (head_at s at) (sym k) ∙ head_back kind n l h in
+      let e : head_at s at kind ≡ got (record { major = kind; n = n }) next = ap (head_at s at) (sym k) ∙ head_back kind n l h in
       rw e (rw (eq-eqb kind kind refl, le-leb least n a, le-leb n most b))
 
   module _ (bs : List ℕ) (l : length bs < 2 ^ 64) (a : least ≤ length bs) (b : length bs ≤ most) where

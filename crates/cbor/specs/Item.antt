@@ -8,6 +8,7 @@ use Rattle.wire.specs.declared.Span.{Span}
 use Rattle.lend.specs.Same.{same}
 use Rattle.cbor.specs.Float.{finite, shortest, magnitude, widened_bits}
 use Rattle.cbor.specs.Form.{info_of, width_of, first_of, bytes_of}
+use Rattle.cbor.specs.declared.Head.{Head}
 use Rattle.cbor.specs.declared.Width.{Width}
 use Rattle.cbor.specs.declared.Width.TheVariants.{Half, Single, Double}
 
@@ -31,11 +32,6 @@ argument_at s at info = choose (ltb info 24) (got info at) (big_endian_at s at (
 unfoldable pub kind_of : ℕ → ℕ
 kind_of major = choose (eqb major 1) 0 major
 
--- what a head says
-pub record Head : Type 0 where
-  pub major : ℕ
-  pub number : ℕ
-
 -- the head of an item of a kind: not reserved, not indefinite, and shortest; else 18 (R10.1, R10.3)
 unfoldable pub head_at : List ℕ → ℕ → ℕ → Got Head
 head_at s at kind =
@@ -43,7 +39,7 @@ head_at s at kind =
     demand (eqb (kind_of (x / 32)) kind) 18
     (demand (leb (x % 32) 27) 18
     (then (argument_at s p (x % 32)) (λ (n, next).
-    demand (eqb (info_of n) (x % 32)) 18 (got (record { major = x / 32; number = n }) next)))))
+    demand (eqb (info_of n) (x % 32)) 18 (got (record { major = x / 32; n = n }) next)))))
 
 -- a number, an array's count or a string's length, from least to most (R10.3); a negative number is
 -- out of every such range (R10.4)
@@ -51,8 +47,8 @@ unfoldable pub number_at : (s : List ℕ) (at kind least most fault : ℕ) → G
 number_at s at kind least most fault =
     then (head_at s at kind) (λ (h, next).
     demand (eqb h.major kind) fault
-    (demand (leb least h.number) fault
-    (demand (leb h.number most) fault (got h.number next))))
+    (demand (leb least h.n) fault
+    (demand (leb h.n most) fault (got h.n next))))
 
 -- where the contents of a string are; 3 where the input ends in them (R10.3)
 unfoldable pub contents_at : List ℕ → ℕ → ℕ → Got Span

@@ -1,5 +1,4 @@
 pub mod Float
 pub mod Form
 pub mod Item
-pub mod Answer
 pub mod Put

@@ -14,58 +14,46 @@ pub mod read;
 mod short;
 pub mod write;
 
-ghost use Rattle.std.specs.Prelude.{◌≡◌};
-ghost use Rattle.wire.specs.Answer.{number_of};
-ghost use Rattle.cbor.specs.Answer.{head_told, string_told};
+ghost use Rattle.std.specs.Prelude.{ℕ, ◌≡◌};
+ghost use Rattle.wire.specs.Refusal.{number};
+
+use wire::Refusal;
 
 // A head's major type and number. Of major type 0 the integer is n, of 1 it is -1 - n (R10.4).
-#[derive(Drop)]
-pub enum HeadRead {
-    Value { major: u8, n: u64, next: usize },
-    Refused { no: u8 },
+#[derive(Clone, Copy, Debug, PartialEq, Eq)]
+pub struct Head {
+    pub major: u8,
+    pub n: u64,
 }
 
-impl HeadRead {
-    // The number of the refusal to read a head; 0 where one was read.
-    //
-    // For a caller's `else`.
-    pub fn no(self) -> u8
-        ensures { result ≡ number_of (head_told self) }
-    {
-        match self {
-            HeadRead::Refused { no } => no,
-            _ => 0,
-        }
-    }
+// What a reader may be told to refuse with: a refusal, or any number of the caller's own.
+//
+// Each has a number, which is its own, and a refusal that `?` makes one of keeps its.
+pub trait Fault: From<Refusal> + Copy {
+    ghost use Rattle.wire.specs.declared.Refusal.{Refusal};
+
+    ghost number_of_fault: { Self → ℕ };
+
+    ghost laws: { ((r : Refusal) (e : Self) → Self.from_gives r e → number_of_fault e ≡ number r) × ((d e : Self) → number_of_fault d ≡ number_of_fault e → d ≡ e) };
 }
 
-// Where a string's contents start, and how long they are.
-#[derive(Drop)]
-pub enum StringRead {
-    Value {
-        start: usize,
-        len: usize,
-        next: usize,
-    },
-    Refused {
-        no: u8,
-    },
+impl Fault for Refusal {
+    ghost use Rattle.std.proofs.Common.{ap};
+    ghost use Rattle.wire.proofs.Answers.{number_injective};
+
+    ghost number_of_fault = { number };
+
+    ghost laws = { (λ r e h. ap number h, number_injective) };
 }
 
-impl StringRead {
-    // The number of the refusal to read a string; 0 where one was read.
-    pub fn no(self) -> u8
-        ensures { result ≡ number_of (string_told self) }
-    {
-        match self {
-            StringRead::Refused { no } => no,
-            _ => 0,
-        }
-    }
+impl Fault for u8 {
+    ghost number_of_fault = { λ n. n };
+
+    ghost laws = { (λ r e h. h, λ d e h. h) };
 }
 
 // The three widths of a float (R10.8).
-#[derive(Clone, Copy)]
+#[derive(Clone, Copy, Debug, PartialEq, Eq)]
 pub enum Width {
     Half,
     Single,

@@ -9,7 +9,7 @@ ghost use Rattle.cbor.specs.Form.{head_of, head_size, string_of, float_of, strin
 ghost use Rattle.cbor.specs.Put.{Put};
 
 use super::{float, short};
-use wire::Wrote;
+use wire::Refusal;
 
 // How long the head of the number n is.
 pub fn size(n: u64) -> usize
@@ -121,20 +121,18 @@ pub fn float(out: &mut [u8], at: usize, value: u64) -> usize
 
 // A finite float alone in the output, by the 64 bits of its double, and its length; or 19 where it
 // is not finite, then 11, and nothing changed.
-pub fn float_alone(value: u64, out: &mut [u8]) -> Wrote
+pub fn float_alone(value: u64, out: &mut [u8]) -> Result<usize, Refusal>
     ensures { Written 0 (float_verdict value) out.old out.new result }
 {
     if !float::finite(value) {
-        return Wrote::Refused {
-            no: wire::OUT_OF_RANGE,
-        };
+        return Err(Refusal::OutOfRange);
     }
     let len = float_size(value);
     if out.len() < len {
-        return Wrote::Refused { no: wire::NO_ROOM };
+        return Err(Refusal::NoRoom);
     }
     float(out, 0, value);
-    Wrote::Done { len }
+    Ok(len)
 }
 
 // A key and a string at the position, and the position past them. Where they do not fit, nothing is

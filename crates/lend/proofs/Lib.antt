@@ -1,3 +1,3 @@
-pub mod Parts
 pub mod Sames
+pub mod Parts
 pub mod Shown

@@ -1,25 +1,18 @@
--- The bytes at a place, in the three ways that `part` gives them. Assumes nothing.
-use Prim.Native.Nat.{ℕ, ◌+◌, ◌-◌, ◌≤◌, ◌<◌}
-use mathlib.Core.Path.{◌≡◌, sym, ap, ◌∙◌}
-use mathlib.Core.List.{List}
+-- A part of a slice that is written as a whole. Assumes nothing.
+use Prim.Native.Nat.{ℕ, ◌+◌, ◌-◌, ◌≤◌}
+use mathlib.Core.Path.{◌≡◌, sym, ◌∙◌}
+use mathlib.Core.List.{List, append_assoc}
 use native.Mathlib.Omega.{arith}
-use lib.ListN.{length, take, drop, length-drop, drop_of_length-le}
-use lib.Seq.{take-nil, take_all}
-use Rattle.wire.specs.declared.Span.{Span}
-use Rattle.wire.specs.Span.{part_at}
+use borrow.Rule.Slice.PartMut.{put_mid}
+use lib.ListN.{length, take, drop, length-drop}
+use lib.Seq.{drop-drop, length-take-le}
+use Rattle.wire.specs.Over.{over}
+use Rattle.wire.proofs.Overs.{over_fits}
 
-module _ (pool : List ℕ) (p : Span) where
-  pub part_none : length pool < p.start → take (length pool - length pool) (drop (length pool) pool) ≡ part_at pool p
-  part_none h =
-      let n : length pool - length pool ≡ 0 = omega arith in
-      ap (λ (k : ℕ). take k (drop (length pool) pool)) n
-      ∙ sym (take-nil p.len)
-      ∙ ap (take p.len) (sym (drop_of_length-le pool {i = p.start} (omega arith)))
+pub part_length : (at n : ℕ) (l : List ℕ) → at ≤ length l → n ≤ length l - at → length (take (at + n - at) (drop at l)) ≡ n
+part_length at n l h k = omega (arith, length-take-le (at + n - at) (drop at l), length-drop at l)
 
-  pub part_rest : p.start ≤ length pool → length pool - p.start < p.len → take (length pool - p.start) (drop p.start pool) ≡ part_at pool p
-  part_rest h l =
-      take_all (length pool - p.start) (drop p.start pool) (omega (arith, length-drop p.start pool))
-      ∙ sym (take_all p.len (drop p.start pool) (omega (arith, length-drop p.start pool)))
-
-  pub part_whole : take (p.start + p.len - p.start) (drop p.start pool) ≡ part_at pool p
-  part_whole = let n : p.start + p.len - p.start ≡ p.len = omega arith in ap (λ (k : ℕ). take k (drop p.start pool)) n
+pub put_over : (at n : ℕ) (l bs x : List ℕ) → n ≡ length bs → x ≡ bs → at ≤ length l → n ≤ length l - at → put_mid at (at + n - at) l x ≡ over at bs l
+put_over at n l bs x e p h k =
+    let m : at + n - at ≡ length bs = omega (arith, e) in
+    rw (p, m, drop-drop (length bs) at l) (sym (append_assoc (take at l) bs (drop (at + length bs) l)) ∙ sym (over_fits at bs l (omega (arith, e))))

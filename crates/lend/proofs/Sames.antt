@@ -7,6 +7,8 @@ use native.Mathlib.Numerals.{add-one}
 use lib.ListN.{length, drop, get_or, drop_of_length-le}
 use lib.Seq.{drop-cons}
 use lib.Dec.{eqb}
+use lib.Pointwise.{pointwise}
+use Rattle.std.specs.Prelude.{nat_eq}
 use borrow.Author.Tests.{eqb-true, eq-eqb, ne_eqb}
 use Rattle.wire.proofs.Cases.{both_hold}
 use Rattle.lend.specs.Same.{same}
@@ -42,6 +44,14 @@ same_ne xs ys n = go (same xs ys) refl
 pub same_lengths : (xs ys : List ℕ) → (length xs ≡ length ys → ⊥) → same xs ys ≡ false
 same_lengths xs ys n = same_ne xs ys (λ e. n (ap length e))
 
+-- what `==` of slices answers
+pub pointwise_same : (xs ys : List ℕ) → pointwise nat_eq xs ys ≡ same xs ys
+unfolding same
+pointwise_same [] [] = refl
+pointwise_same [] (y ∷ ys) = refl
+pointwise_same (x ∷ xs) [] = refl
+pointwise_same (x ∷ xs) (y ∷ ys) = ap (λ (t : Bool). eqb x y && t) (pointwise_same xs ys)
+
 -- a turn of a loop that compares, and its two ends
 module _ (a b : List ℕ) (i : ℕ) where
   pub same_step : i < length a → i < length b → get_or a i 0 ≡ get_or b i 0 → same (drop i a) (drop i b) ≡ same (drop (i + 1) a) (drop (i + 1) b)
@@ -55,24 +65,3 @@ module _ (a b : List ℕ) (i : ℕ) where
   pub same_end : length a ≤ i → length b ≤ i → same (drop i a) (drop i b) ≡ true
   unfolding same
   same_end h k = ap₂ same (drop_of_length-le a {i = i} h) (drop_of_length-le b {i = i} k)
-
--- a loop that looks at every byte: what it has seen so far, and what is left
-module _ (a b : List ℕ) (i : ℕ) (alike : Bool) where
-  never : (t u : Bool) → u ≡ false → (t && u) ≡ false
-  never true u e = e
-  never false u e = refl
-
-  pub alike_stop : i < length a → i < length b → (get_or a i 0 ≡ get_or b i 0 → ⊥) → same a b ≡ (alike && same (drop i a) (drop i b))
-      → same a b ≡ (false && same (drop (i + 1) a) (drop (i + 1) b))
-  alike_stop h k e p = p ∙ never alike (same (drop i a) (drop i b)) (same_stop a b i h k e)
-
-  pub alike_step : i < length a → i < length b → get_or a i 0 ≡ get_or b i 0 → same a b ≡ (alike && same (drop i a) (drop i b))
-      → same a b ≡ (alike && same (drop (i + 1) a) (drop (i + 1) b))
-  alike_step h k e p = p ∙ ap (λ (t : Bool). alike && t) (same_step a b i h k e)
-
-  pub alike_end : length a ≤ i → length b ≤ i → same a b ≡ (alike && same (drop i a) (drop i b)) → alike ≡ same a b
-  alike_end h k p = sym (p ∙ ap (λ (t : Bool). alike && t) (same_end a b i h k) ∙ all alike)
-    where
-      all : (t : Bool) → (t && true) ≡ t
-      all true = refl
-      all false = refl

@@ -1,44 +1,30 @@
--- A word of which byte after byte is made fit to be shown. Assumes nothing.
-use mathlib.Core.Path.{◌≡◌, refl, ap, ◌∙◌}
-use mathlib.Core.List.{List, [], ◌∷◌, map}
-use Prim.Native.Nat.{ℕ, zero, suc, ◌+◌, ◌≤◌, ◌<◌}
-use native.Mathlib.Numerals.{add-one}
+-- A word of which byte after byte is replaced. Assumes nothing.
+use Prim.Native.Nat.{ℕ, ◌+◌, ◌<◌}
+use mathlib.Core.Path.{◌≡◌, sym, ap, ap₂, ◌∙◌}
+use mathlib.Core.List.{List, map, [], ◌∷◌, ◌++◌}
 use native.Mathlib.Omega.{arith}
-use lib.ListN.{length, get_or, set, length-set}
-use Rattle.lend.specs.Plain.{plain_byte}
+use lib.ListN.{length, take, drop, get_or, set}
+use Rattle.std.proofs.lemmas.List.{take_more, take_more_set, drop-drop, drop-set-lt, get_or-drop, map-append}
 
--- the first i bytes are shown, and the rest is as it was
-abbrev pub up_to : ℕ → List ℕ → List ℕ
-up_to zero l = l
-up_to (suc i) [] = []
-up_to (suc i) (b ∷ bs) = plain_byte b ∷ up_to i bs
+-- the first i bytes of x are those of l by f, and the rest is as it was in l
+abbrev pub Shown : (ℕ → ℕ) → List ℕ → List ℕ → ℕ → Type 0
+Shown f l x i = (take i x ≡ map f (take i l)) × (drop i x ≡ drop i l)
 
-up_on : (i : ℕ) (l : List ℕ) → i < length l → set (up_to i l) i (plain_byte (get_or (up_to i l) i 0)) ≡ up_to (suc i) l
-up_on i [] h = absurd (omega arith)
-up_on zero (b ∷ bs) h = refl
-up_on (suc i) (b ∷ bs) h = ap (λ (r : List ℕ). plain_byte b ∷ r) (up_on i bs (omega arith))
+pub shown_on : (f : ℕ → ℕ) (l x : List ℕ) (i v : ℕ) → Shown f l x i → i < length x → length x ≡ length l → v ≡ f (get_or x i 0) → Shown f l (set x i v) (i + 1)
+shown_on f l x i v s h n e =
+    let t : get_or x i 0 ≡ get_or l i 0 = front x l s.1 in
+    let made : take (i + 1) (set x i v) ≡ map f (take (i + 1) l) =
+    take_more_set x i v h
+    ∙ ap₂ (λ (a : List ℕ) (b : ℕ). a ++ b ∷ []) s.0 (e ∙ ap f t)
+    ∙ sym (map-append f (take i l) (get_or l i 0 ∷ []))
+    ∙ ap (map f) (sym (take_more l i 0 (omega arith))) in
+    (made, drop-set-lt (i + 1) x i v (omega arith) ∙ behind)
+  where
+    front : (a b : List ℕ) → drop i a ≡ drop i b → get_or a i 0 ≡ get_or b i 0
+    front a b e = sym (at a) ∙ ap (λ (r : List ℕ). get_or r 0 0) e ∙ at b
+      where
+        at : (a : List ℕ) → get_or (drop i a) 0 0 ≡ get_or a i 0
+        at a = get_or-drop i a 0 0 ∙ ap (λ (k : ℕ). get_or a k 0) (omega arith)
 
-up_end : (i : ℕ) (l : List ℕ) → length l ≤ i → up_to i l ≡ map plain_byte l
-up_end zero [] h = refl
-up_end zero (b ∷ bs) h = absurd (omega arith)
-up_end (suc i) [] h = refl
-up_end (suc i) (b ∷ bs) h = ap (λ (r : List ℕ). plain_byte b ∷ r) (up_end i bs (omega arith))
-
-pub record Shown (l x : List ℕ) (i : ℕ) : Type 0 where
-  pub most : i ≤ length l
-  pub size : length x ≡ length l
-  pub made : x ≡ up_to i l
-
-pub shown_none : (l : List ℕ) → Shown l l 0
-shown_none l = record { most = omega arith; size = refl; made = refl }
-
-pub shown_on : (l x : List ℕ) (i v : ℕ) → Shown l x i → i < length x → v ≡ plain_byte (get_or x i 0) → Shown l (set x i v) (i + 1)
-shown_on l x i v s h e =
-    record {
-      most = omega (arith, s.size);
-      size = length-set x i v ∙ s.size;
-      made = rw (e, s.made, add-one i) (up_on i l (omega (arith, s.size)));
-    }
-
-pub shown_end : (l x : List ℕ) (i : ℕ) → Shown l x i → length x ≤ i → x ≡ map plain_byte l
-shown_end l x i s h = s.made ∙ up_end i l (omega (arith, s.size))
+    behind : drop (i + 1) x ≡ drop (i + 1) l
+    behind = sym (drop-drop 1 i x) ∙ ap (drop 1) s.1 ∙ drop-drop 1 i l

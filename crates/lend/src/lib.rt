@@ -21,36 +21,12 @@ pub fn put(out: &mut [u8], at: usize, b: u8)
     }
 }
 
-fn copy_fitting(out: &mut [u8], at: usize, src: &[u8])
-    requires { at + length src.now ≤ length out.old }
-    ensures { out.new ≡ over at src.now out.old }
-{
-    let mut i = 0;
-    while i < src.len() {
-        out[at + i] = src[i];
-        i += 1;
-    }
-}
-
 // All of src stands from the index on. Nothing changes where it does not fit.
 pub fn copy(out: &mut [u8], at: usize, src: &[u8])
     ensures { out.new ≡ over at src.now out.old }
 {
-    if at <= out.len() {
-        if src.len() <= out.len() - at {
-            copy_fitting(out, at, src);
-        }
-    }
-}
-
-fn fill_fitting(out: &mut [u8], at: usize, n: usize, b: u8)
-    requires { at + n ≤ length out.old }
-    ensures { out.new ≡ over at (replicate n b) out.old }
-{
-    let mut i = 0;
-    while i < n {
-        out[at + i] = b;
-        i += 1;
+    if at <= out.len() && src.len() <= out.len() - at {
+        out[at..at + src.len()].copy_from_slice(src);
     }
 }
 
@@ -58,10 +34,8 @@ fn fill_fitting(out: &mut [u8], at: usize, n: usize, b: u8)
 pub fn fill(out: &mut [u8], at: usize, n: usize, b: u8)
     ensures { out.new ≡ over at (replicate n b) out.old }
 {
-    if at <= out.len() {
-        if n <= out.len() - at {
-            fill_fitting(out, at, n, b);
-        }
+    if at <= out.len() && n <= out.len() - at {
+        out[at..at + n].fill(b);
     }
 }
 
@@ -72,25 +46,12 @@ pub fn clear(out: &mut [u8], at: usize, n: usize)
     fill(out, at, n, 0);
 }
 
-// True exactly where a and b hold the same bytes (`same_eq`, `same_refl`).
-//
-// All of them are looked at: of a loop that never leaves early the compiler makes one that takes
-// sixteen bytes at a time.
+// True exactly where a and b hold the same bytes (`same_eq`, `same_refl`). `==` of slices compares
+// whole groups of bytes at once.
 pub fn equal(a: &[u8], b: &[u8]) -> bool
     ensures { result ≡ same a.now b.now }
 {
-    if a.len() != b.len() {
-        return false;
-    }
-    let mut alike = true;
-    let mut i = 0;
-    while i < a.len() {
-        if a[i] != b[i] {
-            alike = false;
-        }
-        i += 1;
-    }
-    alike
+    a == b
 }
 
 // All of a text at the front of out, and its length; or 11 and nothing changed.
@@ -109,13 +70,10 @@ pub fn give(text: &[u8], out: &mut [u8]) -> Result<usize, Refusal>
 fn plain_byte(b: u8) -> u8
     ensures { result ≡ plain_byte b }
 {
-    if b < b' ' {
-        return b'?';
+    match b {
+        b' '..=b'~' => b,
+        _ => b'?',
     }
-    if b <= b'~' {
-        return b;
-    }
-    b'?'
 }
 
 // Each byte of a word that is no printable ASCII becomes a question mark, so that a terminal can
@@ -123,10 +81,8 @@ fn plain_byte(b: u8) -> u8
 pub fn plain(word: &mut [u8])
     ensures { word.new ≡ map plain_byte word.old }
 {
-    let mut i = 0;
-    while i < word.len() {
-        word[i] = plain_byte(word[i]);
-        i += 1;
+    for b in word.iter_mut() {
+        *b = plain_byte(*b);
     }
 }
 
@@ -134,15 +90,7 @@ pub fn plain(word: &mut [u8])
 pub fn part(pool: &[u8], p: Span) -> &[u8]
     ensures { result.now ≡ part_at pool.now p }
 {
-    let start = p.start;
-    let len = p.len;
-    let all = pool.len();
-    if all < start {
-        return &pool[all..all];
-    }
-    if all - start < len {
-        return &pool[start..all];
-    }
-    let end = start + len;
+    let start = p.start.min(pool.len());
+    let end = start + p.len.min(pool.len() - start);
     &pool[start..end]
 }

@@ -10,6 +10,8 @@ use lib.ListN.{length, take, drop, replicate, length-append, length-take, length
 use lib.Seq.{take_at, drop-append-add, drop-append-le, take-append-le}
 use Rattle.wire.specs.Answer.{choose, done, refused, number_of, Kept}
 use Rattle.wire.specs.Over.{over}
+use Rattle.wire.specs.Refusal.{number}
+use Rattle.wire.specs.declared.Refusal.{Refusal}
 use Rattle.wire.proofs.Cases.{lt_or_le}
 use Rattle.model.specs.Book.{absent, data_of}
 use Rattle.block.specs.Block.{page_block, with_page}
@@ -18,7 +20,7 @@ use Rattle.block.proofs.Reading.{block_here, block_length}
 use Rattle.block.proofs.Writing.{with_page_lem}
 use Rattle.book.specs.Head.{Head, read_head, has_head, head_in}
 use Rattle.book.specs.Read.{id_of, page_at, ok_at}
-use Rattle.book.proofs.Judging.{head_passed, head_refused}
+use Rattle.book.proofs.Judging.{head_passed, head_err}
 use Rattle.book.proofs.Decode.{head_size_lem, head_eight, head_copy}
 use Rattle.book.proofs.Places.{anew_size, anew_here, anew_front, anew_other, same_blocks}
 use Rattle.mend.specs.Mend.{mended_block, mended_pages, bad_pages, mending}
@@ -244,14 +246,14 @@ module _ (c : List ℕ) (ok : has_head c ≡ true) where
         go true w a b = rw (a, b) (kept w)
         go false w a b = rw a (made y w b)
 
--- ---- the whole, by the number that the judge of the head answered
+-- ---- the whole, by what the judge of the head answered
 
-module _ (c : List ℕ) (n : ℕ) (e : n ≡ number_of (head_in c)) where
-  pub mend_refused : (n ≡ 0 → ⊥) → Kept (mending c) c c (refused n)
+module _ (c : List ℕ) where
+  pub mend_refused : (r : Refusal) → number r ≡ number_of (head_in c) → Kept (mending c) c c (refused (number r))
   unfolding mending
-  mend_refused z = rw (head_refused c n e z) (record { answer = refl; bytes = refl })
+  mend_refused r e = rw (head_err c (number r) e r refl) (record { answer = refl; bytes = refl })
 
-  pub mend_made : n ≡ 0 → (m : ℕ) (x : List ℕ)
+  pub mend_made : 0 ≡ number_of (head_in c) → (m : ℕ) (x : List ℕ)
       → (m ≡ bad_pages (read_head c) 0 96 c) × (x ≡ take 512 c ++ mended_pages (read_head c) 0 96 c) → Kept (mending c) c x (done m)
   unfolding mending head_in
-  mend_made z m x (g, h) = rw (head_passed c n e z) (record { answer = ap done g; bytes = h })
+  mend_made e m x (g, h) = rw (head_passed c 0 e refl) (record { answer = ap done g; bytes = h })

@@ -1,11 +1,10 @@
--- Mend's enum says no more than a number and a count. Assumes nothing.
+-- What mend answers is no more than a number and a count. Assumes nothing.
 use mathlib.Core.Path.{◌≡◌}
-use Rattle.mend.specs.Mend.{told}
-use Rattle.mend.specs.declared.Mended.{Mended}
-use Rattle.mend.specs.declared.Mended.TheVariants.{Done, Refused}
+use Prim.Native.Nat.{ℕ}
+use Rattle.std.specs.Prelude.{Result}
+use Rattle.wire.specs.Reading.{told}
+use Rattle.wire.specs.declared.Refusal.{Refusal}
+use Rattle.wire.proofs.Answers.{told_injective}
 
-pub mended_injective : (r q : Mended) → told r ≡ told q → r ≡ q
-mended_injective (Done m) (Done n) e = cc
-mended_injective (Done m) (Refused n) e = cc
-mended_injective (Refused m) (Done n) e = cc
-mended_injective (Refused m) (Refused n) e = cc
+pub mended_injective : (r q : Result ℕ Refusal) → told r ≡ told q → r ≡ q
+mended_injective = told_injective

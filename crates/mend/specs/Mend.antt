@@ -1,6 +1,7 @@
 -- Mend, for a damaged file: R9.11.
 use Rattle.std.specs.Prelude.{ℕ, zero, suc, ◌+◌, ◌<◌, ◌≡◌, true, false, List, [], ◌++◌, take}
 use Rattle.wire.specs.Answer.{choose, Answer, done, refused, then, Change, leaves}
+pub use Rattle.wire.specs.Reading.{told}
 use Rattle.wire.specs.Sizes.{block_size, most_pages}
 use Rattle.model.specs.Book.{absent, held}
 use Rattle.model.specs.Complete.{Counted}
@@ -8,8 +9,6 @@ use Rattle.block.specs.Block.{page_block}
 use Rattle.block.specs.Read.{read_slot}
 use Rattle.book.specs.Head.{Head, read_head, has_head, head_in}
 use Rattle.book.specs.Read.{id_of, page_at, ok_at, ok_book}
-use Rattle.mend.specs.declared.Mended.{Mended}
-use Rattle.mend.specs.declared.Mended.TheVariants.{Done, Refused}
 
 -- the block b of index k under a head: untouched where it is well formed, else that of an absent
 -- page (R9.11)
@@ -29,11 +28,6 @@ bad_pages h k (suc n) c = choose (ok_at h k (page_at k c)) 0 1 + bad_pages h (su
 -- under a head that is not refused with 13, the page blocks are mended and counted (R9.11)
 unfoldable pub mending : List ℕ → Change ℕ
 mending c = then (head_in c) (λ h. leaves (take block_size c ++ mended_pages h 0 most_pages c) (bad_pages h 0 most_pages c))
-
--- the enum's cases as number and value (R18.5)
-abbrev pub told : Mended → Answer ℕ
-told (Done count) = done count
-told (Refused e) = refused e
 
 -- ---- what a mend says, block by block
 

@@ -4,21 +4,15 @@
 
 ghost use Rattle.std.specs.Prelude.{◌≡◌, true, ◌++◌, ◌+◌, ◌*◌, take};
 ghost use Rattle.wire.specs.Answer.{choose, Kept};
+ghost use Rattle.wire.specs.Reading.{told};
 ghost use Rattle.wire.specs.Sizes.{block_size, most_pages};
 ghost use Rattle.model.specs.Book.{absent};
 ghost use Rattle.block.specs.Block.{with_page};
 ghost use Rattle.book.specs.Head.{read_head, has_head};
 ghost use Rattle.book.specs.Read.{page_at, ok_at};
-ghost use Rattle.mend.specs.Mend.{mended_pages, bad_pages, mending, told};
+ghost use Rattle.mend.specs.Mend.{mended_pages, bad_pages, mending};
 
-// What mend answers.
-#[derive(Drop)]
-pub enum Mended {
-    // How many page blocks became absent.
-    Done { count: u8 },
-    // The number of the refusal (R2.2).
-    Refused { no: u8 },
-}
+use wire::Refusal;
 
 // Makes the page block of index k absent where it is not well formed under the head (R9.11).
 // Answers 1 then, else 0.
@@ -39,10 +33,8 @@ fn pages(c: &mut [u8]) -> u8
 {
     let id = book::id_copy(&c[..]);
     let mut count: u8 = 0;
-    let mut k: u8 = 0;
-    while k < book::PAGES {
+    for k in 0..book::PAGES {
         count += page(c, &id, k);
-        k += 1;
     }
     count
 }
@@ -51,12 +43,9 @@ fn pages(c: &mut [u8]) -> u8
 // nothing changed.
 //
 // Mend forgets pages and disputes: what it leaves is no longer what was offered.
-pub fn mend(c: &mut [u8]) -> Mended
+pub fn mend(c: &mut [u8]) -> Result<u8, Refusal>
     ensures { Kept (mending c.old) c.old c.new (told result) }
 {
-    let no = book::judge_head(&c[..]);
-    if no != wire::DONE {
-        return Mended::Refused { no };
-    }
-    Mended::Done { count: pages(c) }
+    book::judge_head(&c[..])?;
+    Ok(pages(c))
 }

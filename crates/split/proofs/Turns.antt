@@ -31,10 +31,6 @@ module _ (k more : ℕ) (secret cs : List ℕ) (x : ℕ) where
 
 -- ---- a share, block after block
 
--- block k of n is there, and its coefficients
-pub block_there : (k n more s c : ℕ) → k < n → n * 16 < s + 16 → n * (more * 16) ≤ c → (k * 16 ≤ s) × (k * (more * 16) + more * 16 ≤ c)
-block_there k n more s c h a b = (omega arith, part_fits k n (more * 16) c h b)
-
 module _ (n more : ℕ) (secret cs : List ℕ) (x at : ℕ) (out₀ : List ℕ) where
   -- the first k blocks of the share stand from index at on
   abbrev pub Laid : ℕ → List ℕ → Type 0

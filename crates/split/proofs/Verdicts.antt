@@ -39,10 +39,6 @@ module _ (t c : ℕ) (r : Bool) (e : r ≡ quorum_allowed t c) (h : not r ≡ fa
     pub shares_few : c * ((s + 15) / 16 * 16) ≤ 255 * 224
     shares_few = let n : (s + 15) / 16 * 16 ≤ 224 = omega arith in mul-le-mul quorum_kept.2 n
 
-    pub shares_asked : (l x : ℕ) → l ≡ (s + 15) / 16 * ((t - 1) * 16) → c * ((s + 15) / 16 * 16) ≤ x
-        → (c ≤ 255) × ((s + 15) / 16 * 16 < s + 16) × ((s + 15) / 16 * ((t - 1) * 16) ≤ l) × (c * ((s + 15) / 16 * 16) ≤ x)
-    shares_asked l x q f = (quorum_kept.2, omega arith, omega arith, f)
-
 -- ---- the answers
 
 module _ (secret : List ℕ) (t c : ℕ) (cs x : List ℕ) (r : Bool) (e : r ≡ quorum_allowed t c) where

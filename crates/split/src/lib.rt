@@ -28,46 +28,51 @@ fn value(first: [u64; 2], coefficients: &[u8], more: usize, point: u8) -> [u64; 
     field::sum(first, field::scale(made, point))
 }
 
-// The bytes of block k of the share at a point.
-fn one_block(secret: &[u8], coefficients: &[u8], k: usize, more: usize, point: u8) -> [u8; 16]
-    requires { (k * 16 ≤ length secret.now) × (k * (more * 16) + more * 16 ≤ length coefficients.now) }
-    ensures { result ≡ block_of k more secret.now coefficients.now point }
-{
-    let from = k * 16;
-    let of = k * (more * 16);
-    let first = field::load(&secret[from..]);
-    let v = value(first, &coefficients[of..], more, point);
-    field::bytes(v)
-}
-
-// The share at a point, from index at on: n blocks, each with `more` coefficients of its own.
-fn share(
-    secret: &[u8],
-    coefficients: &[u8],
+// What is split: a secret of n blocks, and `more` blocks of coefficients for each of them.
+#[derive(Clone, Copy)]
+struct Dealing<'a> {
+    secret: &'a [u8],
+    coefficients: &'a [u8],
     n: usize,
     more: usize,
-    point: u8,
-    out: &mut [u8],
-    at: usize,
-)
-    requires { (n * 16 < length secret.now + 16) × (n * (more * 16) ≤ length coefficients.now) × (at + n * 16 ≤ length out.old) }
-    ensures { out.new ≡ over at (share_of n more secret.now coefficients.now point) out.old }
-{
-    for k in 0..n {
-        let b = one_block(secret, coefficients, k, more, point);
-        lend::copy(out, at + k * 16, &b);
-    }
+    ghost last_begun: { n * 16 < length secret.now + 16 },
+    ghost coefficients_there: { n * (more * 16) ≤ length coefficients.now },
 }
 
-// All shares from the front of out on, the first at point 1.
-fn shares(secret: &[u8], coefficients: &[u8], n: usize, more: usize, count: usize, out: &mut [u8])
-    requires { (count ≤ 255) × (n * 16 < length secret.now + 16) × (n * (more * 16) ≤ length coefficients.now) × (count * (n * 16) ≤ length out.old) }
-    ensures { out.new ≡ over 0 (shares_from count 1 n more secret.now coefficients.now) out.old }
-{
-    for i in 0..count {
-        let point = (i + 1) as u8;
-        let at = i * (n * 16);
-        share(secret, coefficients, n, more, point, out, at);
+impl<'a> Dealing<'a> {
+    // The bytes of block k of the share at a point.
+    fn block(&self, k: usize, point: u8) -> [u8; 16]
+        requires { k < self.now.n }
+        ensures { result ≡ block_of k self.now.more self.now.secret.now self.now.coefficients.now point }
+    {
+        let from = k * 16;
+        let of = k * (self.more * 16);
+        let first = field::load(&self.secret[from..]);
+        let v = value(first, &self.coefficients[of..], self.more, point);
+        field::bytes(v)
+    }
+
+    // The share at a point, from index at on.
+    fn share(&self, point: u8, out: &mut [u8], at: usize)
+        requires { at + self.now.n * 16 ≤ length out.old }
+        ensures { out.new ≡ over at (share_of self.now.n self.now.more self.now.secret.now self.now.coefficients.now point) out.old }
+    {
+        for k in 0..self.n {
+            let b = self.block(k, point);
+            lend::copy(out, at + k * 16, &b);
+        }
+    }
+
+    // All shares from the front of out on, the first at point 1.
+    fn shares(&self, count: usize, out: &mut [u8])
+        requires { (count ≤ 255) × (count * (self.now.n * 16) ≤ length out.old) }
+        ensures { out.new ≡ over 0 (shares_from count 1 self.now.n self.now.more self.now.secret.now self.now.coefficients.now) out.old }
+    {
+        for i in 0..count {
+            let point = (i + 1) as u8;
+            let at = i * (self.n * 16);
+            self.share(point, out, at);
+        }
     }
 }
 
@@ -109,6 +114,12 @@ pub fn split(
     if out.len() < len {
         return Err(Refusal::NoRoom);
     }
-    shares(secret, coefficients, n, more, count as usize, out);
+    let dealing = Dealing {
+        secret,
+        coefficients,
+        n,
+        more,
+    };
+    dealing.shares(count as usize, out);
     Ok(len)
 }

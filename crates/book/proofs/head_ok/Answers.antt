@@ -1,7 +1,6 @@
 -- `book::head_ok` meets its contract: the head is written anew from what it says, and compared.
 -- Assumes nothing.
 use native.Mathlib.Omega.{arith}
-use borrow.Author.Tests.{not-true, not-false}
 use Rattle.book.proofs.Heads.{size_no, total_no, head_again}
 use Rattle.book.proofs.head_ok.Goals as goal
 
@@ -9,7 +8,7 @@ pub returns-then-c-ne-COLLECTION_SIZE : goal.returns-then-c-ne-COLLECTION_SIZE
 returns-then-c-ne-COLLECTION_SIZE c = size_no _ (λ e. omega (arith, e))
 
 pub returns-then-not-total_ok : goal.returns-then-not-total_ok
-returns-then-not-total_ok c = search (total_no, not-true)
+returns-then-not-total_ok c = search total_no
 
 pub returns : goal.returns
-returns c = search (head_again, not-false)
+returns c = search head_again

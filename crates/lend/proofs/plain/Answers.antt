@@ -1,11 +1,6 @@
-use Rattle.lend.proofs.Shown.{shown_none, shown_on, shown_end}
+use native.Mathlib.Omega.{arith}
+use Rattle.lend.proofs.Shown.{shown_on}
 use Rattle.lend.proofs.plain.Goals as goal
 
-pub loop-i-init : goal.loop-i-init
-loop-i-init c = search shown_none
-
-pub loop-i-preserved : goal.loop-i-preserved
-loop-i-preserved c = search shown_on
-
-pub returns : goal.returns
-returns c = search shown_end
+pub loop-b-preserved : goal.loop-b-preserved
+loop-b-preserved c = shown_on _ _ _ _ _ c.loop-b.invariant (omega arith) c.loop-b.auto.word c.plain_byte.ensures

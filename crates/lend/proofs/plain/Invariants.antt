@@ -1,12 +1,8 @@
 -- `lend::plain` meets its contract. The loop's invariant: the bytes passed are shown. Assumes
 -- nothing.
-use Prim.Native.Nat.{◌-◌}
-use lib.ListN.{length}
+use Rattle.lend.specs.Plain.{plain_byte}
 use Rattle.lend.proofs.Shown.{Shown}
 use Rattle.lend.proofs.plain.Given as goal
 
-abbrev pub invariant-loop-i : goal.invariant-loop-i
-invariant-loop-i l = Shown l.initial.word l.word l.i
-
-abbrev pub decreases-loop-i : goal.decreases-loop-i
-decreases-loop-i l = length l.initial.word - l.i
+abbrev pub invariant-loop-b : goal.invariant-loop-b
+invariant-loop-b l = Shown plain_byte l.initial.word l.word l.b-index

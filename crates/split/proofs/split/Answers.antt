@@ -2,7 +2,7 @@
 use native.Mathlib.Omega.{arith}
 use mathlib.Core.Path.{ap}
 use mathlib.Core.Bool.{not}
-use Rattle.split.proofs.Verdicts.{quorum_kept, coefficients_few, shares_few, shares_asked, split_quorum, split_empty, split_long, split_other, split_short, split_done}
+use Rattle.split.proofs.Verdicts.{quorum_kept, coefficients_few, shares_few, split_quorum, split_empty, split_long, split_other, split_short, split_done}
 use Rattle.split.proofs.split.Goals as goal
 
 pub returns-then-not-quorum_allowed : goal.returns-then-not-quorum_allowed
@@ -39,7 +39,7 @@ returns-then-out-len c = search split_short
 
 pub shares-requires : goal.shares-requires
 shares-requires c =
-    shares_asked _ _ _ c.quorum_allowed.ensures (ap not c.if-not-quorum_allowed.false) _ c.if-secret-gt-MOST_SHARE.false _ _ c.if-coefficients-n.false c.if-out-len.false
+    ((quorum_kept _ _ _ c.quorum_allowed.ensures (ap not c.if-not-quorum_allowed.false)).2, c.if-out-len.false)
 
 pub returns : goal.returns
 returns c = search split_done

@@ -1,6 +1,0 @@
--- `split::one_block` meets its contract. Assumes nothing.
-use Rattle.split.proofs.Turns.{block_made}
-use Rattle.split.proofs.one_block.Goals as goal
-
-pub returns : goal.returns
-returns c = search block_made

@@ -1,7 +1,0 @@
--- `split::share` meets its contract. The loop's invariant: the first k blocks stand in the output.
--- Assumes nothing.
-use Rattle.split.proofs.Turns.{Laid}
-use Rattle.split.proofs.share.Given as goal
-
-abbrev pub invariant-loop-k : goal.invariant-loop-k
-invariant-loop-k l = Laid l.n l.more l.secret l.coefficients l.point l.at l.initial.out l.k l.out
