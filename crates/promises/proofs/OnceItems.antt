@@ -1,10 +1,17 @@
 -- One answer, by each contract itself: CBOR items. Assumes nothing.
-use mathlib.Core.Path.{refl, sym, ◌∙◌}
+use denote.RattleType.{RattleType}
+use denote.Param.Laws.{Laws, IsCopy}
+use mir.Syntax.{Dict}
+use Rattle.wire.specs.declared.Refusal.{Refusal}
+use Rattle.cbor.specs.declared.Fault.{Ghosts}
+use Rattle.std.specs.declared.convert.From as from
+use Rattle.std.specs.declared.clone.Clone as clone
+use mathlib.Core.Path.{◌≡◌, refl, sym, ◌∙◌}
 use Rattle.promises.specs.Once.{Once}
 use Rattle.promises.proofs.Lasts.{here, past}
 use Rattle.wire.proofs.Answers.{step_injective, told_injective}
 use Rattle.wire.proofs.Writes.{written_once}
-use Rattle.cbor.proofs.Answers.{head_injective, string_injective}
+use Rattle.cbor.proofs.Answers.{told_by_injective}
 use Rattle.cbor.proofs.Runs.{put_once}
 use Rattle.cbor.proofs.float.begins as cbor-float-begins
 use Rattle.cbor.proofs.float.finite as cbor-float-finite
@@ -42,25 +49,16 @@ pub cbor_read_one_byte_once : Once cbor-read-one-byte.Kinds.ps cbor-read-one-byt
 cbor_read_one_byte_once κs args x y u v p q = (step_injective x y (p ∙ sym q), refl)
 
 pub cbor_read_head_once : Once cbor-read-head.Kinds.ps cbor-read-head.Kinds.r cbor-read-head.Reads.Learnt
-cbor_read_head_once κs args x y u v p q = (head_injective x y (p ∙ sym q), refl)
-
-pub cbor_read_number_once : Once cbor-read-number.Kinds.ps cbor-read-number.Kinds.r cbor-read-number.Reads.Learnt
-cbor_read_number_once κs args x y u v p q = (told_injective x y (p ∙ sym q), refl)
+cbor_read_head_once κs args x y u v p q = (told_injective x y (p ∙ sym q), refl)
 
 pub cbor_read_contents_once : Once cbor-read-contents.Kinds.ps cbor-read-contents.Kinds.r cbor-read-contents.Reads.Learnt
 cbor_read_contents_once κs args x y u v p q = (told_injective x y (p ∙ sym q), refl)
-
-pub cbor_read_string_once : Once cbor-read-string.Kinds.ps cbor-read-string.Kinds.r cbor-read-string.Reads.Learnt
-cbor_read_string_once κs args x y u v p q = (told_injective x y (p ∙ sym q), refl)
 
 pub cbor_read_key_once : Once cbor-read-key.Kinds.ps cbor-read-key.Kinds.r cbor-read-key.Reads.Learnt
 cbor_read_key_once κs args x y u v p q = (step_injective x y (p ∙ sym q), refl)
 
 pub cbor_read_float_once : Once cbor-read-float.Kinds.ps cbor-read-float.Kinds.r cbor-read-float.Reads.Learnt
 cbor_read_float_once κs args x y u v p q = (told_injective x y (p ∙ sym q), refl)
-
-pub cbor_read_string_field_once : Once cbor-read-string-field.Kinds.ps cbor-read-string-field.Kinds.r cbor-read-string-field.Reads.Learnt
-cbor_read_string_field_once κs args x y u v p q = (told_injective x y (p ∙ sym q), refl)
 
 pub cbor_read_number_field_once : Once cbor-read-number-field.Kinds.ps cbor-read-number-field.Kinds.r cbor-read-number-field.Reads.Learnt
 cbor_read_number_field_once κs args x y u v p q = (told_injective x y (p ∙ sym q), refl)
@@ -94,3 +92,19 @@ cbor_write_string_field_once κs args x y u v p q = let e = put_once p q in (e.0
 
 pub cbor_write_number_field_once : Once cbor-write-number-field.Kinds.ps cbor-write-number-field.Kinds.r cbor-write-number-field.Reads.Learnt
 cbor_write_number_field_once κs args x y u v p q = let e = put_once p q in (e.0, here e.1)
+
+-- ---- the readers whose caller names the fault, once for every type of faults that its numbers tell
+-- apart, as the laws of `Fault` say (cbor); its other parameters are what the toolchain passes of
+-- such a type
+
+module _ (T : RattleType) (L : Laws T) (C : IsCopy T) (G : Ghosts T.Denot) (d : Dict) (F : from.Ghosts T.Denot Refusal) (e : Dict)
+    (K : clone.Ghosts T.Denot) (f : Dict) (apart : (a b : T.Denot) → G.number_of_fault a ≡ G.number_of_fault b → a ≡ b) where
+  pub cbor_read_number_once : Once (cbor-read-number.Kinds.ps T L C) (cbor-read-number.Kinds.r T L C) (cbor-read-number.Reads.Learnt T L C G d F e K f)
+  cbor_read_number_once κs args x y u v p q = (told_by_injective G.number_of_fault apart x y (p ∙ sym q), refl)
+
+  pub cbor_read_string_once : Once (cbor-read-string.Kinds.ps T L C) (cbor-read-string.Kinds.r T L C) (cbor-read-string.Reads.Learnt T L C G d F e K f)
+  cbor_read_string_once κs args x y u v p q = (told_by_injective G.number_of_fault apart x y (p ∙ sym q), refl)
+
+  pub cbor_read_string_field_once : Once (cbor-read-string-field.Kinds.ps T L C) (cbor-read-string-field.Kinds.r T L C)
+      (cbor-read-string-field.Reads.Learnt T L C G d F e K f)
+  cbor_read_string_field_once κs args x y u v p q = (told_by_injective G.number_of_fault apart x y (p ∙ sym q), refl)

@@ -52,7 +52,7 @@ pub shard_signed_once : Once shard-signed.Kinds.ps shard-signed.Kinds.r shard-si
 shard_signed_once κs args x y u v p q = let e = written_once x y p q in (e.0, past3 (past3 (here e.1)))
 
 pub entry_read_integer_once : Once entry-read-integer.Kinds.ps entry-read-integer.Kinds.r entry-read-integer.Reads.Learnt
-entry_read_integer_once κs args x y u v p q = (head_injective x y (p ∙ sym q), refl)
+entry_read_integer_once κs args x y u v p q = (told_injective x y (p ∙ sym q), refl)
 
 pub entry_read_file_once : Once entry-read-file.Kinds.ps entry-read-file.Kinds.r entry-read-file.Reads.Learnt
 entry_read_file_once κs args x y u v p q = (file_injective x y (p ∙ sym q), refl)
