@@ -1,4 +1,3 @@
-pub mod Answers
 pub mod Verdicts
 pub mod Reading
 pub mod Sizes

@@ -9,28 +9,22 @@ use Rattle.wire.proofs.Cases.{said_no, said_yes}
 use Rattle.path.specs.Order.{below}
 use Rattle.path.specs.Path.{path_least, path_most, path_allowed}
 use Rattle.cbor.specs.Item.{string_field_at}
-use Rattle.cbor.specs.Answer.{string_told}
 use Rattle.wire.specs.Ascii.{ascii}
-use Rattle.cbor.specs.declared.StringRead.{StringRead}
-use Rattle.cbor.specs.declared.StringRead.TheVariants.{Value}
-use Rattle.cbor.proofs.Answers.{as_told}
+use Rattle.wire.specs.declared.Span.{Span}
 use Rattle.entry.specs.File.{path_at}
 
-module _ (s : List ℕ) (at start len next : ℕ) (r : StringRead) (e : string_told r ≡ string_field_at s at (ascii "path") 3 path_least path_most 20) (k : r ≡ Value start len next)
-    (text : List ℕ) (t : text ≡ part_at s (record { start = start; len = len })) where
-  there : string_field_at s at (ascii "path") 3 path_least path_most 20 ≡ got (record { start = start; len = len }) next
-  there = as_told string_told e k
-
+module _ (s : List ℕ) (at : ℕ) (v : Span) (next : ℕ) (there : got v next ≡ string_field_at s at (ascii "path") 3 path_least path_most 20)
+    (text : List ℕ) (t : text ≡ part_at s v) where
   module _ (prev : List ℕ) (a : Bool) (p : a ≡ path_allowed text) where
     pub path_bad : not a ≡ true → refused 20 ≡ path_at s at prev
     unfolding path_at
-    path_bad h = rw (there, ← t, said_no a _ p h)
+    path_bad h = rw (← there, ← t, said_no a _ p h)
 
     module _ (h : not a ≡ false) (b : Bool) (q : b ≡ below prev text) where
       pub path_low : not b ≡ true → refused 20 ≡ path_at s at prev
       unfolding path_at
-      path_low l = rw (there, ← t, said_yes a _ p h, said_no b _ q l)
+      path_low l = rw (← there, ← t, said_yes a _ p h, said_no b _ q l)
 
-      pub path_good : not b ≡ false → got (record { start = start; len = len }) next ≡ path_at s at prev
+      pub path_good : not b ≡ false → got v next ≡ path_at s at prev
       unfolding path_at
-      path_good l = rw (there, ← t, said_yes a _ p h, said_yes b _ q l)
+      path_good l = rw (← there, ← t, said_yes a _ p h, said_yes b _ q l)

@@ -8,6 +8,7 @@ use native.Mathlib.Omega.{arith}
 use borrow.Author.Tests.{ltb-true, lt-ltb, ne_eqb, eqb-true}
 use lib.Dec.{ltb, eqb}
 use lib.ListN.{length}
+use Rattle.std.specs.Prelude.{Option, Some, None}
 use Rattle.wire.specs.Answer.{choose, then, Got, got}
 use Rattle.wire.specs.Number.{Bytes, big_endian}
 use Rattle.wire.proofs.Cases.{passed, then_passed, got_next, got_value}
@@ -18,16 +19,16 @@ use Rattle.path.specs.Order.{below}
 use Rattle.path.specs.Path.{path_least, path_most, path_allowed}
 use Rattle.path.proofs.Paths.{allowed_length}
 use Rattle.cbor.specs.Form.{info_of, width_of, head_of, string_of, string_field_of, number_field_of}
-use Rattle.cbor.specs.Item.{byte_at, one_at, kind_of, Head, head_at, string_field_at, number_field_at, any_field_at}
+use Rattle.cbor.specs.Item.{byte_at, one_at, kind_of, head_at, string_field_at, number_field_at, any_field_at}
+use Rattle.cbor.specs.declared.Head.{Head}
 use Rattle.wire.specs.Ascii.{ascii}
 use Rattle.cbor.proofs.Sizes.{info_most, either}
 use Rattle.cbor.proofs.Within.{string_field_within, number_field_within}
 use Rattle.cbor.proofs.Written.{kind_bytes, kind_text, byte_back, one_back, head_back, string_field_back, number_field_back, any_field_back}
 use Rattle.cbor.proofs.Only.{one_only, head_only, string_field_only, number_field_only, any_field_only}
-use Rattle.entry.specs.File.{integer_at, mtime_at, path_at, file_at}
+use Rattle.entry.specs.File.{integer_at, integer_by, mtime_at, path_at, file_at}
 use Rattle.entry.specs.Writing.{Entry, entry_in, integer_of, mtime_of, entry_of, file_of, mtime_allowed}
-use Rattle.entry.specs.declared.Mtime.{Mtime}
-use Rattle.entry.specs.declared.Mtime.TheVariants.{Null, Integer}
+use Rattle.entry.specs.declared.Integer.{Integer}
 use Rattle.entry.specs.declared.File.{File}
 use Rattle.entry.proofs.Sizes.{part_length}
 use Rattle.entry.proofs.Writers.{Named, Good}
@@ -50,7 +51,7 @@ sign_first true n = omega (arith, info_most n)
 sign_first false n = omega (arith, info_most n)
 
 module _ {s : List ℕ} {at next : ℕ} (negative : Bool) (n : ℕ) (l : n < 9223372036854775808) (h : Stands s at (integer_of negative n) next) where
-  pub integer_back : integer_at s at ≡ got (record { major = choose negative 1 0; number = n }) next
+  pub integer_back : integer_at s at ≡ got (record { major = choose negative 1 0; n = n }) next
   unfolding integer_at integer_of
   integer_back =
       let e = ap (head_at s at) (sym (sign_kind negative)) ∙ head_back (choose negative 1 0) n (omega arith) h in
@@ -75,34 +76,34 @@ sign_of m e = either (λ (k : ℕ). k ≡ 0 → choose (eqb m 1) 1 0 ≡ m) (eqb
     zero t z = rw t (sym z)
 
 pub integer_only : {s : List ℕ} {at next : ℕ} {h : Head} → Bytes s → integer_at s at ≡ got h next
-    → Stands s at (integer_of (eqb h.major 1) h.number) next × (h.number < 9223372036854775808)
+    → Stands s at (integer_of (eqb h.major 1) h.n) next × (h.n < 9223372036854775808)
 unfolding integer_at integer_of
 integer_only {s} {at} {next} {h} y e =
     let t = then_passed (head_at s at 0) _ e in
-    let u = passed (ltb t.0.number 9223372036854775808) (got t.0 t.1) 19 t.3 in
+    let u = passed (ltb t.0.n 9223372036854775808) (got t.0 t.1) 19 t.3 in
     let f : t.0 ≡ h = got_value u.1 in
     let n : t.1 ≡ next = got_next u.1 in
     let r = head_only 0 y t.2 in
-    let k : head_of t.0.major t.0.number ≡ head_of (choose (eqb t.0.major 1) 1 0) t.0.number = ap (λ (m : ℕ). head_of m t.0.number) (sym (sign_of t.0.major r.1)) in
-    subst (λ (h : Head). Stands s at (head_of (choose (eqb h.major 1) 1 0) h.number) next × (h.number < 9223372036854775808)) f
-    (stands_as k n r.0, ltb-true t.0.number 9223372036854775808 u.0)
+    let k : head_of t.0.major t.0.n ≡ head_of (choose (eqb t.0.major 1) 1 0) t.0.n = ap (λ (m : ℕ). head_of m t.0.n) (sym (sign_of t.0.major r.1)) in
+    subst (λ (h : Head). Stands s at (head_of (choose (eqb h.major 1) 1 0) h.n) next × (h.n < 9223372036854775808)) f
+    (stands_as k n r.0, ltb-true t.0.n 9223372036854775808 u.0)
 
 -- ---- the time of a file
 
-pub mtime_back : {s : List ℕ} {at next : ℕ} (t : Mtime) → mtime_allowed t ≡ true → Stands s at (string_of 3 (ascii "mtime") ++ mtime_of t) next → mtime_at s at ≡ got t next
+pub mtime_back : {s : List ℕ} {at next : ℕ} (t : Option Integer) → mtime_allowed t ≡ true → Stands s at (string_of 3 (ascii "mtime") ++ mtime_of t) next → mtime_at s at ≡ got t next
 unfolding mtime_at mtime_of mtime_allowed
-mtime_back {next = next} Null a h =
+mtime_back {next = next} None a h =
     let k = stands_first (string_of 3 (ascii "mtime")) (0xF6 ∷ []) h in
     let v = stands_second (string_of 3 (ascii "mtime")) (0xF6 ∷ []) h in
-    rw (any_field_back (ascii "mtime") (omega arith) k (byte_back 0xF6 v)) (ap (got Null) (sym v.ends))
-mtime_back {s} {at} (Integer negative n) a h =
-    let k = stands_first (string_of 3 (ascii "mtime")) (integer_of negative n) h in
-    let v = stands_second (string_of 3 (ascii "mtime")) (integer_of negative n) h in
-    let l = ltb-true n 9223372036854775808 a in
-    let b = integer_first negative n l v in
-    rw (any_field_back (ascii "mtime") (omega arith) k b.1, ne_eqb b.0 0xF6 (omega (arith, b.2)), integer_back negative n l v, sign_major negative)
+    rw (any_field_back (ascii "mtime") (omega arith) k (byte_back 0xF6 v)) (ap (got None) (sym v.ends))
+mtime_back {s} {at} (Some v) a h =
+    let k = stands_first (string_of 3 (ascii "mtime")) (integer_of v.negative v.n) h in
+    let u = stands_second (string_of 3 (ascii "mtime")) (integer_of v.negative v.n) h in
+    let l = ltb-true v.n 9223372036854775808 a in
+    let b = integer_first v.negative v.n l u in
+    rw (any_field_back (ascii "mtime") (omega arith) k b.1, ne_eqb b.0 0xF6 (omega (arith, b.2)), integer_back v.negative v.n l u, sign_major v.negative)
 
-pub mtime_only : {s : List ℕ} {at next : ℕ} {t : Mtime} → Bytes s → mtime_at s at ≡ got t next → Stands s at (string_of 3 (ascii "mtime") ++ mtime_of t) next × (mtime_allowed t ≡ true)
+pub mtime_only : {s : List ℕ} {at next : ℕ} {t : Option Integer} → Bytes s → mtime_at s at ≡ got t next → Stands s at (string_of 3 (ascii "mtime") ++ mtime_of t) next × (mtime_allowed t ≡ true)
 unfolding mtime_at mtime_of mtime_allowed
 mtime_only {s} {at} {next} {t} y e =
     let k = then_passed (any_field_at s at (ascii "mtime")) _ e in
@@ -111,22 +112,22 @@ mtime_only {s} {at} {next} {t} y e =
     (stands_join o.0 v.0, v.1)
   where
     value : (a x : ℕ) → Stands s a (x ∷ []) (a + 1)
-        → choose (eqb x 0xF6) (got Null (a + 1)) (then (integer_at s a) (λ (h, next). got (Integer (eqb h.major 1) h.number) next)) ≡ got t next
+        → choose (eqb x 0xF6) (got None (a + 1)) (then (integer_at s a) (λ (h, next). got (Some (integer_by h)) next)) ≡ got t next
         → Stands s a (mtime_of t) next × (mtime_allowed t ≡ true)
-    value a x b = either (λ (g : Got Mtime). g ≡ got t next → Stands s a (mtime_of t) next × (mtime_allowed t ≡ true)) (eqb x 0xF6) null whole
+    value a x b = either (λ (g : Got (Option Integer)). g ≡ got t next → Stands s a (mtime_of t) next × (mtime_allowed t ≡ true)) (eqb x 0xF6) null whole
       where
-        null : eqb x 0xF6 ≡ true → got Null (a + 1) ≡ got t next → Stands s a (mtime_of t) next × (mtime_allowed t ≡ true)
+        null : eqb x 0xF6 ≡ true → got None (a + 1) ≡ got t next → Stands s a (mtime_of t) next × (mtime_allowed t ≡ true)
         null q g =
-            subst (λ (t : Mtime). Stands s a (mtime_of t) next × (mtime_allowed t ≡ true)) (got_value g)
+            subst (λ (t : Option Integer). Stands s a (mtime_of t) next × (mtime_allowed t ≡ true)) (got_value g)
             (stands_as (ap (λ (z : ℕ). z ∷ []) (eqb-true x 0xF6 q)) (got_next g) b, refl)
 
-        whole : eqb x 0xF6 ≡ false → then (integer_at s a) (λ (h, next). got (Integer (eqb h.major 1) h.number) next) ≡ got t next
+        whole : eqb x 0xF6 ≡ false → then (integer_at s a) (λ (h, next). got (Some (integer_by h)) next) ≡ got t next
             → Stands s a (mtime_of t) next × (mtime_allowed t ≡ true)
         whole q g =
-            let i = then_passed (integer_at s a) (λ (h, next). got (Integer (eqb h.major 1) h.number) next) g in
+            let i = then_passed (integer_at s a) (λ (h, next). got (Some (integer_by h)) next) g in
             let r = integer_only y i.2 in
-            subst (λ (t : Mtime). Stands s a (mtime_of t) next × (mtime_allowed t ≡ true)) (got_value i.3)
-            (stands_as refl (got_next i.3) r.0, lt-ltb i.0.number 9223372036854775808 r.1)
+            subst (λ (t : Option Integer). Stands s a (mtime_of t) next × (mtime_allowed t ≡ true)) (got_value i.3)
+            (stands_as refl (got_next i.3) r.0, lt-ltb i.0.n 9223372036854775808 r.1)
 
 -- ---- the path
 

@@ -1,11 +1,12 @@
 -- How long a file is. Assumes nothing.
 use Prim.Native.Nat.{ℕ, ◌+◌, ◌≤◌}
 use mathlib.Core.Path.{◌≡◌, refl, ap, ◌∙◌}
-use mathlib.Core.Bool.{true, false}
+use mathlib.Core.Bool.{Bool, true, false}
 use mathlib.Core.List.{List, ◌++◌}
 use native.Mathlib.Omega.{arith}
 use lib.ListN.{length, drop, length-append, length-drop}
 use lib.Seq.{length-take-le}
+use Rattle.std.specs.Prelude.{Option, Some, None}
 use Rattle.wire.specs.declared.Span.{Span}
 use Rattle.wire.specs.Span.{part_at}
 use Rattle.cbor.specs.Form.{head_size, string_of, string_field_of, number_field_of}
@@ -14,24 +15,27 @@ use Rattle.cbor.proofs.Sizes.{length_head, length_string, length_string_field, l
 use Rattle.path.specs.Path.{path_most}
 use Rattle.entry.specs.Writing.{Entry, entry_in, entry_of, file_of, integer_of, mtime_of}
 use Rattle.entry.specs.Private.{mtime_size, file_size}
-use Rattle.entry.specs.declared.Mtime.{Mtime}
-use Rattle.entry.specs.declared.Mtime.TheVariants.{Null, Integer}
+use Rattle.entry.specs.declared.Integer.{Integer}
 use Rattle.entry.specs.declared.File.{File}
 
 -- a part that does not reach past the pool has its length
 pub part_length : (pool : List ℕ) (p : Span) → p.start + p.len ≤ length pool → length (part_at pool p) ≡ p.len
 part_length pool p h = length-take-le p.len (drop p.start pool) (omega (arith, length-drop p.start pool))
 
-pub mtime_length : (t : Mtime) → length (mtime_of t) ≡ mtime_size t
-unfolding mtime_of mtime_size integer_of
-mtime_length Null = refl
-mtime_length (Integer true n) = length_head 1 n
-mtime_length (Integer false n) = length_head 0 n
+integer_length : (negative : Bool) (n : ℕ) → length (integer_of negative n) ≡ head_size n
+unfolding integer_of
+integer_length true n = length_head 1 n
+integer_length false n = length_head 0 n
 
-pub mtime_most : (t : Mtime) → mtime_size t ≤ 9
+pub mtime_length : (t : Option Integer) → length (mtime_of t) ≡ mtime_size t
+unfolding mtime_of mtime_size
+mtime_length None = refl
+mtime_length (Some v) = integer_length v.negative v.n
+
+pub mtime_most : (t : Option Integer) → mtime_size t ≤ 9
 unfolding mtime_size
-mtime_most Null = omega arith
-mtime_most (Integer negative n) = size_most n
+mtime_most None = omega arith
+mtime_most (Some v) = size_most v.n
 
 pub entry_length : (e : Entry) → length e.hash ≡ 32
     → length (entry_of e) ≡ 56 + head_size (length e.path) + length e.path + head_size e.size + mtime_size e.mtime

@@ -8,10 +8,11 @@ use native.Mathlib.Omega.{arith}
 use borrow.Author.Tests.{leb-true, eqb-true, le-leb, lt-leb, eq-eqb}
 use lib.Dec.{ltb, leb, eqb}
 use lib.ListN.{length}
+use Rattle.std.specs.Prelude.{Option, Some, None, Result, Ok, Err}
 use Rattle.wire.specs.Answer.{choose, Answer, done, refused_at, refused}
 use Rattle.wire.specs.Writing.{told, outcome}
-use Rattle.wire.specs.declared.Wrote.{Wrote}
-use Rattle.wire.specs.declared.Wrote.TheVariants.{Done, Refused}
+use Rattle.wire.specs.Refusal.{number}
+use Rattle.wire.specs.declared.Refusal.{Refusal}
 use Rattle.wire.proofs.Cases.{both_hold, said_no, said_yes, passed, not_done, done_value}
 use Rattle.wire.proofs.Overs.{over_none, over_out}
 use Rattle.wire.specs.declared.Span.{Span}
@@ -25,8 +26,7 @@ use Rattle.cbor.specs.Put.{past, Put}
 use Rattle.cbor.proofs.Runs.{Left, left_all, left_on, left_last, put_none}
 use Rattle.entry.specs.Writing.{entry_in, entry_of, file_of, integer_of, mtime_of, held, digest_in, path_in, mtime_allowed, file_verdict, form_of}
 use Rattle.entry.specs.Private.{mtime_field_of, mtime_size, file_size}
-use Rattle.entry.specs.declared.Mtime.{Mtime}
-use Rattle.entry.specs.declared.Mtime.TheVariants.{Null, Integer}
+use Rattle.entry.specs.declared.Integer.{Integer}
 use Rattle.entry.specs.declared.File.{File}
 use Rattle.entry.proofs.Sizes.{part_length, file_length, file_most}
 
@@ -56,22 +56,22 @@ pub path_decides : (pool prev bs : List ℕ) (p : Span) (d a b : Bool) → d ≡
 unfolding path_in
 path_decides pool prev bs p d a b h k e q l w = rw (said_yes d _ h k, ← e, said_yes a _ q l) w
 
-module _ (t : Mtime) where
-  pub null_allowed : t ≡ Null → true ≡ mtime_allowed t
+module _ (t : Option Integer) where
+  pub null_allowed : t ≡ None → true ≡ mtime_allowed t
   unfolding mtime_allowed
   null_allowed e = rw e
 
-  pub integer_allowed : (negative : Bool) (n : ℕ) (b : Bool) → t ≡ Integer negative n → b ≡ ltb n 9223372036854775808 → b ≡ mtime_allowed t
+  pub integer_allowed : (v : Integer) (b : Bool) → t ≡ Some v → b ≡ ltb v.n 9223372036854775808 → b ≡ mtime_allowed t
   unfolding mtime_allowed
-  integer_allowed negative n b e h = rw e h
+  integer_allowed v b e h = rw e h
 
-  pub null_size : t ≡ Null → 1 ≡ mtime_size t
+  pub null_size : t ≡ None → 1 ≡ mtime_size t
   unfolding mtime_size
   null_size e = rw e
 
-  pub integer_size : (negative : Bool) (n k : ℕ) → t ≡ Integer negative n → k ≡ head_size n → k ≡ mtime_size t
+  pub integer_size : (v : Integer) (k : ℕ) → t ≡ Some v → k ≡ head_size v.n → k ≡ mtime_size t
   unfolding mtime_size
-  integer_size negative n k e h = rw e h
+  integer_size v k e h = rw e h
 
 -- ---- what the tests say
 
@@ -169,13 +169,13 @@ module _ (pool prev : List ℕ) (f : File) (e : Bool) (q : e ≡ path_in pool pr
 
 -- ---- what an answer says of its verdict
 
-pub done_verdict : (v : Answer (List ℕ)) (j : Wrote) (n : ℕ) → told j ≡ outcome v → j ≡ Done n → (bs : List ℕ) × (v ≡ done bs) × (length bs ≡ n)
+pub done_verdict : (v : Answer (List ℕ)) (j : Result ℕ Refusal) (n : ℕ) → told j ≡ outcome v → j ≡ Ok n → (bs : List ℕ) × (v ≡ done bs) × (length bs ≡ n)
 done_verdict (done bs) j n e k = (bs, refl, sym (done_value (ap told (sym k) ∙ e)))
 done_verdict (refused_at f place) j n e k = not_done (sym (ap told (sym k) ∙ e))
 
-pub refused_verdict : (v : Answer (List ℕ)) (j : Wrote) (n : ℕ) → told j ≡ outcome v → j ≡ Refused n → v ≡ refused n
-refused_verdict (done bs) j n e k = not_done (ap told (sym k) ∙ e)
-refused_verdict (refused_at f place) j n e k = let h : refused {A = ℕ} n ≡ refused_at f place = ap told (sym k) ∙ e in cc
+pub refused_verdict : (v : Answer (List ℕ)) (j : Result ℕ Refusal) (w : Refusal) → told j ≡ outcome v → j ≡ Err w → v ≡ refused (number w)
+refused_verdict (done bs) j w e k = not_done (ap told (sym k) ∙ e)
+refused_verdict (refused_at f place) j w e k = let h : refused {A = ℕ} (number w) ≡ refused_at f place = ap told (sym k) ∙ e in cc
 
 -- ---- `file`
 
@@ -193,19 +193,19 @@ put_past at bs x h =
     let l : length x < at + length bs = omega arith in
     record { answer = rw (lt-leb (at + length bs) (length x) l); output = sym (over_out at bs x l) }
 
-module _ (v : Answer (List ℕ)) (j : Wrote) (e : told j ≡ outcome v) (at : ℕ) (x : List ℕ) where
-  pub put_refused : (n : ℕ) → j ≡ Refused n → Put at (form_of v) x x at
+module _ (v : Answer (List ℕ)) (j : Result ℕ Refusal) (e : told j ≡ outcome v) (at : ℕ) (x : List ℕ) where
+  pub put_refused : (n : Refusal) → j ≡ Err n → Put at (form_of v) x x at
   unfolding form_of
   put_refused n k = rw (refused_verdict v j n e k) (put_nothing at x)
 
   pub put_outside : length x < at → Put at (form_of v) x x at
   put_outside h = put_past at (form_of v) x h
 
-  pub put_short : (n : ℕ) → j ≡ Done n → length x - at < n → Put at (form_of v) x x at
+  pub put_short : (n : ℕ) → j ≡ Ok n → length x - at < n → Put at (form_of v) x x at
   unfolding form_of
   put_short n k h = let d = done_verdict v j n e k in rw d.1 (put_none at d.0 x (omega (arith, d.2)))
 
-module _ (pool prev : List ℕ) (f : File) (j : Wrote) (e : told j ≡ outcome (file_verdict pool prev f)) (n : ℕ) (k : j ≡ Done n) (at : ℕ) (x : List ℕ) where
+module _ (pool prev : List ℕ) (f : File) (j : Result ℕ Refusal) (e : told j ≡ outcome (file_verdict pool prev f)) (n : ℕ) (k : j ≡ Ok n) (at : ℕ) (x : List ℕ) where
   pub file_room : at ≤ length x → n ≤ length x - at → at + length (file_of pool f) ≤ length x
   file_room a b =
       let d = done_verdict (file_verdict pool prev f) j n e k in
@@ -229,18 +229,18 @@ module _ (at n : ℕ) (x z : List ℕ) (r : ℕ) (negative : Bool) where
   unfolding integer_of
   plus_put e w = rw e w
 
-module _ (t : Mtime) (at : ℕ) (x : List ℕ) (l : at + length (mtime_field_of t) ≤ length x) (a : ℕ) (y : List ℕ) (v : Put at (string_of 3 (ascii "mtime")) x y a) (z : List ℕ) (r : ℕ) where
+module _ (t : Option Integer) (at : ℕ) (x : List ℕ) (l : at + length (mtime_field_of t) ≤ length x) (a : ℕ) (y : List ℕ) (v : Put at (string_of 3 (ascii "mtime")) x y a) (z : List ℕ) (r : ℕ) where
   mtime_run : Put a (mtime_of t) y z r → Put at (mtime_field_of t) x z r
   unfolding mtime_field_of
   mtime_run w = left_last l (left_on (left_all at (string_of 3 (ascii "mtime") ++ mtime_of t) x l) v) w
 
-  pub null_run : t ≡ Null → Put a (0xF6 ∷ []) y z r → Put at (mtime_field_of t) x z r
+  pub null_run : t ≡ None → Put a (0xF6 ∷ []) y z r → Put at (mtime_field_of t) x z r
   unfolding mtime_of
   null_run e w = mtime_run (rw e w)
 
-  pub integer_run : (negative : Bool) (n : ℕ) → t ≡ Integer negative n → Put a (integer_of negative n) y z r → Put at (mtime_field_of t) x z r
+  pub integer_run : (v : Integer) → t ≡ Some v → Put a (integer_of v.negative v.n) y z r → Put at (mtime_field_of t) x z r
   unfolding mtime_of
-  integer_run negative n e w = mtime_run (rw e w)
+  integer_run v e w = mtime_run (rw e w)
 
 module _ (pool : List ℕ) (f : File) (at : ℕ) (x : List ℕ) (l : at + length (file_of pool f) ≤ length x) (hash path : List ℕ) (h : hash ≡ part_at pool f.hash) (p : path ≡ part_at pool f.path)
     (a b c d : ℕ) (x₁ x₂ x₃ x₄ : List ℕ) (w₁ : Put at (0xA4 ∷ []) x x₁ a) (w₂ : Put a (string_field_of (ascii "hash") 2 hash) x₁ x₂ b)

@@ -1,27 +1,31 @@
 -- One file of a manifest, as it is read: section 13 of docs/RULES.md.
-use Rattle.std.specs.Prelude.{ℕ, ◌+◌, ◌^◌, List, ltb, eqb}
+use Rattle.std.specs.Prelude.{ℕ, ◌+◌, ◌^◌, List, Option, Some, None, ltb, eqb}
 use Rattle.wire.specs.Answer.{choose, then, demand, Got, got}
 use Rattle.wire.specs.Sizes.{most_file_size}
 use Rattle.wire.specs.declared.Span.{Span}
 use Rattle.wire.specs.Span.{part_at}
 use Rattle.path.specs.Order.{below}
 use Rattle.path.specs.Path.{path_least, path_most, path_allowed}
-use Rattle.cbor.specs.Item.{one_at, Head, head_at, string_field_at, number_field_at, any_field_at}
+use Rattle.cbor.specs.Item.{one_at, head_at, string_field_at, number_field_at, any_field_at}
+use Rattle.cbor.specs.declared.Head.{Head}
 use Rattle.wire.specs.Ascii.{ascii}
-use Rattle.entry.specs.declared.Mtime.{Mtime}
-use Rattle.entry.specs.declared.Mtime.TheVariants.{Null, Integer}
+use Rattle.entry.specs.declared.Integer.{Integer}
 use Rattle.entry.specs.declared.File.{File}
 
 -- an integer that 64 bits with a sign can hold, else 19 (R13.6): of major type 1 the number n
 -- stands for -1 - n, so the bound is one for both signs
 unfoldable pub integer_at : List ℕ → ℕ → Got Head
-integer_at s at = then (head_at s at 0) (λ (h, next). demand (ltb h.number (2 ^ 63)) 19 (got h next))
+integer_at s at = then (head_at s at 0) (λ (h, next). demand (ltb h.n (2 ^ 63)) 19 (got h next))
+
+-- the integer of a head, whose major type tells the sign (R10.4)
+abbrev pub integer_by : Head → Integer
+integer_by h = record { negative = eqb h.major 1; n = h.n }
 
 -- `mtime` is an integer or null, which is F6 (R13.6)
-unfoldable pub mtime_at : List ℕ → ℕ → Got Mtime
+unfoldable pub mtime_at : List ℕ → ℕ → Got (Option Integer)
 mtime_at s at =
     then (any_field_at s at (ascii "mtime")) (λ (first, a).
-    choose (eqb first 0xF6) (got Null (a + 1)) (then (integer_at s a) (λ (h, next). got (Integer (eqb h.major 1) h.number) next)))
+    choose (eqb first 0xF6) (got None (a + 1)) (then (integer_at s a) (λ (h, next). got (Some (integer_by h)) next)))
 
 -- a path that is allowed, and above prev, the path before it (R12.5): else 20, of which its length
 -- is judged before its contents (R12.6), and the order as the later path's fault (R10.5)

@@ -1,4 +1,3 @@
 pub mod File
 pub mod Writing
-pub mod Answer
 pub mod Private

@@ -1,5 +1,5 @@
 -- One file of a manifest, as it is written: section 13 of docs/RULES.md.
-use Rattle.std.specs.Prelude.{ℕ, ◌+◌, ◌^◌, Bool, true, ◌&&◌, List, [], ◌∷◌, ◌++◌, ltb, leb, eqb, length}
+use Rattle.std.specs.Prelude.{ℕ, ◌+◌, ◌^◌, Bool, true, ◌&&◌, List, [], ◌∷◌, ◌++◌, Option, Some, None, ltb, leb, eqb, length}
 use Rattle.wire.specs.Answer.{choose, Answer, done, refused_at, demand}
 use Rattle.wire.specs.Sizes.{most_file_size}
 use Rattle.wire.specs.declared.Span.{Span}
@@ -8,8 +8,7 @@ use Rattle.path.specs.Order.{below}
 use Rattle.path.specs.Path.{path_allowed}
 use Rattle.cbor.specs.Form.{head_of, string_of, string_field_of, number_field_of}
 use Rattle.wire.specs.Ascii.{ascii}
-use Rattle.entry.specs.declared.Mtime.{Mtime}
-use Rattle.entry.specs.declared.Mtime.TheVariants.{Null, Integer}
+use Rattle.entry.specs.declared.Integer.{Integer}
 use Rattle.entry.specs.declared.File.{File}
 
 -- what a file's map says
@@ -17,7 +16,7 @@ pub record Entry : Type 0 where
   pub hash : List ℕ
   pub path : List ℕ
   pub size : ℕ
-  pub mtime : Mtime
+  pub mtime : Option Integer
 
 -- what a file says whose places are in a pool (R13.7)
 unfoldable pub entry_in : List ℕ → File → Entry
@@ -28,9 +27,9 @@ unfoldable pub integer_of : Bool → ℕ → List ℕ
 integer_of negative n = head_of (choose negative 1 0) n
 
 -- null is F6 (R13.6)
-unfoldable pub mtime_of : Mtime → List ℕ
-mtime_of Null = 0xF6 ∷ []
-mtime_of (Integer negative n) = integer_of negative n
+unfoldable pub mtime_of : Option Integer → List ℕ
+mtime_of None = 0xF6 ∷ []
+mtime_of (Some v) = integer_of v.negative v.n
 
 -- head A4: `hash`, `path`, `size`, `mtime` (R13.5)
 unfoldable pub entry_of : Entry → List ℕ
@@ -57,9 +56,9 @@ unfoldable pub path_in : List ℕ → List ℕ → Span → Bool
 path_in pool prev p = held pool p && (path_allowed (part_at pool p) && below prev (part_at pool p))
 
 -- from -2^63 to 2^63 - 1, or null (R13.6)
-unfoldable pub mtime_allowed : Mtime → Bool
-mtime_allowed Null = true
-mtime_allowed (Integer negative n) = ltb n (2 ^ 63)
+unfoldable pub mtime_allowed : Option Integer → Bool
+mtime_allowed None = true
+mtime_allowed (Some v) = ltb v.n (2 ^ 63)
 
 -- a value out of range is 19, a path 20 (R12.6), a place beyond the pool likewise (R13.7), in the
 -- order of the keys (R10.7)

@@ -6,9 +6,9 @@ ghost use Rattle.cbor.specs.Put.{Put};
 ghost use Rattle.entry.specs.Writing.{integer_of, file_of, held, digest_in, path_in, mtime_allowed, file_verdict, form_of};
 ghost use Rattle.entry.specs.Private.{mtime_field_of, mtime_size, file_size};
 
-use super::{File, Mtime};
+use super::{File, Integer};
 use cbor::{BYTES, INTEGER, NEGATIVE, TEXT};
-use wire::{BAD_PATH, OUT_OF_RANGE, Span, Wrote};
+use wire::{Refusal, Span};
 
 fn holds(pool: &[u8], p: Span) -> bool
     ensures { result ≡ held pool.now p }
@@ -45,21 +45,21 @@ fn path_fits(pool: &[u8], prev: &[u8], p: Span) -> bool
     path::ascends(prev, bs)
 }
 
-fn mtime_allowed(t: Mtime) -> bool
+fn mtime_allowed(t: Option<Integer>) -> bool
     ensures { result ≡ mtime_allowed t }
 {
     match t {
-        Mtime::Null => true,
-        Mtime::Integer { negative: _, n } => n < 0x8000000000000000,
+        None => true,
+        Some(v) => v.n < 0x8000000000000000,
     }
 }
 
-fn mtime_size(t: Mtime) -> usize
+fn mtime_size(t: Option<Integer>) -> usize
     ensures { result ≡ mtime_size t }
 {
     match t {
-        Mtime::Null => 1,
-        Mtime::Integer { negative: _, n } => cbor::write::size(n),
+        None => 1,
+        Some(v) => cbor::write::size(v.n),
     }
 }
 
@@ -68,69 +68,61 @@ fn size(f: File) -> usize
     requires { f.path.len ≤ path_most }
     ensures { result ≡ file_size f }
 {
-    let path = f.path;
-    let mtime = f.mtime;
-    let len = path.len;
-    56 + cbor::write::size(len as u64) + len + cbor::write::size(f.size) + mtime_size(mtime)
+    let len = f.path.len;
+    56 + cbor::write::size(len as u64) + len + cbor::write::size(f.size) + mtime_size(f.mtime)
 }
 
 // The length of the written form of a file, where the file may be written behind prev, the path
 // before it; or 19, 20.
-pub fn judge(pool: &[u8], prev: &[u8], f: File) -> Wrote
+pub fn judge(pool: &[u8], prev: &[u8], f: File) -> Result<usize, Refusal>
     ensures { told result ≡ outcome (file_verdict pool.now prev.now f) }
 {
-    let hash = f.hash;
-    if !digest(pool, hash) {
-        return Wrote::Refused { no: OUT_OF_RANGE };
+    if !digest(pool, f.hash) {
+        return Err(Refusal::OutOfRange);
     }
-    let path = f.path;
-    if !path_fits(pool, prev, path) {
-        return Wrote::Refused { no: BAD_PATH };
+    if !path_fits(pool, prev, f.path) {
+        return Err(Refusal::BadPath);
     }
     if wire::MOST_FILE_SIZE < f.size {
-        return Wrote::Refused { no: OUT_OF_RANGE };
+        return Err(Refusal::OutOfRange);
     }
-    let mtime = f.mtime;
-    if !mtime_allowed(mtime) {
-        return Wrote::Refused { no: OUT_OF_RANGE };
+    if !mtime_allowed(f.mtime) {
+        return Err(Refusal::OutOfRange);
     }
-    Wrote::Done { len: size(f) }
+    Ok(size(f))
 }
 
-// The number n, or -1 - n where it is negative, in its one form at the position, and the position
-// past it. Where it does not fit, nothing is written and the position stays.
-pub fn integer(out: &mut [u8], at: usize, negative: bool, n: u64) -> usize
-    ensures { Put at (integer_of negative n) out.old out.new result }
+// An integer in its one form at the position, and the position past it. Where it does not fit,
+// nothing is written and the position stays.
+pub fn integer(out: &mut [u8], at: usize, v: Integer) -> usize
+    ensures { Put at (integer_of v.negative v.n) out.old out.new result }
 {
-    if negative {
-        return cbor::write::head(out, at, NEGATIVE, n);
+    if v.negative {
+        return cbor::write::head(out, at, NEGATIVE, v.n);
     }
-    cbor::write::head(out, at, INTEGER, n)
+    cbor::write::head(out, at, INTEGER, v.n)
 }
 
-fn mtime_fitting(t: Mtime, out: &mut [u8], at: usize) -> usize
+fn mtime_fitting(t: Option<Integer>, out: &mut [u8], at: usize) -> usize
     requires { at + length (mtime_field_of t) ≤ length out.old }
     ensures { Put at (mtime_field_of t) out.old out.new result }
 {
     let a = cbor::write::string(out, at, TEXT, b"mtime");
-    let Mtime::Integer { negative, n } = t else {
-        return cbor::write::fixed(out, a, b"\xF6");
-    };
-    integer(out, a, negative, n)
+    match t {
+        None => cbor::write::fixed(out, a, b"\xF6"),
+        Some(v) => integer(out, a, v),
+    }
 }
 
 fn file_fitting(pool: &[u8], f: File, out: &mut [u8], at: usize) -> usize
     requires { at + length (file_of pool.now f) ≤ length out.old }
     ensures { Put at (file_of pool.now f) out.old out.new result }
 {
-    let hash = f.hash;
-    let path = f.path;
-    let mtime = f.mtime;
     let a = cbor::write::fixed(out, at, b"\xA4");
-    let b = cbor::write::string_field(out, a, b"hash", BYTES, lend::part(pool, hash));
-    let c = cbor::write::string_field(out, b, b"path", TEXT, lend::part(pool, path));
+    let b = cbor::write::string_field(out, a, b"hash", BYTES, lend::part(pool, f.hash));
+    let c = cbor::write::string_field(out, b, b"path", TEXT, lend::part(pool, f.path));
     let d = cbor::write::number_field(out, c, b"size", f.size);
-    mtime_fitting(mtime, out, d)
+    mtime_fitting(f.mtime, out, d)
 }
 
 // The map of one file at the position, and the position past it. Where the file is refused or does
@@ -140,8 +132,7 @@ fn file_fitting(pool: &[u8], f: File, out: &mut [u8], at: usize) -> usize
 pub fn file(pool: &[u8], prev: &[u8], f: File, out: &mut [u8], at: usize) -> usize
     ensures { Put at (form_of (file_verdict pool.now prev.now f)) out.old out.new result }
 {
-    let j = judge(pool, prev, f);
-    let Wrote::Done { len } = j else {
+    let Ok(len) = judge(pool, prev, f) else {
         return at;
     };
     if out.len() < at {

@@ -1,6 +1,6 @@
 -- The tests of the reader say which parts the rules allow a frame. Assumes nothing.
 use Prim.Native.Nat.{ℕ, ◌<◌, ◌≤◌}
-use mathlib.Core.Path.{◌≡◌, refl}
+use mathlib.Core.Path.{◌≡◌, refl, sym}
 use mathlib.Core.Logic.{◌⊎◌, inl, inr}
 use mathlib.Core.Bool.{Bool, true, false}
 use native.Mathlib.Omega.{arith}
@@ -8,6 +8,9 @@ use borrow.Author.Tests.{le-ltb, lt-ltb, le-leb, lt-leb, eq-eqb, ne_eqb, ltb-fal
 use lib.Dec.{ltb, leb, eqb}
 use Rattle.wire.specs.Answer.{choose}
 use Rattle.frame.specs.Allowed.{Kind}
+use Rattle.frame.specs.Kind.{type_byte}
+use Rattle.frame.specs.declared.Kind.{Kind as Kinds}
+use Rattle.frame.specs.declared.Kind.TheVariants as kind
 use Rattle.frame.specs.Frame.{known, in_place, in_size}
 
 pub known_yes : (kind : ℕ) → Kind kind → known kind ≡ true
@@ -88,3 +91,17 @@ size_data total len h = rw (lt-leb len 480 h) (go (ltb 96 total))
     go : (t : Bool) → choose t false false ≡ false
     go true = refl
     go false = refl
+
+-- ---- for `in_place`
+
+pub main_placed : (k : Kinds) (index total : ℕ) (m : Bool) → index < total → k ≡ kind.Main → m ≡ true → m ≡ in_place (type_byte k) index total
+main_placed k index total m h e q = rw (e, q) (sym (place_yes 0x44 index total h (inl refl)))
+
+pub other_placed : (k : Kinds) (index total : ℕ) → index < total → (k ≡ kind.Main → ⊥) → eqb total 1 ≡ in_place (type_byte k) index total
+unfolding in_place
+other_placed kind.Main index total h n = absurd (n refl)
+other_placed kind.Key index total h n = rw (ne_eqb total 0 (λ z. omega arith), lt-leb total index h)
+other_placed kind.Auth index total h n = rw (ne_eqb total 0 (λ z. omega arith), lt-leb total index h)
+
+pub never_placed : (k : Kinds) (index total : ℕ) → total ≤ index → ltb index total ≡ in_place (type_byte k) index total
+never_placed k index total h = rw (le-ltb index total h) (sym (place_past (type_byte k) index total h))

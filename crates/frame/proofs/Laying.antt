@@ -8,7 +8,8 @@ use Rattle.wire.specs.Number.{big_endian}
 use Rattle.wire.specs.Over.{over}
 use Rattle.wire.specs.Answer.{done}
 use Rattle.wire.specs.Writing.{Written}
-use Rattle.wire.specs.declared.Wrote.TheVariants.{Done, Refused}
+use Rattle.std.specs.Prelude.{Ok, Err}
+use Rattle.wire.specs.declared.Refusal.TheVariants.{NoRoom}
 use Rattle.wire.proofs.Digits.{length_digits}
 use Rattle.wire.proofs.Overs.{over_run, over_append, read_over}
 use Rattle.wire.proofs.Writes.{written, no_room}
@@ -60,7 +61,7 @@ module _ (kind : ℕ) (id : List ℕ) (index total : ℕ) (contents l : List ℕ
   -- m is how many bytes the varints take
   module _ (m : ℕ) (e : m ≡ length (numbers index total (length contents))) where
     -- there is no room for the whole
-    pub lay_short : length l < 16 + m + length contents → Written 0 (done (layout kind id index total contents)) l l (Refused 11)
+    pub lay_short : length l < 16 + m + length contents → Written 0 (done (layout kind id index total contents)) l l (Err NoRoom)
     lay_short h = no_room 0 l (layout kind id index total contents) (omega (arith, layout_length kind id index total contents eight))
 
     -- there is: x is l with all before the CRC, y is x with the CRC, and what is summed is what was
@@ -68,7 +69,7 @@ module _ (kind : ℕ) (id : List ℕ) (index total : ℕ) (contents l : List ℕ
     pub lay_done : 16 + m + length contents ≤ length l → (x y : List ℕ) (k : ℕ)
         → (k ≡ length (body kind id index total contents)) × (x ≡ over 0 (body kind id index total contents) l)
         → y ≡ over k (big_endian 4 (crc32 (take k x))) x
-        → Written 0 (done (layout kind id index total contents)) l y (Done (16 + m + length contents))
+        → Written 0 (done (layout kind id index total contents)) l y (Ok (16 + m + length contents))
     unfolding layout
     lay_done h x y k laid ey =
         let bs : List ℕ = body kind id index total contents in

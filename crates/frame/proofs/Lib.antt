@@ -1,4 +1,3 @@
-pub mod Chain
 pub mod Answers
 pub mod Within
 pub mod Lengths

@@ -9,8 +9,9 @@ use borrow.Author.Tests.{ltb-false}
 use lib.Dec.{ltb}
 use lib.ListN.{length, take, drop}
 use lib.Seq.{take_at}
+use Rattle.std.specs.Prelude.{Result, Ok}
 use Rattle.wire.specs.Answer.{then, got}
-use Rattle.wire.specs.declared.Span.{Span}
+use Rattle.wire.specs.declared.Refusal.{Refusal}
 use Rattle.wire.specs.Number.{big_endian, Bytes}
 use Rattle.wire.proofs.Cases.{passed, escaped, then_passed, got_value, got_next, got_as}
 use Rattle.varint.specs.Varint.{varint_at}
@@ -19,9 +20,8 @@ use Rattle.mark.specs.Mark.{mark_of, marked}
 use Rattle.mark.proofs.Marks.{mark_length, mark_was}
 use Rattle.crc.specs.Crc.{crc32}
 use Rattle.frame.specs.Frame.{Frame, Numbers, magic, known, kind_at, id_at, start_of, numbers_at, data_at, in_place, in_size, judged, frame_of, id_of, data_of}
-use Rattle.frame.specs.Answer.{told}
-use Rattle.frame.specs.declared.FrameRead.{FrameRead}
-use Rattle.frame.specs.declared.FrameRead.TheVariants as R
+use Rattle.frame.specs.Answer.{seen, told}
+use Rattle.frame.specs.declared.Frame as R
 use Rattle.frame.specs.Layout.{start, numbers, body, layout}
 use Rattle.wire.proofs.Standing.{Stands, stands_join, stands_as, stands_part, byte_stands}
 use Rattle.frame.proofs.Lengths.{start_length, numbers_least}
@@ -165,6 +165,6 @@ only_layouts s f next y h =
     j.1 (sym j.3 ∙ d.0))
 
 -- what a caller of `read` knows of a frame that it was told
-pub told_sound : (s : List ℕ) (r : FrameRead) (kind index total : ℕ) (at : Span) → Bytes s → told r ≡ frame_of s → r ≡ R.Frame kind index total at
-    → Sound s (record { kind = kind; index = index; total = total; at = at }) (at.start + at.len + 4)
-told_sound s r kind index total at y e k = only_layouts s _ (at.start + at.len + 4) y (sym e ∙ ap told k)
+pub told_sound : (s : List ℕ) (r : Result R.Frame Refusal) (f : R.Frame) → Bytes s → told r ≡ frame_of s → r ≡ Ok f
+    → Sound s (seen f) (f.at.start + f.at.len + 4)
+told_sound s r f y e k = only_layouts s _ (f.at.start + f.at.len + 4) y (sym e ∙ ap told k)

@@ -1,13 +1,13 @@
 -- What a field that was read passed, and that it ends within the input. Assumes nothing.
-use Prim.Native.Nat.{ℕ, ◌+◌, ◌-◌, ◌≤◌}
+use Prim.Native.Nat.{ℕ, ◌+◌, ◌-◌, ◌<◌, ◌≤◌}
 use mathlib.Core.Path.{◌≡◌, sym, ap, ◌∙◌}
 use mathlib.Core.Bool.{true, false}
 use mathlib.Core.List.{List}
 use native.Mathlib.Omega.{arith}
-use borrow.Author.Tests.{leb-false, eqb-true, eq-eqb, ne_eqb}
+use borrow.Author.Tests.{leb-false, lt-leb, eqb-true, eq-eqb, ne_eqb}
 use lib.Dec.{leb, eqb}
 use lib.ListN.{length, take, drop, get_or}
-use Rattle.wire.specs.Answer.{refused, then, got, Answer}
+use Rattle.wire.specs.Answer.{refused, got}
 use Rattle.wire.specs.Number.{big_endian, Bytes}
 use Rattle.wire.proofs.Cases.{passed, escaped, then_passed, got_value, got_next}
 use Rattle.lend.specs.Same.{same}
@@ -15,15 +15,19 @@ use Rattle.lend.proofs.Sames.{same_eq}
 use Rattle.crc.specs.Crc.{crc32}
 use Rattle.varint.specs.Varint.{varint_at}
 use Rattle.varint.proofs.Rounds.{read_stands}
-use Rattle.frame.specs.Frame.{known, kind_at, numbers_at, data_at}
-use Rattle.frame.specs.Private.{kind_of, numbers_of}
-use Rattle.wire.specs.Reading.{step_told}
-use Rattle.wire.specs.declared.StepRead.{StepRead}
-use Rattle.wire.specs.declared.StepRead.TheVariants as step
-use Rattle.frame.specs.declared.fields.KindRead.{KindRead}
-use Rattle.frame.specs.declared.fields.KindRead.TheVariants as K
-use Rattle.frame.specs.declared.fields.NumbersRead.{NumbersRead}
-use Rattle.frame.specs.declared.fields.NumbersRead.TheVariants as N
+use Rattle.frame.specs.Frame.{Numbers, known, kind_at, numbers_at, data_at}
+
+-- the type byte is there, and one of the three or none
+module _ (s : List ℕ) (at : ℕ) (h : at < length s) where
+  pub kind_stands : (kind : ℕ) → get_or s at 0 ≡ kind → known kind ≡ true → got kind (at + 1) ≡ kind_at s at
+  unfolding kind_at
+  kind_stands kind e y = rw (lt-leb (length s) at h, e, y)
+
+  pub kind_none : (get_or s at 0 ≡ 0x44 → ⊥) → (get_or s at 0 ≡ 0x4B → ⊥) → (get_or s at 0 ≡ 0x41 → ⊥) → refused 6 ≡ kind_at s at
+  unfolding kind_at known
+  kind_none m k a =
+      let b : ℕ = get_or s at 0 in
+      rw (lt-leb (length s) at h, ne_eqb b 0x44 m, ne_eqb b 0x4B k, ne_eqb b 0x41 a)
 
 -- the type byte stands at a position, and is one of the three
 pub kind_got : (s : List ℕ) (at kind next : ℕ) → kind_at s at ≡ got kind next → (next ≡ at + 1) × (next ≤ length s) × (kind ≡ get_or s at 0) × (known kind ≡ true)
@@ -60,22 +64,17 @@ module _ (s : List ℕ) (at len : ℕ) where
     unfolding data_at
     data_differs e = rw (eq-eqb (length s - at) (len + 4) left, e)
 
--- for `search`, the last field of a chain: it ends where the data and the CRC do
-pub go_data : {B : Type 0} (s : List ℕ) (at len : ℕ) (f : Unit × ℕ → Answer B) (r : StepRead) (next : ℕ) (y : Answer B)
-    → step_told r ≡ data_at s at len → r ≡ step.Past next → y ≡ f (tt, (at + len + 4)) → y ≡ then (data_at s at len) f
-go_data s at len f r next y e k h =
-    let g : data_at s at len ≡ got tt next = sym e ∙ ap step_told k in
-    rw (g, (data_got s at len next tt g).0) h
+-- what a caller of a reader knows of the position, and that the data end where the CRC does
+pub data_ends : (s : List ℕ) (at len next : ℕ) → got tt next ≡ data_at s at len → got tt (at + len + 4) ≡ data_at s at len
+data_ends s at len next e = rw (← (data_got s at len next tt (sym e)).0) e
 
--- for `search`, what a caller of a reader knows of the position
-pub kind_within : (s : List ℕ) (at : ℕ) (r : KindRead) (kind next : ℕ) → kind_of r ≡ kind_at s at → r ≡ K.Kind kind next → next ≤ length s
-kind_within s at r kind next e k = (kind_got s at kind next (sym e ∙ ap kind_of k)).1
+pub kind_within : (s : List ℕ) (at kind next : ℕ) → got kind next ≡ kind_at s at → next ≤ length s
+kind_within s at kind next e = (kind_got s at kind next (sym e)).1
 
-pub numbers_within : (s : List ℕ) (at : ℕ) (r : NumbersRead) (i t l next : ℕ) → Bytes s → numbers_of r ≡ numbers_at s at → r ≡ N.Numbers i t l next → next ≤ length s
+pub numbers_within : (s : List ℕ) (at : ℕ) (n : Numbers) (next : ℕ) → Bytes s → got n next ≡ numbers_at s at → next ≤ length s
 unfolding numbers_at
-numbers_within s at r i t l next y e k =
-    let h : numbers_at s at ≡ got (record { index = i; total = t; len = l }) next = sym e ∙ ap numbers_of k in
-    let t₁ = then_passed (varint_at s at) _ h in
+numbers_within s at n next y e =
+    let t₁ = then_passed (varint_at s at) _ (sym e) in
     let t₂ = then_passed (varint_at s t₁.1) _ t₁.3 in
     let t₃ = then_passed (varint_at s t₂.1) _ t₂.3 in
     let p : t₃.1 ≡ next = got_next t₃.3 in

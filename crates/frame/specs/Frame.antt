@@ -10,6 +10,7 @@ use Rattle.lend.specs.Same.{same}
 use Rattle.varint.specs.Varint.{varint_at}
 use Rattle.mark.specs.Mark.{mark_of}
 use Rattle.crc.specs.Crc.{crc32}
+pub use Rattle.frame.specs.declared.fields.Numbers.{Numbers}
 
 -- what is read of a frame: its type byte, INDEX, TOTAL, and where its data stand in the input
 pub record Frame : Type 0 where
@@ -50,13 +51,7 @@ start_of s =
     then (kind_at s a) (λ (kind, b).
     then (id_at s b) (λ (_, c). got kind c)))
 
--- varints INDEX, TOTAL, DATA_LEN
-pub record Numbers : Type 0 where
-  pub index : ℕ
-  pub total : ℕ
-  pub len : ℕ
-
--- each is 7 where it is no varint (R6.4)
+-- varints INDEX, TOTAL, DATA_LEN: each is 7 where it is no varint (R6.4)
 unfoldable pub numbers_at : List ℕ → ℕ → Got Numbers
 numbers_at s at =
     then (varint_at s at) (λ (index, a).

@@ -1,18 +1,13 @@
 -- What the readers of the fields answer, for the contracts of private functions: nothing here is
 -- promised to a caller.
-use Rattle.std.specs.Prelude.{ℕ}
+use Rattle.std.specs.Prelude.{ℕ, Result, Ok, Err}
 use Rattle.wire.specs.Answer.{refused, Got, got}
-use Rattle.frame.specs.Frame as F
-use Rattle.frame.specs.declared.fields.KindRead.{KindRead}
-use Rattle.frame.specs.declared.fields.KindRead.TheVariants as K
-use Rattle.frame.specs.declared.fields.NumbersRead.{NumbersRead}
-use Rattle.frame.specs.declared.fields.NumbersRead.TheVariants as N
+use Rattle.wire.specs.Refusal.{number}
+use Rattle.wire.specs.declared.Refusal.{Refusal}
+use Rattle.frame.specs.Kind.{type_byte}
+use Rattle.frame.specs.declared.Kind.{Kind}
 
--- the type byte, and the three numbers; each with the position past it (R18.5)
-abbrev pub kind_of : KindRead → Got ℕ
-kind_of (K.Kind kind next) = got kind next
-kind_of (K.Refused e) = refused e
-
-abbrev pub numbers_of : NumbersRead → Got F.Numbers
-numbers_of (N.Numbers index total len next) = got (record { index = index; total = total; len = len }) next
-numbers_of (N.Refused e) = refused e
+-- the type byte with the position past it (R18.5)
+abbrev pub kind_told : Result (Kind × ℕ) Refusal → Got ℕ
+kind_told (Ok (kind, next)) = got (type_byte kind) next
+kind_told (Err e) = refused (number e)

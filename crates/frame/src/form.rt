@@ -9,7 +9,7 @@ ghost use Rattle.varint.specs.Varint.{varint};
 ghost use Rattle.crc.specs.Crc.{crc32};
 ghost use Rattle.frame.specs.Layout as L;
 
-use wire::Wrote;
+use wire::Refusal;
 
 // Two bytes of magic, one of version, one of type, eight of id and four of CRC (R6.1).
 const SHORTEST: usize = 16;
@@ -35,7 +35,7 @@ fn number(n: u64, out: &mut [u8], at: usize) -> usize
     requires { at + length (varint n) ≤ length out.old }
     ensures { (result ≡ at + length (varint n)) × (out.new ≡ over at (varint n) out.old) }
 {
-    varint::write(n, out, at);
+    let _ = varint::write(n, out, at);
     at + varint::size(n)
 }
 
@@ -76,15 +76,15 @@ pub(super) fn lay(
     total: u64,
     contents: &[u8],
     out: &mut [u8],
-) -> Wrote
+) -> Result<usize, Refusal>
     requires { length id.now ≡ id_size }
     ensures { Written 0 (done (L.layout kind id.now index total contents.now)) out.old out.new result }
 {
     let len = SHORTEST + numbers_size(index, total, contents.len() as u64) + contents.len();
     if out.len() < len {
-        return Wrote::Refused { no: wire::NO_ROOM };
+        return Err(Refusal::NoRoom);
     }
     let n = body(kind, id, index, total, contents, out);
     seal(out, n);
-    Wrote::Done { len }
+    Ok(len)
 }

@@ -7,6 +7,6 @@ pub returns-then-total : goal.returns-then-total
 unfolding in_size
 returns-then-total c = search branch
 
-pub returns : goal.returns
+pub returns-else-total : goal.returns-else-total
 unfolding in_size
-returns c = search branch
+returns-else-total c = search branch

@@ -2,8 +2,8 @@
 use Rattle.entry.proofs.Writers.{null_allowed, integer_allowed}
 use Rattle.entry.proofs.write.mtime_allowed.Goals as goal
 
-pub returns-in-Null : goal.returns-in-Null
-returns-in-Null c = search null_allowed
+pub returns-in-None : goal.returns-in-None
+returns-in-None c = search null_allowed
 
-pub returns-in-Integer : goal.returns-in-Integer
-returns-in-Integer c = search integer_allowed
+pub returns-in-Some : goal.returns-in-Some
+returns-in-Some c = search integer_allowed

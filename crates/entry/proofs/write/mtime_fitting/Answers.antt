@@ -3,8 +3,8 @@
 use Rattle.entry.proofs.Writers.{null_run, integer_run}
 use Rattle.entry.proofs.write.mtime_fitting.Goals as goal
 
-pub returns-in_default : goal.returns-in_default
-returns-in_default c = search null_run
+pub returns-in-None : goal.returns-in-None
+returns-in-None c = search null_run
 
-pub returns : goal.returns
-returns c = search integer_run
+pub returns-in-Some : goal.returns-in-Some
+returns-in-Some c = search integer_run

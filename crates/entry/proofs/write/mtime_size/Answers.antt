@@ -2,8 +2,8 @@
 use Rattle.entry.proofs.Writers.{null_size, integer_size}
 use Rattle.entry.proofs.write.mtime_size.Goals as goal
 
-pub returns-in-Null : goal.returns-in-Null
-returns-in-Null c = search null_size
+pub returns-in-None : goal.returns-in-None
+returns-in-None c = search null_size
 
-pub returns-in-Integer : goal.returns-in-Integer
-returns-in-Integer c = search integer_size
+pub returns-in-Some : goal.returns-in-Some
+returns-in-Some c = search integer_size
