@@ -1,35 +1,35 @@
--- What `claim` and `read` answer is fixed by their contracts, and how a chain of items goes on from
--- a claim. Assumes nothing.
+-- What `claim` and `read` answer is fixed by their contracts, and what `?` hands out of them.
+-- Assumes nothing.
 use Prim.Native.Nat.{ℕ}
 use mathlib.Core.Path.{◌≡◌, refl, ap}
-use Rattle.wire.specs.Answer.{refused, number_of, then, Got, Answer}
-use Rattle.wire.proofs.Branch.{go, stop}
+use Rattle.std.specs.Prelude.{Result, Ok, Err}
+use Rattle.std.specs.Result.{IsErr, IsErrAnd}
+use Rattle.wire.specs.Answer.{Got, refused}
+use Rattle.wire.specs.Refusal.{number}
+use Rattle.wire.specs.declared.Refusal.{Refusal}
+use Rattle.wire.proofs.Answers.{number_injective, handed_by}
 use Rattle.wire.proofs.Cases.{got_next, got_value}
-use Rattle.cbor.proofs.Answers.{chain}
 use Rattle.auth.specs.Auth.{Claim}
 use Rattle.auth.specs.Answer.{claim_told}
-use Rattle.auth.specs.declared.ClaimRead.{ClaimRead}
-use Rattle.auth.specs.declared.ClaimRead.TheVariants.{Value, Refused}
+use Rattle.auth.specs.declared.Claimed as declared
 
--- the enum says no more than its number and values do
-pub claim_injective : (r q : ClaimRead) → claim_told r ≡ claim_told q → r ≡ q
-claim_injective (Value a b c i) (Value x y z j) e =
-    let v : ◌≡◌ {A = Claim} (record { public = a; sig = b; hash = c }) (record { public = x; sig = y; hash = z }) = got_value e in
-    let p : a ≡ x = ap (λ (w : Claim). w.public) v in
-    let q : b ≡ y = ap (λ (w : Claim). w.sig) v in
-    let r : c ≡ z = ap (λ (w : Claim). w.hash) v in
-    let o = got_next e in
-    cc
-claim_injective (Value a b c i) (Refused n) e = cc
-claim_injective (Refused m) (Value x y z j) e = cc
-claim_injective (Refused m) (Refused n) e = cc
+made : (public sig hash next : ℕ) → Result declared.Claimed Refusal
+made public sig hash next = Ok (record { public = public; sig = sig; hash = hash; next = next })
 
--- for `search`: a claim in a chain of items
-module _ {B : Type 0} (g : Got Claim) (f : Claim × ℕ → Answer B) where
-  pub go_claim : (r : ClaimRead) (a b c next : ℕ) (y : Answer B) → claim_told r ≡ g → r ≡ Value a b c next → y ≡ f ((record { public = a; sig = b; hash = c }), next) → y ≡ then g f
-  go_claim r a b c next y = go claim_told g f r (Value a b c next) y
+-- an answer says no more than its number and values do
+pub claim_injective : (r q : Result declared.Claimed Refusal) → claim_told r ≡ claim_told q → r ≡ q
+unfolding made
+claim_injective (Ok r) (Ok q) e =
+    let v : ◌≡◌ {A = Claim} (record { public = r.public; sig = r.sig; hash = r.hash }) (record { public = q.public; sig = q.sig; hash = q.hash }) = got_value e in
+    let a : r.public ≡ q.public = ap (λ (w : Claim). w.public) v in
+    let b : r.sig ≡ q.sig = ap (λ (w : Claim). w.sig) v in
+    let c : r.hash ≡ q.hash = ap (λ (w : Claim). w.hash) v in
+    let d : r.next ≡ q.next = got_next e in
+    let z : made r.public r.sig r.hash r.next ≡ made q.public q.sig q.hash q.next = cc in
+    z
+claim_injective (Ok r) (Err n) e = cc
+claim_injective (Err m) (Ok q) e = cc
+claim_injective (Err m) (Err n) e = ap Err (number_injective m n cc)
 
-  pub no_claim : (r : ClaimRead) (n e : ℕ) → claim_told r ≡ g → r ≡ Refused e → n ≡ number_of (claim_told r) → refused n ≡ then g f
-  no_claim r n e h k q = stop claim_told g f r (Refused e) n e h k refl q
-
-pub ruleset claims = (chain, go_claim, no_claim)
+pub handed_claim : (r : Result declared.Claimed Refusal) (e : Refusal) → IsErr r × IsErrAnd r (λ x. x ≡ e) → (y : Got Claim) → refused (number e) ≡ y → claim_told r ≡ y
+handed_claim = handed_by claim_told (λ e. refl)

@@ -1,6 +1,6 @@
--- Arrays that a loop fills from the front, and the pieces of a list that its turns read.
+-- The schedule, which a loop fills from the front, and the words that its turns read.
 -- Assumes nothing.
-use mathlib.Core.Path.{◌≡◌, sym, ap, ◌∙◌}
+use mathlib.Core.Path.{◌≡◌, refl, ap, ◌∙◌}
 use mathlib.Core.List.{List, ◌∷◌}
 use Prim.Native.Nat.{ℕ, suc, ◌+◌, ◌-◌, ◌*◌, ◌≤◌, ◌<◌}
 use native.Mathlib.Numerals.{add-one}
@@ -8,26 +8,13 @@ use native.Mathlib.Nat.{zero-add}
 use native.Mathlib.Omega.{arith}
 use borrow.Author.Tests.{lt-ltb, le-ltb}
 use lib.ListN.{length, get_or, take, drop, set, length-drop}
-use lib.Seq.{take-suc, take-suc-set, get_or-take, take-add, take-take, drop_at, drop-drop, drop-cons, length-take-le}
+use lib.Seq.{take-suc-set, take_all, get_or-take, drop-cons, length-take-le}
+use Rattle.std.specs.Simd.{first_chunks}
+use Rattle.std.specs.Int.{w32, from_be_bytes}
 use Rattle.wire.specs.Number.{number, number_from}
+use Rattle.bits.proofs.Chunks.{chunk}
 use Rattle.sha256.specs.Message.{word}
 use Rattle.sha256.specs.Sha.{next, entry, schedule}
-
--- a copy, one element more
-pub copy_more : (l m : List ℕ) (i x : ℕ) → i < length l → i < length m → x ≡ get_or m i 0 → take i l ≡ take i m → take (i + 1) (set l i x) ≡ take (i + 1) m
-copy_more l m i x hl hm ex e = rw (ex, add-one, take-suc-set, take-suc m i 0, e)
-
--- a piece of a piece
-pub piece : (l : List ℕ) (at n i k : ℕ) → i + k ≤ n → at + i ≤ length l → take k (drop i (take n (drop at l))) ≡ take k (drop (at + i) l)
-piece l at n i k h f =
-    let m : List ℕ = drop at l in
-    let e : i + (n - i) ≡ n = omega arith in
-    let g : i ≤ length m = simp length-drop (omega arith) in
-    ap (λ (j : ℕ). take k (drop i (take j m))) (sym e)
-    ∙ ap (λ (r : List ℕ). take k (drop i r)) (take-add i (n - i) m)
-    ∙ ap (take k) (drop_at (take i m) (take (n - i) (drop i m)) i (length-take-le i m g))
-    ∙ take-take k (n - i) (drop i m) (omega arith)
-    ∙ ap (take k) (drop-drop i at l)
 
 -- four bytes as a number
 drop_next : (l : List ℕ) (i j : ℕ) → j ≡ suc i → i < length l → drop i l ≡ get_or l i 0 ∷ drop j l
@@ -45,12 +32,24 @@ four l i x y z w h ex ey ez ew =
       zero-add,
     ) (cc)
 
--- the schedule, one word more: of the block that starts at byte `at`, and from the words before it
-pub words_more : (b w : List ℕ) (at t x : ℕ) → at + 64 ≤ length b → t < 16 → t < length w → take t w ≡ schedule t (take 64 (drop at b))
-    → x ≡ number 256 (take 4 (drop (at + t * 4) b)) → take (t + 1) (set w t x) ≡ schedule (t + 1) (take 64 (drop at b))
+pub number_be : (b : List ℕ) → length b ≡ 4 → from_be_bytes w32 b ≡ number 256 b
+number_be b l =
+    let e : from_be_bytes w32 b ≡ ((get_or b 0 0 * 256 + get_or b 1 0) * 256 + get_or b 2 0) * 256 + get_or b 3 0 = omega arith in
+    e ∙ four b 0 _ _ _ _ (omega arith) refl refl refl refl ∙ ap (number 256) (take_all 4 b (omega arith))
+
+pub word_read : (b : List ℕ) (ws : List (List ℕ)) (d : List ℕ) (k t x : ℕ) → ws ≡ first_chunks 4 k b → t < k → t * 4 + 4 ≤ length b
+    → x ≡ from_be_bytes w32 (get_or ws t d) → x ≡ number 256 (take 4 (drop (t * 4) b))
+word_read b ws d k t x w h f e =
+    let m : List ℕ = take 4 (drop (t * 4) b) in
+    let g : 4 ≤ length (drop (t * 4) b) = simp length-drop (omega arith) in
+    let p : get_or ws t d ≡ m = ap (λ (y : List (List ℕ)). get_or y t d) w ∙ chunk 4 k t b d h in
+    e ∙ ap (from_be_bytes w32) p ∙ number_be m (length-take-le 4 (drop (t * 4) b) g)
+
+-- the schedule of the block b, one word more: of the block's own, and from the words before it
+pub words_more : (b w : List ℕ) (t x : ℕ) → t < 16 → t < length w → take t w ≡ schedule t b
+    → x ≡ number 256 (take 4 (drop (t * 4) b)) → take (t + 1) (set w t x) ≡ schedule (t + 1) b
 unfolding schedule entry word
-words_more b w at t x f l h e ex =
-    rw (add-one, lt-ltb t 16 l) (take-suc-set w t x h ∙ cc (piece b at 64 (t * 4) 4 (omega arith) (omega arith)))
+words_more b w t x l h e ex = rw (add-one, lt-ltb t 16 l) (take-suc-set w t x h ∙ cc)
 
 pub next_more : (w m : List ℕ) (t x : ℕ) → 16 ≤ t → t < length w → take t w ≡ schedule t m → x ≡ next t w → take (t + 1) (set w t x) ≡ schedule (t + 1) m
 unfolding schedule entry next

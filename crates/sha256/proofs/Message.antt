@@ -1,27 +1,26 @@
--- The padded message byte by byte, and the blocks of a message that is read in two parts.
+-- The padded message, and the blocks of a message that is read in two parts.
 -- Assumes nothing.
-use mathlib.Core.Path.{◌≡◌, refl, sym, ap, ◌∙◌}
+use Rattle.std.proofs.Common.{rules}
+use Rattle.std.proofs.lemmas.List.{drop-replicate, take-replicate, set_at, append_assoc}
+use Rattle.std.proofs.lemmas.Slice.{take-put_mid, overwrites}
+use Rattle.std.specs.Int.{w64, to_be_bytes}
+use borrow.Rule.Slice.PartMut.{put_mid}
+use mathlib.Core.Path.{◌≡◌, refl, sym, ap, ap₂, ◌∙◌}
 use mathlib.Core.List.{List, ◌∷◌, ◌++◌}
 use Prim.Native.Nat.{ℕ, zero, suc, ◌+◌, ◌-◌, ◌*◌, ◌/◌, ◌%◌, ◌^◌, ◌≤◌, ◌<◌}
 use native.Mathlib.Nat.{add-zero, add-suc}
+use native.Mathlib.Numerals.{add-one}
 use native.Mathlib.Omega.{arith}
-use lib.Pow.{field, mod-mod-pow}
-use lib.ListN.{length, get_or, take, drop, replicate, length-append, length-replicate, get_or-replicate, get_or-append, take-append-drop, length-drop}
-use lib.Seq.{get_or-append-add, get_or-append_seam, drop-drop, drop-append-le, take-append-le, length-take-le}
-use Rattle.wire.specs.Number.{big_endian}
-use Rattle.wire.proofs.Digits.{length_digits, digits_at}
+use lib.ListN.{length, get_or, set, take, drop, replicate, length-append, length-replicate, length-drop}
+use lib.Seq.{take-append-add, drop-drop, drop-append-le, take-append-le}
+use Rattle.wire.specs.Number.{digits, big_endian}
+use Rattle.wire.proofs.Digits.{length_digits}
 use Rattle.sha256.specs.declared.State.{State}
 use Rattle.sha256.specs.Message.{zeros, pad, block}
 use Rattle.sha256.specs.Constants.{start}
-use Rattle.sha256.specs.Sha.{blocks, listed, joined, sha256}
-
--- a digit of w bits, at the bit s, is the same in the lowest k bits, where they hold it
-pub digit_low : (n w s k : ℕ) → w + s ≤ k → n % 2 ^ k / 2 ^ s % 2 ^ w ≡ n / 2 ^ s % 2 ^ w
-digit_low n w s k h =
-    let e : k - s - w + w + s ≡ k = omega arith in
-    ap (λ (x : ℕ). n % 2 ^ x / 2 ^ s % 2 ^ w) (sym e)
-    ∙ ap (λ (x : ℕ). x % 2 ^ w) (field n (k - s - w + w) s)
-    ∙ mod-mod-pow (n / 2 ^ s) (k - s - w) w
+use Rattle.std.specs.Simd.{first_chunks}
+use Rattle.bits.proofs.Chunks.{chunk}
+use Rattle.sha256.specs.Sha.{compress, blocks, listed, joined, sha256}
 
 -- ---- section 5.1.1: the zeros are the fewest with which the message, its mark and they leave 8
 -- bytes to a multiple of 64
@@ -50,39 +49,6 @@ module _ (bs : List ℕ) where
   abbrev rest : List ℕ
   rest = replicate (zeros (length bs)) 0 ++ big_endian 8 (length bs * 8)
 
-  pub pad_front : (i : ℕ) → i < length bs → get_or (pad bs) i 0 ≡ get_or bs i 0
-  unfolding pad
-  pad_front i h = get_or-append bs (0x80 ∷ rest) 0 i h
-
-  pub pad_mark : (i : ℕ) → i ≡ length bs → get_or (pad bs) i 0 ≡ 0x80
-  unfolding pad
-  pad_mark i e = rw e (get_or-append_seam bs 0x80 rest 0)
-
-  pad_rest : (i k : ℕ) → i ≡ length bs + suc k → get_or (pad bs) i 0 ≡ get_or rest k 0
-  unfolding pad
-  pad_rest i k e = rw e (get_or-append-add bs (0x80 ∷ rest) (suc k) 0)
-
-  pub pad_zero : (i : ℕ) → length bs < i → i < length bs + 1 + zeros (length bs) → get_or (pad bs) i 0 ≡ 0
-  pad_zero i l h =
-      let z : ℕ = zeros (length bs) in
-      let k : ℕ = i - length bs - 1 in
-      pad_rest i k (omega arith)
-      ∙ get_or-append (replicate z 0) (big_endian 8 (length bs * 8)) 0 k (rw (length-replicate {A = ℕ} z 0) (omega arith))
-      ∙ get_or-replicate z k 0 0 (omega arith)
-
-  -- the length's bytes are those of its lowest 64 bits
-  pub pad_last : (i : ℕ) → length bs + 1 + zeros (length bs) ≤ i → i < length bs + zeros (length bs) + 9
-      → get_or (pad bs) i 0 ≡ length bs * 8 % 2 ^ 64 / 2 ^ (8 * (7 - (i - (length bs + 1 + zeros (length bs))))) % 2 ^ 8
-  pad_last i l h =
-      let z : ℕ = zeros (length bs) in
-      let j : ℕ = i - (length bs + 1 + z) in
-      let r : z ≡ length {A = ℕ} (replicate z 0) = sym (length-replicate {A = ℕ} z 0) in
-      pad_rest i (z + j) (omega arith)
-      ∙ ap (λ (x : ℕ). get_or rest (x + j) 0) r
-      ∙ get_or-append-add (replicate z 0) (big_endian 8 (length bs * 8)) j 0
-      ∙ digits_at 8 8 (length bs * 8) j (omega arith)
-      ∙ sym (digit_low (length bs * 8) 8 (8 * (7 - j)) 64 (omega arith))
-
   pub pad_length : length (pad bs) ≡ length bs + zeros (length bs) + 9
   unfolding pad
   pad_length =
@@ -91,6 +57,60 @@ module _ (bs : List ℕ) where
       let f = length-append (replicate z 0) (big_endian 8 (length bs * 8)) in
       omega (arith, e, f, length-replicate {A = ℕ} z 0, length_digits 256 8 (length bs * 8))
 
+-- the message's length in bits, as the standard library writes the lowest 64 bits of it
+length_bytes : (n : ℕ) → to_be_bytes w64 (n % 2 ^ 64) ≡ big_endian 8 n
+unfolding digits
+length_bytes n =
+    let a : n % 2 ^ 64 % 256 ≡ n % 256 = omega arith in
+    let b : n % 2 ^ 64 / 256 ^ 1 % 256 ≡ n / 256 % 256 = omega arith in
+    let c : n % 2 ^ 64 / 256 ^ 2 % 256 ≡ n / 256 / 256 % 256 = omega arith in
+    let d : n % 2 ^ 64 / 256 ^ 3 % 256 ≡ n / 256 / 256 / 256 % 256 = omega arith in
+    let e : n % 2 ^ 64 / 256 ^ 4 % 256 ≡ n / 256 / 256 / 256 / 256 % 256 = omega arith in
+    let f : n % 2 ^ 64 / 256 ^ 5 % 256 ≡ n / 256 / 256 / 256 / 256 / 256 % 256 = omega arith in
+    let g : n % 2 ^ 64 / 256 ^ 6 % 256 ≡ n / 256 / 256 / 256 / 256 / 256 / 256 % 256 = omega arith in
+    let h : n % 2 ^ 64 / 256 ^ 7 % 256 ≡ n / 256 / 256 / 256 / 256 / 256 / 256 / 256 % 256 = omega arith in
+    cc
+
+-- the buffer: p at its front, and the mark behind it
+marked : (p : List ℕ) → length p < 128 → set (p ++ drop (length p) (replicate 128 0)) (length p) 0x80 ≡ p ++ 0x80 ∷ replicate (127 - length p) 0
+marked p h =
+    let e : 128 - length p ≡ suc (127 - length p) = omega arith in
+    let z : drop (length p) (replicate 128 0) ≡ replicate (suc (127 - length p)) 0 = drop-replicate (length p) 128 0 ∙ ap (λ (n : ℕ). replicate n 0) e in
+    ap (λ (l : List ℕ). set (p ++ l) (length p) 0x80) z ∙ set_at p 0 (replicate (127 - length p) 0) 0x80 (length p) refl
+
+-- and the first bytes of it
+marked_front : (p : List ℕ) (z n : ℕ) → n ≡ length p + suc z → n ≤ 128
+    → take n (set (p ++ drop (length p) (replicate 128 0)) (length p) 0x80) ≡ p ++ 0x80 ∷ replicate z 0
+marked_front p z n e h =
+    ap (take n) (marked p (omega arith))
+    ∙ ap (λ (k : ℕ). take k (p ++ 0x80 ∷ replicate (127 - length p) 0)) e
+    ∙ take-append-add p (0x80 ∷ replicate (127 - length p) 0) (suc z)
+    ∙ ap (λ (l : List ℕ). p ++ 0x80 ∷ l) (take-replicate z (127 - length p) 0 (omega arith))
+
+-- the rest p of the message, the mark, zeros and the length
+pub tail_filled : (s x p y : List ℕ) (at len k : ℕ) → at ≤ length s → at + len ≡ length s + zeros (length s) + 9 → len ≤ 128 → k ≡ 8
+    → p ≡ drop at s → x ≡ p → y ≡ to_be_bytes w64 (length s * 8 % 2 ^ 64)
+    → (take len (put_mid (len - 8) k (set (x ++ drop (length p) (replicate 128 0)) (length p) 0x80) y) ≡ drop at (pad s))
+    × (length (put_mid (len - 8) k (set (x ++ drop (length p) (replicate 128 0)) (length p) 0x80) y) ≡ 128)
+unfolding pad
+tail_filled s x p y at len k ha hl hm ek ep ex ey =
+    let z : ℕ = zeros (length s) in
+    let b : List ℕ = big_endian 8 (length s * 8) in
+    let t : List ℕ = set (p ++ drop (length p) (replicate 128 0)) (length p) 0x80 in
+    let r : length p ≡ length s - at = ap length ep ∙ length-drop at s in
+    let eb : y ≡ b = ey ∙ length_bytes (length s * 8) in
+    let ly : length y ≡ 8 = ap length eb ∙ length_digits 256 8 (length s * 8) in
+    let lt : length t ≡ 128 = ap length (marked p (omega arith)) ∙ length-append p (0x80 ∷ replicate (127 - length p) 0) ∙ omega (arith, length-replicate {A = ℕ} (127 - length p) 0) in
+    let front : take (len - 8) t ≡ p ++ 0x80 ∷ replicate z 0 = marked_front p z (len - 8) (omega arith) (omega arith) in
+    rw ex (
+      take-put_mid (len - 8) k t y len (omega arith) (omega arith)
+          ∙ ap₂ ◌++◌ front eb
+          ∙ append_assoc p (0x80 ∷ replicate z 0) b
+          ∙ ap (λ (l : List ℕ). l ++ 0x80 ∷ rest s) ep
+          ∙ sym (drop-append-le at s (0x80 ∷ rest s) ha),
+      search (rules, overwrites),
+    )
+
 -- ---- a block reads only the bytes that it has
 block_append : (n : ℕ) (b r : List ℕ) → suc n * 64 ≤ length b → block n (b ++ r) ≡ block n b
 unfolding block
@@ -98,9 +118,13 @@ block_append n b r h =
     let l : 64 ≤ length (drop (n * 64) b) = simp length-drop (omega arith) in
     ap (take 64) (drop-append-le (n * 64) b r (omega arith)) ∙ take-append-le 64 (drop (n * 64) b) r l
 
--- a loop over n blocks that has turned n times
-pub all_blocks : (n k : ℕ) (b : List ℕ) (s x : State) → n ≤ k → (k ≤ n) × (x ≡ blocks k b s) → x ≡ blocks n b s
-all_blocks n k b s x h (l, e) = let q : n ≡ k = omega arith in rw q e
+-- one block more, of those that s is read as
+pub blocks_more : (s : List ℕ) (bs : List (List ℕ)) (d : List ℕ) (k i : ℕ) (first x y : State) → bs ≡ first_chunks 64 k s → i < k
+    → x ≡ blocks i s first → y ≡ compress x (get_or bs i d) → y ≡ blocks (i + 1) s first
+unfolding blocks block
+blocks_more s bs d k i first x y w h ex ey =
+    let p : get_or bs i d ≡ take 64 (drop (i * 64) s) = ap (λ (r : List (List ℕ)). get_or r i d) w ∙ chunk 64 k i s d h in
+    rw add-one (cc)
 
 blocks_append : (n : ℕ) (b r : List ℕ) (s : State) → n * 64 ≤ length b → blocks n (b ++ r) s ≡ blocks n b s
 unfolding blocks
@@ -114,30 +138,23 @@ blocks_add n (suc m) b s =
     let e : n * 64 + m * 64 ≡ (n + m) * 64 = omega arith in
     rw add-suc (cc (blocks_add n m b s, drop-drop (m * 64) (n * 64) b))
 
--- the whole blocks of the message itself, and then those of a buffer t that starts with the rest of
--- the padded message
-whole : (bs t : List ℕ) (s : State) (len : ℕ) → len ≡ length bs % 64 + 9 + zeros (length bs)
-    → take len t ≡ drop (length bs / 64 * 64) (pad bs) → len ≤ length t
-    → blocks (length (pad bs) / 64) (pad bs) s ≡ blocks (len / 64) t (blocks (length bs / 64) bs s)
+-- the whole blocks of the message itself, and then those of the rest t of the padded message
+whole : (bs t : List ℕ) (s : State) → t ≡ drop (length bs / 64 * 64) (pad bs)
+    → blocks (length (pad bs) / 64) (pad bs) s ≡ blocks (length t / 64) t (blocks (length bs / 64) bs s)
 unfolding pad
-whole bs t s len el et h =
+whole bs t s et =
     let f : ℕ = length bs / 64 in
-    let m : ℕ = len / 64 in
+    let m : ℕ = length t / 64 in
     let x : State = blocks f bs s in
+    let lt : length t ≡ length (pad bs) - f * 64 = ap length et ∙ length-drop (f * 64) (pad bs) in
     let e : length (pad bs) / 64 ≡ f + m = omega (arith, pad_length bs) in
     ap (λ (k : ℕ). blocks k (pad bs) s) e
     ∙ blocks_add f m (pad bs) s
     ∙ ap (blocks m (drop (f * 64) (pad bs))) (blocks_append f bs (0x80 ∷ rest bs) s (omega arith))
     ∙ ap (λ (b : List ℕ). blocks m b x) (sym et)
-    ∙ sym (blocks_append m (take len t) (drop len t) x (rw (length-take-le len t h) (omega arith)))
-    ∙ ap (λ (b : List ℕ). blocks m b x) (take-append-drop len t)
 
--- so the digest is that of the message's own blocks and then of the blocks of such a buffer
-pub in_two : (bs t d : List ℕ) (z : ℕ) (x y : State) → (z ≡ zeros (length bs)) × (z < 64)
-    → (take (length bs % 64 + 9 + z) t ≡ drop (length bs / 64 * 64) (pad bs)) × (length t ≡ 128)
-    → x ≡ blocks (length bs / 64) bs start → y ≡ blocks ((length bs % 64 + 9 + z) / 64) t x → d ≡ joined (listed y) → d ≡ sha256 bs
+-- so the digest is that of the message's own blocks and then of the blocks of such a rest
+pub in_two : (bs t d : List ℕ) (at : ℕ) (x y : State) → at ≡ length bs / 64 * 64 → t ≡ drop at (pad bs)
+    → x ≡ blocks (length bs / 64) bs start → y ≡ blocks (length t / 64) t x → d ≡ joined (listed y) → d ≡ sha256 bs
 unfolding sha256
-in_two bs t d z x y (ez, _) (et, l) ex ey ed =
-    let e : length bs % 64 + 9 + z ≡ length bs % 64 + 9 + zeros (length bs) = omega arith in
-    let h : length bs % 64 + 9 + z ≤ length t = omega (arith, tail_fits (length bs)) in
-    cc (whole bs t start (length bs % 64 + 9 + z) e et h)
+in_two bs t d at x y ea et ex ey ed = cc (whole bs t start (et ∙ ap (λ (n : ℕ). drop n (pad bs)) ea))

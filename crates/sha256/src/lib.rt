@@ -9,19 +9,6 @@ ghost use Rattle.sha256.specs.Constants as C;
 ghost use Rattle.sha256.specs.Message as M;
 ghost use Rattle.sha256.specs.Sha as S;
 
-fn add(x: u32, y: u32) -> u32
-    ensures { result ≡ W.plus 32 x y }
-{
-    ((x as u64 + y as u64) % 0x1_0000_0000) as u32
-}
-
-fn rotr(n: u32, x: u32) -> u32
-    requires { (0 < n) × (n < 32) }
-    ensures { result ≡ W.rotr 32 n x }
-{
-    (x >> n) | (x << (32 - n))
-}
-
 fn ch(x: u32, y: u32, z: u32) -> u32
     ensures { result ≡ F.ch x y z }
 {
@@ -37,25 +24,25 @@ fn maj(x: u32, y: u32, z: u32) -> u32
 fn big0(x: u32) -> u32
     ensures { result ≡ F.Σ0 x }
 {
-    rotr(2, x) ^ rotr(13, x) ^ rotr(22, x)
+    x.rotate_right(2) ^ x.rotate_right(13) ^ x.rotate_right(22)
 }
 
 fn big1(x: u32) -> u32
     ensures { result ≡ F.Σ1 x }
 {
-    rotr(6, x) ^ rotr(11, x) ^ rotr(25, x)
+    x.rotate_right(6) ^ x.rotate_right(11) ^ x.rotate_right(25)
 }
 
 fn small0(x: u32) -> u32
     ensures { result ≡ F.σ0 x }
 {
-    rotr(7, x) ^ rotr(18, x) ^ (x >> 3)
+    x.rotate_right(7) ^ x.rotate_right(18) ^ (x >> 3)
 }
 
 fn small1(x: u32) -> u32
     ensures { result ≡ F.σ1 x }
 {
-    rotr(17, x) ^ rotr(19, x) ^ (x >> 10)
+    x.rotate_right(17) ^ x.rotate_right(19) ^ (x >> 10)
 }
 
 // The eight words of a hash value, and the working variables that start as it.
@@ -74,14 +61,19 @@ struct State {
 fn round(s: State, k: u32, w: u32) -> State
     ensures { result ≡ S.round s k w }
 {
-    let t1 = add(add(add(add(s.h, big1(s.e)), ch(s.e, s.f, s.g)), k), w);
-    let t2 = add(big0(s.a), maj(s.a, s.b, s.c));
+    let t1 = s
+        .h
+        .wrapping_add(big1(s.e))
+        .wrapping_add(ch(s.e, s.f, s.g))
+        .wrapping_add(k)
+        .wrapping_add(w);
+    let t2 = big0(s.a).wrapping_add(maj(s.a, s.b, s.c));
     State {
-        a: add(t1, t2),
+        a: t1.wrapping_add(t2),
         b: s.a,
         c: s.b,
         d: s.c,
-        e: add(s.d, t1),
+        e: s.d.wrapping_add(t1),
         f: s.e,
         g: s.f,
         h: s.g,
@@ -112,31 +104,14 @@ fn rounds(k: &[u32; 64], w: &[u32; 64], s: State) -> State
     x
 }
 
-// A cast is a call, here and in `long`: at an element, the caller is then asked for the index
-// alone.
-fn wide(x: u8) -> u32
-    ensures { (result ≡ x) × (result < 256) }
-{
-    x as u32
-}
-
-fn word(b: &[u8], i: usize) -> u32
-    requires { i + 4 ≤ length b.now }
-    ensures { result ≡ number 256 (take 4 (drop i b.now)) }
-{
-    ((wide(b[i]) * 256 + wide(b[i + 1])) * 256 + wide(b[i + 2])) * 256 + wide(b[i + 3])
-}
-
-// The schedule of the block that starts at byte `at`, as far as its first sixteen words, which are
-// the block's.
-fn words(b: &[u8], at: usize) -> [u32; 64]
-    requires { at + 64 ≤ length b.now }
-    ensures { (take 16 result ≡ S.schedule 16 (take 64 (drop at b.now))) × (length result ≡ 64) }
+// The schedule of a block, as far as its first sixteen words, which are the block's.
+fn words(b: &[u8; 64]) -> [u32; 64]
+    ensures { (take 16 result ≡ S.schedule 16 b.now) × (length result ≡ 64) }
 {
     let mut w = [0u32; 64];
-    for t in 0..16usize {
-        let x = word(b, at + t * 4);
-        w[t] = x;
+    let (words, _) = b.as_chunks::<4>();
+    for (t, x) in words.iter().enumerate() {
+        w[t] = u32::from_be_bytes(*x);
     }
     w
 }
@@ -145,17 +120,16 @@ fn next(w: &[u32; 64], t: usize) -> u32
     requires { (16 ≤ t) × (t < 64) }
     ensures { result ≡ S.next t w.now }
 {
-    add(
-        add(add(small1(w[t - 2]), w[t - 7]), small0(w[t - 15])),
-        w[t - 16],
-    )
+    small1(w[t - 2])
+        .wrapping_add(w[t - 7])
+        .wrapping_add(small0(w[t - 15]))
+        .wrapping_add(w[t - 16])
 }
 
-fn schedule(b: &[u8], at: usize) -> [u32; 64]
-    requires { at + 64 ≤ length b.now }
-    ensures { result ≡ S.schedule 64 (take 64 (drop at b.now)) }
+fn schedule(b: &[u8; 64]) -> [u32; 64]
+    ensures { result ≡ S.schedule 64 b.now }
 {
-    let mut w = words(b, at);
+    let mut w = words(b);
     for t in 16..64usize {
         let x = next(&w, t);
         w[t] = x;
@@ -167,33 +141,32 @@ fn sum(s: State, t: State) -> State
     ensures { result ≡ S.sum s t }
 {
     State {
-        a: add(s.a, t.a),
-        b: add(s.b, t.b),
-        c: add(s.c, t.c),
-        d: add(s.d, t.d),
-        e: add(s.e, t.e),
-        f: add(s.f, t.f),
-        g: add(s.g, t.g),
-        h: add(s.h, t.h),
+        a: s.a.wrapping_add(t.a),
+        b: s.b.wrapping_add(t.b),
+        c: s.c.wrapping_add(t.c),
+        d: s.d.wrapping_add(t.d),
+        e: s.e.wrapping_add(t.e),
+        f: s.f.wrapping_add(t.f),
+        g: s.g.wrapping_add(t.g),
+        h: s.h.wrapping_add(t.h),
     }
 }
 
-// One block, which starts at byte `at`.
-fn compress(s: State, b: &[u8], at: usize) -> State
-    requires { at + 64 ≤ length b.now }
-    ensures { result ≡ S.compress s (take 64 (drop at b.now)) }
+fn compress(s: State, b: &[u8; 64]) -> State
+    ensures { result ≡ S.compress s b.now }
 {
-    let w = schedule(b, at);
+    let w = schedule(b);
     sum(rounds(&K, &w, s), s)
 }
 
-fn blocks(b: &[u8], n: usize, s: State) -> State
-    requires { n * 64 ≤ length b.now }
-    ensures { result ≡ S.blocks n b.now s }
+// The whole blocks of s.
+fn blocks(s: &[u8], first: State) -> State
+    ensures { result ≡ S.blocks (length s.now / 64) s.now first }
 {
-    let mut x = s;
-    for i in 0..n {
-        x = compress(x, b, i * 64);
+    let mut x = first;
+    let (blocks, _) = s.as_chunks::<64>();
+    for b in blocks {
+        x = compress(x, b);
     }
     x
 }
@@ -204,49 +177,18 @@ fn zeros(n: usize) -> usize
     (119 - n % 64) % 64
 }
 
-// Byte j of x, counted from the lowest.
-fn byte(x: u64, j: usize) -> u8
-    requires { j < 8 }
-    ensures { result ≡ x / 2 ^ (8 * j) % 2 ^ 8 }
-{
-    ((x >> (8 * j)) % 256) as u8
-}
-
-fn long(x: u32) -> u64
-    ensures { result ≡ x }
-{
-    x as u64
-}
-
-// Byte i of the padded message. The shift drops what the length in bits has above 64 bits (R14.5).
-fn pad_byte(s: &[u8], i: usize) -> u8
-    requires { i < length (M.pad s.now) }
-    ensures { result ≡ get_or (M.pad s.now) i 0 }
-{
-    let n = s.len();
-    if i < n {
-        return s[i];
-    }
-    if i == n {
-        return 0x80;
-    }
-    let k = n + 1 + zeros(n);
-    if i < k {
-        return 0;
-    }
-    byte((n as u64) << 3, 7 - (i - k))
-}
-
-// The last one or two blocks of the padded message, from byte `at` on.
+// The last one or two blocks of the padded message, from byte `at` on, where the whole blocks of the
+// message end. The shift drops what the length in bits has above 64 bits (R14.5).
 fn tail(s: &[u8], at: usize, len: usize) -> [u8; 128]
-    requires { (at + len ≡ length (M.pad s.now)) × (len ≤ 128) }
+    requires { (at ≤ length s.now) × (at + len ≡ length s.now + M.zeros (length s.now) + 9) × (len ≤ 128) }
     ensures { (take len result ≡ drop at (M.pad s.now)) × (length result ≡ 128) }
 {
+    let rest = &s[at..];
+    let bits = (s.len() as u64) << 3;
     let mut t = [0u8; 128];
-    for j in 0..len {
-        let x = pad_byte(s, at + j);
-        t[j] = x;
-    }
+    t[..rest.len()].copy_from_slice(rest);
+    t[rest.len()] = 0x80;
+    t[len - 8..len].copy_from_slice(&bits.to_be_bytes());
     t
 }
 
@@ -255,9 +197,8 @@ fn digest(s: State) -> [u8; 32]
 {
     let w = [s.a, s.b, s.c, s.d, s.e, s.f, s.g, s.h];
     let mut d = [0u8; 32];
-    for i in 0..32usize {
-        let x = byte(long(w[i / 4]), 3 - i % 4);
-        d[i] = x;
+    for (i, x) in w.iter().enumerate() {
+        d[4 * i..4 * i + 4].copy_from_slice(&x.to_be_bytes());
     }
     d
 }
@@ -269,7 +210,6 @@ pub fn sha256(s: &[u8]) -> [u8; 32]
     ensures { result ≡ S.sha256 s.now }
 {
     let n = s.len();
-    let full = n / 64;
     let len = n % 64 + 9 + zeros(n);
     let first = State {
         a: 0x6a09e667,
@@ -281,7 +221,7 @@ pub fn sha256(s: &[u8]) -> [u8; 32]
         g: 0x1f83d9ab,
         h: 0x5be0cd19,
     };
-    let x = blocks(s, full, first);
-    let t = tail(s, full * 64, len);
-    digest(blocks(&t, len / 64, x))
+    let x = blocks(s, first);
+    let t = tail(s, n - n % 64, len);
+    digest(blocks(&t[..len], x))
 }

@@ -8,6 +8,8 @@ use lib.ListN.{length, take, replicate, length-replicate, length-append}
 use Rattle.wire.specs.Over.{over}
 use Rattle.wire.specs.Answer.{done, Answer, number_of, Kept}
 use Rattle.wire.specs.Writing.{writing}
+use Rattle.wire.specs.Refusal.{number}
+use Rattle.wire.specs.declared.Refusal.{Refusal}
 use Rattle.wire.proofs.Overs.{over_append, read_over}
 use Rattle.digits.specs.Decimal.{decimal, line_feed, refused_line}
 use Rattle.model.specs.Book.{Slot, Book, empty, collecting, disagree}
@@ -15,7 +17,7 @@ use Rattle.model.specs.Finish.{is_absent, lowest}
 use Rattle.book.specs.Head.{read_head}
 use Rattle.book.specs.Read.{read_pages, read_book, book_in}
 use Rattle.book.specs.Tally.{in_state}
-use Rattle.book.proofs.Judging.{judged_done, judge_passed, judge_refused}
+use Rattle.book.proofs.Judging.{judged_done, judge_passed, judge_err}
 use Rattle.book.proofs.Decode.{ok_state, ok_head_lem, head_allowed, total_range, book_0, book_1, book_2}
 use Rattle.book.proofs.Below.{in_absent, lowest_as, take_read}
 use Rattle.status.specs.declared.standing.Numbers.{Numbers}
@@ -97,26 +99,26 @@ pages_laid t h m d k a b i j f x1 x2 x3 x4 x5 x6 p q r s u e =
     grown_end (l4 ++ first_field k t) x6 x5 f (omega (arith, p.1, q.1, r.1, s.1, u.1)) g5 e
 
 -- by the numbers that the code took
-pub numbered : (n : Numbers) (t f : ℕ) (ss : List Slot) → n ≡ below t ss → f ≡ lowest (in_state 0) ss
+pub numbered : (n : Numbers) (t f i : ℕ) (ss : List Slot) → n ≡ below t ss → i ≡ 0 → f ≡ lowest (in_state i) ss
     → field pages_name t ++ field held_name n.held ++ field missing_name n.missing ++ field disputed_name n.disputed ++ first_field f t ++ line_feed
     ≡ pages_line t ss
 unfolding pages_line
-numbered n t f ss en ef =
-    let e : f ≡ lowest is_absent ss = ef ∙ lowest_as (in_state 0) is_absent in_absent ss in
+numbered n t f i ss en ei ef =
+    let e : f ≡ lowest is_absent ss = ef ∙ rw ei refl ∙ lowest_as (in_state 0) is_absent in_absent ss in
     rw (en, e)
 
--- ---- the line of a collection: n is what the judge answered
+-- ---- the line of a collection, by what the judge answered
 
-module _ (c : List ℕ) (n : ℕ) (e : n ≡ number_of (book_in c)) where
-  pub line_refused : (n ≡ 0 → ⊥) → status_line c ≡ refused_line n
+module _ (c : List ℕ) where
+  pub line_refused : (r : Refusal) (n : ℕ) → n ≡ number r → number r ≡ number_of (book_in c) → status_line c ≡ refused_line n
   unfolding status_line
-  line_refused z = rw (judge_refused c n e z)
+  line_refused r n k e = rw (k, judge_err c (number r) e r refl)
 
   -- s is the state of a head that passed
-  module _ (z : n ≡ 0) (s : ℕ) (es : s ≡ (read_head c).state) where
+  module _ (e : 0 ≡ number_of (book_in c)) (s : ℕ) (es : s ≡ (read_head c).state) where
     said : (b : Book) → read_book c ≡ b → status_line c ≡ book_line b
     unfolding status_line
-    said b h = rw (judged_done c (judge_passed c n e z), h)
+    said b h = rw (judged_done c (judge_passed c 0 e refl), h)
 
     pub line_empty : s ≡ 0 → status_line c ≡ empty_line
     unfolding book_line
@@ -125,12 +127,12 @@ module _ (c : List ℕ) (n : ℕ) (e : n ≡ number_of (book_in c)) where
     pub line_disagree : (s ≡ 0 → ⊥) → (s ≡ 1 → ⊥) → status_line c ≡ disagree_line
     unfolding book_line
     line_disagree f g =
-        let two : (read_head c).state ≡ 2 = omega (arith, ok_state c (judge_passed c n e z)) in
+        let two : (read_head c).state ≡ 2 = omega (arith, ok_state c (judge_passed c 0 e refl)) in
         said disagree (book_2 c two)
 
     pub line_pages : (t : ℕ) → s ≡ 1 → t ≡ (read_head c).total → status_line c ≡ pages_line t (read_pages 0 t c)
     unfolding book_line
     line_pages t f et =
-        let r = total_range (read_head c).total (rw (sym es ∙ f) at (head_allowed c (ok_head_lem c (judge_passed c n e z)))) in
+        let r = total_range (read_head c).total (rw (sym es ∙ f) at (head_allowed c (ok_head_lem c (judge_passed c 0 e refl)))) in
         let b : read_book c ≡ collecting t (read_pages 0 96 c) = rw et (book_1 c (sym es ∙ f)) in
         said (collecting t (read_pages 0 96 c)) b ∙ ap (pages_line t) (take_read 0 96 t c (rw et r.1))

@@ -1,15 +1,14 @@
 -- Where a collection stands, as numbers, and how each of its pages stands: R16.3.
 use Rattle.std.specs.Prelude.{ℕ, List, map, leb, length, take}
-use Rattle.wire.specs.Answer.{Answer, done, refused, then, demand, Change, leaves}
+use Rattle.wire.specs.Answer.{then, demand, Change, leaves}
 use Rattle.wire.specs.Over.{over}
+pub use Rattle.wire.specs.Reading.{told}
 use Rattle.wire.specs.Sizes.{most_pages}
 use Rattle.model.specs.Book.{Slot, Book, empty, collecting, disagree, slots_of}
 use Rattle.model.specs.Finish.{is_absent, is_held, is_disputed, count}
 use Rattle.block.specs.Block.{state_of}
 use Rattle.book.specs.Read.{book_in}
 use Rattle.status.specs.declared.standing.Numbers.{Numbers}
-use Rattle.status.specs.declared.standing.Standing.{Standing}
-use Rattle.status.specs.declared.standing.Standing.TheVariants.{Done, Refused}
 
 -- a total and the pages below it: how many are in each of the three states (R9.12)
 abbrev pub below : ℕ → List Slot → Numbers
@@ -32,8 +31,3 @@ states_of b = map state_of (slots_of b)
 -- of any bytes: 13, then 11 for a buffer that has no room for the states; they go to its front
 unfoldable pub standing : List ℕ → List ℕ → Change Numbers
 standing c out = then (book_in c) (λ b. demand (leb most_pages (length out)) 11 (leaves (over 0 (states_of b) out) (numbers_of b)))
-
--- the enum's cases (R18.5)
-abbrev pub told : Standing → Answer Numbers
-told (Done n) = done n
-told (Refused e) = refused e

@@ -10,9 +10,10 @@ ghost use Rattle.wire.specs.Writing.{Written};
 ghost use Rattle.book.specs.Read.{read_pages};
 ghost use Rattle.status.specs.Line.{field, first_field, pages_line, status_line};
 
+use block::PageState;
 use book::tally;
 use digits::refused_line;
-use wire::Wrote;
+use wire::Refusal;
 
 // Room for the longest line.
 const ROOM: usize = 64;
@@ -40,11 +41,11 @@ fn first(out: &mut [u8], at: usize, lowest: u8, total: u8) -> usize
 }
 
 // The line of a collection that has pages (R9.12).
-fn pages_line(c: &[u8], total: u8, out: &mut [u8]) -> Wrote
+fn pages_line(c: &[u8], total: u8, out: &mut [u8]) -> Result<usize, Refusal>
     ensures { Written 0 (done (pages_line total (read_pages 0 total c.now))) out.old out.new result }
 {
     let n = standing::below(c, total);
-    let lowest = tally::lowest(c, total, block::ABSENT);
+    let lowest = tally::lowest(c, total, u8::from(PageState::Absent));
     let mut room = [0u8; ROOM];
     let a = named(&mut room, 0, b"pages ", total);
     let b = named(&mut room, a, b" held ", n.held);
@@ -58,19 +59,15 @@ fn pages_line(c: &[u8], total: u8, out: &mut [u8]) -> Wrote
 
 // The status line of c, whatever its bytes are, at the front of out, and its length; or 11 and
 // nothing changed.
-pub fn status(c: &[u8], out: &mut [u8]) -> Wrote
+pub fn status(c: &[u8], out: &mut [u8]) -> Result<usize, Refusal>
     ensures { Written 0 (done (status_line c.now)) out.old out.new result }
 {
-    let no = book::judge(c);
-    if no != wire::DONE {
-        return refused_line(no, out);
+    if let Err(why) = book::judge(c) {
+        return refused_line(u8::from(why), out);
     }
-    let state = book::state(c);
-    if state == book::EMPTY {
-        return lend::give(b"empty\n", out);
+    match book::state(c) {
+        book::EMPTY => lend::give(b"empty\n", out),
+        book::COLLECTING => pages_line(c, book::total(c), out),
+        _ => lend::give(b"totals disagree\n", out),
     }
-    if state != book::COLLECTING {
-        return lend::give(b"totals disagree\n", out);
-    }
-    pages_line(c, book::total(c), out)
 }

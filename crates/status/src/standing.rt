@@ -5,15 +5,20 @@ ghost use Rattle.wire.specs.Over.{over};
 ghost use Rattle.wire.specs.Sizes.{most_pages};
 ghost use Rattle.block.specs.Block.{state_of};
 ghost use Rattle.book.specs.Read.{read_pages};
+ghost use Rattle.wire.specs.Reading.{told};
 ghost use Rattle.status.specs.Numbers as N;
 
+use block::PageState;
 use book::tally;
+use wire::Refusal;
 
 // What an offer answers of totals that disagree (R9.5), said of the collection.
 const DISAGREE: u8 = 3;
 
-#[derive(Drop)]
+#[derive(Clone, Copy, Debug, PartialEq, Eq)]
 pub struct Numbers {
+    // stays (1): `NumbersAre` of Demand 3 and C speak of this number.
+    //
     // 3 where the totals disagree, else 0.
     pub stands: u8,
     pub total: u8,
@@ -23,13 +28,6 @@ pub struct Numbers {
     pub disputed: u8,
 }
 
-#[derive(Drop)]
-pub enum Standing {
-    Done { numbers: Numbers },
-    // The number of the refusal (R2.2).
-    Refused { no: u8 },
-}
-
 // The pages below the total, counted by their state.
 pub(super) fn below(c: &[u8], total: u8) -> Numbers
     ensures { result ≡ N.below total (read_pages 0 total c.now) }
@@ -37,9 +35,9 @@ pub(super) fn below(c: &[u8], total: u8) -> Numbers
     Numbers {
         stands: 0,
         total,
-        held: tally::count(c, total, block::HELD),
-        missing: tally::count(c, total, block::ABSENT),
-        disputed: tally::count(c, total, block::DISPUTED),
+        held: tally::count(c, total, u8::from(PageState::Held)),
+        missing: tally::count(c, total, u8::from(PageState::Absent)),
+        disputed: tally::count(c, total, u8::from(PageState::Disputed)),
     }
 }
 
@@ -48,30 +46,29 @@ fn states(c: &[u8], out: &mut [u8])
     requires { most_pages ≤ length out.old }
     ensures { out.new ≡ over 0 (map state_of (read_pages 0 most_pages c.now)) out.old }
 {
-    let mut k: u8 = 0;
-    while k < book::PAGES {
-        lend::put(out, k as usize, block::state(c, book::place(k)));
-        k += 1;
+    for k in 0..book::PAGES {
+        lend::put(
+            out,
+            usize::from(k),
+            u8::from(block::state(c, book::place(k))),
+        );
     }
 }
 
 // The total of c and how many pages below it are held, missing and disputed, or that its totals
 // disagree; and in the first 96 bytes of out how each page stands. Or 13, then 11, and nothing
 // changed.
-pub fn of(c: &[u8], out: &mut [u8]) -> Standing
-    ensures { Kept (N.standing c.now out.old) out.old out.new (N.told result) }
+pub fn of(c: &[u8], out: &mut [u8]) -> Result<Numbers, Refusal>
+    ensures { Kept (N.standing c.now out.old) out.old out.new (told result) }
 {
-    let no = book::judge(c);
-    if no != wire::DONE {
-        return Standing::Refused { no };
-    }
+    book::judge(c)?;
     if out.len() < wire::MOST_PAGES {
-        return Standing::Refused { no: wire::NO_ROOM };
+        return Err(Refusal::NoRoom);
     }
     states(c, out);
     let mut numbers = below(c, book::total(c));
     if book::state(c) == book::DISAGREE {
         numbers.stands = DISAGREE;
     }
-    Standing::Done { numbers }
+    Ok(numbers)
 }

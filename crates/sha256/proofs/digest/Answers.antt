@@ -1,30 +1,27 @@
 use mathlib.Core.Path.{◌≡◌, refl, sym, ◌∙◌}
-use Prim.Native.Nat.{◌<◌}
 use native.Mathlib.Omega.{arith}
-use lib.ListN.{length, get_or, length-set}
+use Rattle.std.proofs.Common.{rules}
+use Rattle.std.proofs.lemmas.Slice.{overwrites}
 use lib.Seq.{take_all}
 use Rattle.sha256.specs.Sha.{joined, listed}
-use Rattle.sha256.proofs.Joined.{joined_length, joined_at}
-use Rattle.sha256.proofs.Filling.{copy_more}
-use borrow.Author.Rules.{rules}
+use Rattle.sha256.proofs.Joined.{joined_more}
 use Rattle.sha256.proofs.digest.Goals as goal
 
 pub loop-i-init : goal.loop-i-init
-loop-i-init c = (search rules, refl, refl)
+unfolding joined
+loop-i-init c = (refl, refl)
 
 pub loop-i-preserved : goal.loop-i-preserved
 unfolding listed
 loop-i-preserved c =
-    let l = c.loop-i in
-    let w = listed c.args.s in
-    let h : l.i < length (joined w) = rw (joined_length w) (omega arith) in
-    let e : c.byte-x.result ≡ get_or (joined w) l.i 0 = cc (joined_at w l.i (omega arith)) in
-    (omega arith, simp length-set (search rules), copy_more l.d (joined w) l.i c.byte-x.result (omega arith) h e l.invariant.2)
+    let l = c.loop-i in (
+      search (rules, overwrites),
+      joined_more l.d (listed c.args.s) _ l.i _ (omega arith) (omega arith) l.invariant.1 (c.copy_from_slice.ensures.after ∙ c.to_be_bytes.ensures),
+    )
 
 pub returns : goal.returns
 unfolding listed
 returns c =
     let l = c.loop-i in
-    let w = listed c.args.s in
-    let e : l.i ≡ 32 = omega arith in
-    sym (take_all 32 l.d (omega arith)) ∙ rw e at l.invariant.2 ∙ take_all 32 (joined w) (rw (joined_length w) (omega arith))
+    let e : l.i ≡ 8 = omega arith in
+    sym (take_all 32 l.d (omega arith)) ∙ rw e at l.invariant.1

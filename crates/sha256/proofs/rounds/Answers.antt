@@ -2,16 +2,15 @@ use mathlib.Core.Path.{◌≡◌, refl}
 use native.Mathlib.Numerals.{add-one}
 use native.Mathlib.Omega.{arith}
 use Rattle.sha256.specs.Sha.{rounds}
-use borrow.Author.Rules.{rules}
 use Rattle.sha256.proofs.rounds.Goals as goal
 
 pub loop-t-init : goal.loop-t-init
 unfolding rounds
-loop-t-init c = (search rules, refl)
+loop-t-init c = refl
 
 pub loop-t-preserved : goal.loop-t-preserved
 unfolding rounds
-loop-t-preserved c = (omega arith, rw add-one (cc))
+loop-t-preserved c = rw add-one (cc)
 
 pub returns : goal.returns
 returns c =

@@ -2,14 +2,14 @@
 use Rattle.status.proofs.Lines.{written_as, line_refused, line_empty, line_disagree, line_pages}
 use Rattle.status.proofs.status.Goals as goal
 
-pub returns-then-no-ne-DONE : goal.returns-then-no-ne-DONE
-returns-then-no-ne-DONE c = search (written_as, line_refused)
+pub returns-in-Err : goal.returns-in-Err
+returns-in-Err c = search (written_as, line_refused, c.in-Err.ensures)
 
-pub returns-then-state-eq-EMPTY : goal.returns-then-state-eq-EMPTY
-returns-then-state-eq-EMPTY c = search (written_as, line_empty)
+pub returns-in-0 : goal.returns-in-0
+returns-in-0 c = search (written_as, line_empty, c.in_default.ensures)
 
-pub returns-then-state-ne-COLLECTING : goal.returns-then-state-ne-COLLECTING
-returns-then-state-ne-COLLECTING c = search (written_as, line_disagree)
+pub returns-in-1 : goal.returns-in-1
+returns-in-1 c = search (written_as, line_pages, c.in_default.ensures)
 
-pub returns : goal.returns
-returns c = search (written_as, line_pages)
+pub returns-in_default-state : goal.returns-in_default-state
+returns-in_default-state c = search (written_as, line_disagree, c.in_default.ensures)

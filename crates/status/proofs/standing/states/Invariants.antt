@@ -1,10 +1,6 @@
 -- `status::standing::states` meets its contract. Assumes nothing.
-use Prim.Native.Nat.{◌-◌}
 use Rattle.status.proofs.Standings.{Shown}
 use Rattle.status.proofs.standing.states.Given as goal
 
 abbrev pub invariant-loop-k : goal.invariant-loop-k
 invariant-loop-k l = Shown l.c l.initial.out l.out l.k
-
-abbrev pub decreases-loop-k : goal.decreases-loop-k
-decreases-loop-k l = 96 - l.k
