@@ -20,7 +20,7 @@ use Rattle.wire.proofs.Placeless.{Placeless, HasName, placeless, placeless_done,
 use Rattle.auth.specs.Auth.{Claim, auth_at}
 use Rattle.auth.proofs.Placeless.{auth_placeless}
 use Rattle.auth.specs.Answer.{claim_told}
-use Rattle.auth.specs.declared.Claim.{Claim as Claimed}
+use Rattle.auth.specs.declared.Claimed.{Claimed}
 use Rattle.lend.specs.Same.{same}
 use Rattle.crc.specs.Crc.{crc32}
 use Rattle.mark.specs.Mark.{mark_of}
