@@ -1,5 +1,6 @@
 -- Numbers in decimal, by the writes that the code makes, and how long they are. Assumes nothing.
 use mathlib.Core.Path.{◌≡◌, refl, sym}
+use mathlib.Core.Logic.{⊎_elim}
 use mathlib.Core.Bool.{Bool, true, false}
 use mathlib.Core.List.{List, [], ◌∷◌, ◌++◌}
 use Prim.Native.Nat.{ℕ, ◌+◌, ◌-◌, ◌/◌, ◌%◌, ◌≤◌, ◌<◌}
@@ -10,8 +11,9 @@ use lib.ListN.{length, take, drop, replicate, length-append, length-replicate}
 use Rattle.wire.specs.Answer.{choose, Answer, done, Kept}
 use Rattle.wire.specs.Over.{over}
 use Rattle.wire.specs.Writing.{writing}
+use Rattle.wire.proofs.Cases.{lt_or_le}
 use Rattle.wire.proofs.Overs.{over_run, read_over}
-use Rattle.digits.specs.Decimal.{digit, decimal, line_feed, refused_name, refused_line}
+use Rattle.digits.specs.Decimal.{digit, decimal, last_digits, numeral, line_feed, refused_name, refused_line}
 
 -- at most three digits
 pub length_decimal : (n : ℕ) → length (decimal n) ≤ 3
@@ -37,24 +39,28 @@ pub refused_most : (e : ℕ) → length (refused_line e) ≤ 64
 unfolding refused_line
 refused_most e = simp length-append (omega (arith, length_decimal e))
 
--- ---- as the code writes them
+-- a byte's digits are those of any number
+decimal_numeral : (n : ℕ) → n < 1000 → numeral n ≡ decimal n
+unfolding decimal numeral last_digits
+decimal_numeral n h =
+    ⊎_elim (λ l. rw (lt-ltb n 10 l))
+    (λ l. ⊎_elim (λ k. two l k) (λ k. three l k) (lt_or_le n 100))
+    (lt_or_le n 10)
+  where
+    two : 10 ≤ n → n < 100 → last_digits 20 n ≡ decimal n
+    two l k = let t = lt-ltb (n / 10) 10 (omega arith) in rw (le-ltb n 10 l, lt-ltb n 100 k, t)
 
-module _ (at n : ℕ) (l x : List ℕ) where
-  -- r digits became x
-  abbrev Put : ℕ → Type 0
-  Put r = (r ≡ length (decimal n)) × (r ≤ 3) × (x ≡ over at (decimal n) l)
+    three : 10 ≤ n → 100 ≤ n → last_digits 20 n ≡ decimal n
+    three l k =
+        let t : ltb (n / 10) 10 ≡ false = le-ltb (n / 10) 10 (omega arith) in
+        let u : ltb (n / 10 / 10) 10 ≡ true = lt-ltb (n / 10 / 10) 10 (omega arith) in
+        let e : n / 10 / 10 ≡ n / 100 = omega arith in
+        rw (le-ltb n 10 l, le-ltb n 100 k, t, u, e)
 
-  pub one_put : n < 10 → x ≡ over at (digit n ∷ []) l → Put 1
-  unfolding decimal
-  one_put h e = rw (lt-ltb n 10 h) (refl, omega arith, e)
-
-  pub two_put : 10 ≤ n → n < 100 → x ≡ over at (digit (n / 10) ∷ digit (n % 10) ∷ []) l → Put 2
-  unfolding decimal
-  two_put h k e = rw (le-ltb n 10 h, lt-ltb n 100 k) (refl, omega arith, e)
-
-  pub three_put : 100 ≤ n → x ≡ over at (digit (n / 100) ∷ digit (n / 10 % 10) ∷ digit (n % 10) ∷ []) l → Put 3
-  unfolding decimal
-  three_put h e = rw (le-ltb n 10 (omega arith), le-ltb n 100 h) (refl, omega arith, e)
+pub decimal_laid : (n at r : ℕ) (l x : List ℕ) → n < 256 → (r ≡ length (numeral n)) × (r ≤ 20) × (x ≡ over at (numeral n) l) → (r ≡ length (decimal n)) × (r ≤ 3) × (x ≡ over at (decimal n) l)
+decimal_laid n at r l x h (k, m, e) =
+    let s = decimal_numeral n (omega arith) in
+    (rw s at k, omega (arith, rw s at k, length_decimal n), rw s at e)
 
 -- ---- a line that is put together in a room of its own
 

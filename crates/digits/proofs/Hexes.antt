@@ -11,9 +11,10 @@ use borrow.Author.Tests.{le-leb, lt-leb, lt-ltb, le-ltb, ltb-true, eq-eqb, ne_eq
 use mir.Syntax.{w8}
 use mir.Val.{Fits}
 use lib.Dec.{ltb, eqb}
-use lib.ListN.{length, take, drop, get_or, set, length-set}
+use lib.ListN.{length, take, get_or, set, length-set}
 use lib.Seq.{take_all, take-suc, length-take-le}
 use Rattle.std.specs.Prelude.{Ok, Err}
+use Rattle.std.specs.List.{list_all}
 use Rattle.wire.specs.Answer.{done}
 use Rattle.wire.specs.Every.{every}
 use Rattle.wire.specs.Number.{Bytes}
@@ -21,7 +22,6 @@ use Rattle.wire.specs.Over.{over}
 use Rattle.wire.specs.Writing.{Written}
 use Rattle.wire.specs.declared.Refusal.TheVariants.{NoRoom, OutOfRange}
 use Rattle.wire.proofs.Cases.{lt_or_le, both_hold, passed, done_value}
-use Rattle.wire.proofs.Everys.{every_on, every_stop, every_end}
 use Rattle.wire.proofs.Overs.{over_none, over_out, over_then, over_next}
 use Rattle.wire.proofs.Writes.{written, no_room, denied}
 use Rattle.digits.specs.Hex.{hex_digit, hex_of, hex_value, all_hex, hex_bytes, hex_verdict}
@@ -33,7 +33,7 @@ module _ (d : ℕ) where
   unfolding hex_digit
   figure_written h = rw (lt-ltb d 10 h)
 
-  pub letter_written : 10 ≤ d → d - 10 + 97 ≡ hex_digit d
+  pub letter_written : 10 ≤ d → 97 + (d - 10) ≡ hex_digit d
   unfolding hex_digit
   letter_written h = rw (le-ltb d 10 h) (omega arith)
 
@@ -50,9 +50,9 @@ module _ (b : ℕ) where
   unfolding hex_value
   between h k = (rw (le-leb 0x30 b (omega arith), lt-leb b 0x39 h, lt-leb 0x61 b k), omega arith)
 
-  pub a_letter : 0x61 ≤ b → b ≤ 0x66 → (b - 0x57 ≡ hex_value b) × (b - 0x57 ≤ 16)
+  pub a_letter : 0x61 ≤ b → b ≤ 0x66 → (b - 0x61 + 10 ≡ hex_value b) × (b - 0x61 + 10 ≤ 16)
   unfolding hex_value
-  a_letter h k = (rw (le-leb 0x30 b (omega arith), lt-leb b 0x39 (omega arith), le-leb 0x61 b h, le-leb b 0x66 k), omega arith)
+  a_letter h k = (rw (le-leb 0x30 b (omega arith), lt-leb b 0x39 (omega arith), le-leb 0x61 b h, le-leb b 0x66 k) (omega arith), omega arith)
 
   pub above_letters : 0x66 < b → (◌≡◌ {A = ℕ} 16 (hex_value b)) × (◌≤◌ 16 16)
   unfolding hex_value
@@ -104,15 +104,14 @@ hex_out at bs l h = sym (over_out at (hex_of bs) l (omega (arith, hex_length bs)
 
 -- ---- judged, digit by digit
 
-module _ (s : List ℕ) (i : ℕ) where
-  pub hex_on : i < length s → hex_value (get_or s i 0) < 16 → all_hex (drop i s) ≡ all_hex (drop (i + 1) s)
-  hex_on h k = every_on _ s i 0 h (lt-ltb (hex_value (get_or s i 0)) 16 k)
+same_all : (test : ℕ → Bool) (xs : List ℕ) → list_all test xs ≡ every test xs
+unfolding every
+same_all test [] = refl
+same_all test (x ∷ xs) = ap (λ (t : Bool). test x && t) (same_all test xs)
 
-  pub hex_stop : i < length s → 16 ≤ hex_value (get_or s i 0) → all_hex (drop i s) ≡ false
-  hex_stop h k = every_stop _ s i 0 h (le-ltb (hex_value (get_or s i 0)) 16 k)
-
-  pub hex_end : length s ≤ i → all_hex (drop i s) ≡ true
-  hex_end h = every_end _ s i h
+-- what the library's `all` answers
+pub all_every : (test : ℕ → Bool) (xs : List ℕ) (r : Bool) → r ≡ list_all test xs → r ≡ every test xs
+all_every test xs r e = e ∙ same_all test xs
 
 hex_at : (s : List ℕ) (i : ℕ) → all_hex s ≡ true → i < length s → hex_value (get_or s i 0) < 16
 unfolding every
@@ -205,7 +204,7 @@ read_length s bs h = sym (ap length (done_value (passed (eqb (length s % 2) 0 &&
 digit_back : (d : ℕ) → d < 16 → hex_value (hex_digit d) ≡ d
 digit_back d h =
     ⊎_elim (λ l. ap hex_value (sym (figure_written d l)) ∙ sym (figure (0x30 + d) (omega arith) (omega arith)).0 ∙ omega arith)
-    (λ l. ap hex_value (sym (letter_written d l)) ∙ sym (a_letter (d - 10 + 97) (omega arith) (omega arith)).0 ∙ omega arith)
+    (λ l. ap hex_value (sym (letter_written d l)) ∙ sym (a_letter (97 + (d - 10)) (omega arith) (omega arith)).0 ∙ omega arith)
     (lt_or_le d 10)
 
 bytes_back : (bs : List ℕ) → Bytes bs → (all_hex (hex_of bs) ≡ true) × (hex_bytes (hex_of bs) ≡ bs)

@@ -74,7 +74,7 @@ module _ (n : ℕ) (room : List ℕ) (rest : ℕ) where
             ∙ rw (le-ltb rest 10 l) at s.text;
       })
 
-  pub spell_full : (i : ℕ) → Spelling n room rest i → i ≤ 0 → (i ≤ 20) × (drop i room ≡ numeral n)
+  pub spell_full : (i : ℕ) → Spelling n room rest i → i ≤ 0 → (◌≤◌ 0 20) × (room ≡ numeral n)
   unfolding last_digits
   spell_full zero s h = (omega arith, s.text)
   spell_full (suc j) s h = absurd (omega arith)

@@ -21,18 +21,7 @@ use wire::Refusal;
 pub fn decimal(out: &mut [u8], at: usize, n: u8) -> usize
     ensures { (result ≡ length (decimal_of n)) × (result ≤ 3) × (out.new ≡ over at (decimal_of n) out.old) }
 {
-    if n < 10 {
-        lend::put(out, at, b'0' + n);
-        return 1;
-    }
-    if n < 100 {
-        let two = [b'0' + n / 10, b'0' + n % 10];
-        lend::copy(out, at, &two);
-        return 2;
-    }
-    let three = [b'0' + n / 100, b'0' + n / 10 % 10, b'0' + n % 10];
-    lend::copy(out, at, &three);
-    3
+    number(out, at, u64::from(n))
 }
 
 // No u64 has more digits.
@@ -44,16 +33,14 @@ fn spell(n: u64, room: &mut [u8]) -> usize
     ensures { (result ≤ 20) × (drop result room.new ≡ numeral n) }
 {
     let mut rest = n;
-    let mut i = MOST_DIGITS;
-    while 0 < i {
-        i -= 1;
+    for i in (0..MOST_DIGITS).rev() {
         room[i] = b'0' + (rest % 10) as u8;
         if rest < 10 {
             return i;
         }
         rest /= 10;
     }
-    i
+    0
 }
 
 // The decimal digits of any u64 from the index on; nothing changes where they do not fit. The
@@ -75,6 +62,7 @@ const REFUSED_ROOM: usize = 12;
 //
 // A collection that is not well formed is told by this line, and so is an input that a program
 // refuses.
+// stays (1): any number may be told, so `no` is no `Refusal` here
 pub fn refused_line(no: u8, out: &mut [u8]) -> Result<usize, Refusal>
     ensures { Written 0 (done (refused_line no)) out.old out.new result }
 {
@@ -92,10 +80,10 @@ fn hex_digit(d: u8) -> u8
     requires { d < 16 }
     ensures { result ≡ hex_digit d }
 {
-    if d < 10 {
-        return b'0' + d;
+    match d {
+        0..=9 => b'0' + d,
+        _ => b'a' + (d - 10),
     }
-    d - 10 + b'a'
 }
 
 fn pair(b: u8) -> [u8; 2]
@@ -108,10 +96,8 @@ fn hex_fitting(out: &mut [u8], at: usize, src: &[u8])
     requires { at + 2 * length src.now ≤ length out.old }
     ensures { out.new ≡ over at (hex_of src.now) out.old }
 {
-    let mut i = 0;
-    while i < src.len() {
-        lend::copy(out, at + 2 * i, &pair(src[i]));
-        i += 1;
+    for (i, b) in src.iter().enumerate() {
+        lend::copy(out, at + 2 * i, &pair(*b));
     }
 }
 
@@ -120,10 +106,8 @@ fn hex_fitting(out: &mut [u8], at: usize, src: &[u8])
 pub fn hex(out: &mut [u8], at: usize, src: &[u8])
     ensures { out.new ≡ over at (hex_of src.now) out.old }
 {
-    if at <= out.len() {
-        if src.len() <= (out.len() - at) / 2 {
-            hex_fitting(out, at, src);
-        }
+    if at <= out.len() && src.len() <= (out.len() - at) / 2 {
+        hex_fitting(out, at, src);
     }
 }
 
@@ -133,33 +117,18 @@ pub fn hex(out: &mut [u8], at: usize, src: &[u8])
 pub fn hex_value(b: u8) -> u8
     ensures { (result ≡ hex_value b) × (result ≤ 16) }
 {
-    if b < b'0' {
-        return 16;
+    match b {
+        b'0'..=b'9' => b - b'0',
+        b'a'..=b'f' => b - b'a' + 10,
+        _ => 16,
     }
-    if b <= b'9' {
-        return b - b'0';
-    }
-    if b < b'a' {
-        return 16;
-    }
-    if b <= b'f' {
-        return b - 87;
-    }
-    16
 }
 
 // True exactly where each byte is a lower-case hex digit.
 pub fn all_hex(s: &[u8]) -> bool
     ensures { result ≡ all_hex s.now }
 {
-    let mut i = 0;
-    while i < s.len() {
-        if 15 < hex_value(s[i]) {
-            return false;
-        }
-        i += 1;
-    }
-    true
+    s.iter().all(|b| hex_value(*b) < 16)
 }
 
 // A byte for each two digits, at the front of out.
@@ -167,11 +136,8 @@ fn read_fitting(s: &[u8], out: &mut [u8])
     requires { (all_hex s.now ≡ true) × (length s.now / 2 ≤ length out.old) }
     ensures { out.new ≡ over 0 (hex_bytes s.now) out.old }
 {
-    let n = s.len() / 2;
-    let mut i = 0;
-    while i < n {
+    for i in 0..s.len() / 2 {
         out[i] = hex_value(s[2 * i]) * 16 + hex_value(s[2 * i + 1]);
-        i += 1;
     }
 }
 
@@ -180,10 +146,7 @@ fn read_fitting(s: &[u8], out: &mut [u8])
 pub fn hex_read(s: &[u8], out: &mut [u8]) -> Result<usize, Refusal>
     ensures { Written 0 (hex_verdict s.now) out.old out.new result }
 {
-    if s.len() % 2 != 0 {
-        return Err(Refusal::OutOfRange);
-    }
-    if !all_hex(s) {
+    if s.len() % 2 != 0 || !all_hex(s) {
         return Err(Refusal::OutOfRange);
     }
     let n = s.len() / 2;

@@ -2,19 +2,13 @@
 use mathlib.Core.Path.{◌≡◌}
 use mathlib.Core.List.{List}
 use Prim.Native.Nat.{ℕ}
+use Rattle.std.specs.Prelude.{Result}
 use Rattle.wire.specs.Answer.{Change, Kept}
+use Rattle.wire.specs.Reading.{told_at}
+use Rattle.wire.specs.declared.RefusedAt.{RefusedAt}
+use Rattle.wire.proofs.Answers.{told_at_injective}
 use Rattle.wire.proofs.Writes.{kept_once}
-use Rattle.finish.specs.Finish.{told}
-use Rattle.finish.specs.declared.Finished.{Finished}
-use Rattle.finish.specs.declared.Finished.TheVariants.{Done, Refused}
-
--- the enum says no more than a number, a place and a length
-finished_injective : (r q : Finished) → told r ≡ told q → r ≡ q
-finished_injective (Done m) (Done n) e = cc
-finished_injective (Done m) (Refused n k) e = cc
-finished_injective (Refused m j) (Done n) e = cc
-finished_injective (Refused m j) (Refused n k) e = cc
 
 -- finish has one answer, and leaves one output
-pub finished_once : {d : Change ℕ} {out x y : List ℕ} (r q : Finished) → Kept d out x (told r) → Kept d out y (told q) → (r ≡ q) × (x ≡ y)
-finished_once r q p o = let (e, f) = kept_once p o in (finished_injective r q e, f)
+pub finished_once : {d : Change ℕ} {out x y : List ℕ} (r q : Result ℕ RefusedAt) → Kept d out x (told_at r) → Kept d out y (told_at q) → (r ≡ q) × (x ≡ y)
+finished_once r q p o = let (e, f) = kept_once p o in (told_at_injective r q e, f)

@@ -40,14 +40,14 @@ module _ (c : List ℕ) (t k₀ i₀ : ℕ) (l : List ℕ) (pre : (length l ≡ 
 
   module _ (x : List ℕ) (k i n : ℕ) (p : Pulling c t k₀ i₀ l x k i n) where
     -- no page is left
-    pub pulling_end : t ≤ k → Pulls c t k₀ i₀ l x k i
+    pub pulling_end : t ≤ k → Pulls c t k₀ i₀ l x t 0
     pulling_end h =
         let none : behind c t k i ≡ [] = behind_none c t k i h in
         let few : length (behind c t k₀ i₀) ≤ 128 = omega (arith, p.most, pouring_length _ l x n _ p.poured, ap length none) in
         record {
-          inside = p.inside;
+          inside = omega arith;
           stands = pouring_end _ l x n _ p.poured none ∙ rw (take_all 128 (behind c t k₀ i₀) few);
-          left = none ∙ sym (drop_of_length-le (behind c t k₀ i₀) {i = 128} few);
+          left = behind_none c t t 0 (omega arith) ∙ sym (drop_of_length-le (behind c t k₀ i₀) {i = 128} few);
         }
 
     -- the block of index k has the data d, and as many of them are taken as there is room for:

@@ -1,13 +1,13 @@
 -- Finish: section 9 of docs/RULES.md.
-use Rattle.std.specs.Prelude.{ℕ, List, leb, length}
-use Rattle.wire.specs.Answer.{Answer, done, refused_at, then, demand, Change, leaves, Kept}
+use Rattle.std.specs.Prelude.{ℕ, List, Result, leb, length}
+use Rattle.wire.specs.Answer.{Answer, done, then, demand, Change, leaves, Kept}
 use Rattle.wire.specs.Over.{over}
+use Rattle.wire.specs.Reading.{told_at}
+use Rattle.wire.specs.declared.RefusedAt.{RefusedAt}
 use Rattle.lend.specs.Same.{same}
 use Rattle.document_id.specs.Id.{document_id_of}
 use Rattle.model.specs.Finish.{finish_book}
 use Rattle.book.specs.Read.{id_of, book_in}
-use Rattle.finish.specs.declared.Finished.{Finished}
-use Rattle.finish.specs.declared.Finished.TheVariants.{Done, Refused}
 
 -- 13 for the collection; then it says itself what it lacks, or the data (R9.10)
 unfoldable pub collected : List ℕ → Answer (List ℕ)
@@ -27,11 +27,6 @@ vouched id out v =
 unfoldable pub finished : List ℕ → List ℕ → Answer (List ℕ)
 finished c out = vouched (id_of c) out (collected c)
 
--- the enum's cases as number, place and value (R18.5)
-abbrev pub told : Finished → Answer ℕ
-told (Done len) = done len
-told (Refused e k) = refused_at e k
-
 -- the data to write stand in front of the output afterwards, and their number is answered (R2.4)
 abbrev pub delivering : List ℕ → Answer (List ℕ) → Change ℕ
 delivering out v = then v (λ d. leaves (over 0 d out) (length d))
@@ -40,5 +35,5 @@ abbrev pub finishing : List ℕ → List ℕ → Change ℕ
 finishing c out = delivering out (finished c out)
 
 -- the whole promise of finish: its answer, and every byte of its output (R1.2)
-abbrev pub Closed : (v : Answer (List ℕ)) (out out' : List ℕ) (r : Finished) → Type 0
-Closed v out out' r = Kept (delivering out v) out out' (told r)
+abbrev pub Closed : (v : Answer (List ℕ)) (out out' : List ℕ) (r : Result ℕ RefusedAt) → Type 0
+Closed v out out' r = Kept (delivering out v) out out' (told_at r)

@@ -2,7 +2,7 @@
 // the crate model.
 #![tactic(auto)]
 
-ghost use Rattle.std.specs.Prelude.{◌≡◌, ◌≤◌, min, length};
+ghost use Rattle.std.specs.Prelude.{◌≡◌, ◌≤◌, length};
 ghost use Rattle.wire.specs.Answer.{done};
 ghost use Rattle.wire.specs.Over.{over};
 ghost use Rattle.wire.specs.Sizes.{most_pages, most_ciphertext};
@@ -12,26 +12,12 @@ ghost use Rattle.book.specs.Read.{id_of, read_pages};
 ghost use Rattle.finish.specs.Finish.{vouched, finished, Closed};
 ghost use Rattle.finish.specs.Private.{data_at, Pulls};
 
+use block::PageState;
 use book::tally;
+use wire::{Refusal, RefusedAt};
 
 // The bytes of a block of BLAKE2b.
 const BLOCK: usize = 128;
-
-// What finish answers.
-#[derive(Drop)]
-pub enum Finished {
-    // The number of bytes written.
-    Done { len: usize },
-    // The number of the refusal (R2.2), and its place (R2.3).
-    Refused { no: u8, place: u8 },
-}
-
-// A refusal with its place: only 15 and 16 have one (R2.3).
-fn refusal(no: u8, place: u8) -> Finished
-    ensures { result ≡ Finished.Refused no place }
-{
-    Finished::Refused { no, place }
-}
 
 // A place in the data of the pages: the bytes of a page before at are passed.
 #[derive(Drop)]
@@ -46,22 +32,10 @@ fn size(c: &[u8], total: u8) -> usize
     ensures { (result ≡ length (joined (read_pages 0 total c.now))) × (result ≤ most_ciphertext) }
 {
     let mut len: usize = 0;
-    let mut page: u8 = 0;
-    while page < total {
-        let bytes = block::contents(c, book::place(page));
-        len += bytes.len();
-        page += 1;
+    for page in 0..total {
+        len += block::contents(c, book::place(page)).len();
     }
     len
-}
-
-fn least(x: usize, y: usize) -> usize
-    ensures { result ≡ min x y }
-{
-    if x < y {
-        return x;
-    }
-    y
 }
 
 // As much of the data from the cursor on as a block has room for, at the front of b. Answers the
@@ -70,21 +44,20 @@ fn pull(c: &[u8], total: u8, from: Cursor, b: &mut [u8]) -> Cursor
     requires { (length b.old ≡ 128) × (from.at ≤ length (data_at c.now from.page)) }
     ensures { Pulls c.now total from.page from.at b.old b.new result.page result.at }
 {
-    let mut page = from.page;
+    let first = from.page;
     let mut at = from.at;
     let mut n: usize = 0;
-    while page < total {
+    for page in first..total {
         let bytes = block::contents(c, book::place(page));
-        let end = least(at + (BLOCK - n), bytes.len());
+        let end = (at + (BLOCK - n)).min(bytes.len());
         lend::copy(b, n, &bytes[at..end]);
         if end < bytes.len() {
             return Cursor { page, at: end };
         }
         n += end - at;
-        page += 1;
         at = 0;
     }
-    Cursor { page, at }
+    Cursor { page: total, at: 0 }
 }
 
 // The id of the data of the first pages, which are len bytes. They are hashed where they stand: a
@@ -96,6 +69,7 @@ fn id_of_data(c: &[u8], total: u8, len: usize) -> [u8; wire::ID_SIZE]
     let mut h = blake2b::start();
     let mut cursor = Cursor { page: 0, at: 0 };
     let mut end = BLOCK;
+    // stays (3): the last block is hashed by another call, so a `for` would never reach its end.
     loop {
         let mut b = [0u8; BLOCK];
         let next = pull(c, total, cursor, &mut b);
@@ -115,65 +89,64 @@ fn gather(c: &[u8], total: u8, out: &mut [u8])
     ensures { out.new ≡ over 0 (joined (read_pages 0 total c.now)) out.old }
 {
     let mut len: usize = 0;
-    let mut page: u8 = 0;
-    while page < total {
+    for page in 0..total {
         let bytes = block::contents(c, book::place(page));
         lend::copy(out, len, bytes);
         len += bytes.len();
-        page += 1;
     }
 }
 
 // No page is lacking. The data are judged before any of them is written, so that a refusal changes
 // nothing of out (R1.2).
-fn deliver(c: &[u8], total: u8, out: &mut [u8]) -> Finished
+fn deliver(c: &[u8], total: u8, out: &mut [u8]) -> Result<usize, RefusedAt>
     requires { total ≤ most_pages }
     ensures { Closed (vouched (id_of c.now) out.old (done (joined (read_pages 0 total c.now)))) out.old out.new result }
 {
     let len = size(c, total);
     if out.len() < len {
-        return refusal(wire::NO_ROOM, 0);
+        return Err(RefusedAt::from(Refusal::NoRoom));
     }
     let id = id_of_data(c, total, len);
     if !lend::equal(&id, book::id(c)) {
-        return refusal(wire::OTHER_CIPHERTEXT, 0);
+        return Err(RefusedAt::from(Refusal::OtherCiphertext));
     }
     gather(c, total, out);
-    Finished::Done { len }
+    Ok(len)
 }
 
 // A collection that has pages: the lowest that is disputed is named before the lowest that is
 // missing (R9.10).
-fn pages(c: &[u8], total: u8, out: &mut [u8]) -> Finished
+fn pages(c: &[u8], total: u8, out: &mut [u8]) -> Result<usize, RefusedAt>
     requires { total ≤ most_pages }
     ensures { Closed (vouched (id_of c.now) out.old (finish_pages (read_pages 0 total c.now))) out.old out.new result }
 {
-    let disputed = tally::lowest(c, total, block::DISPUTED);
+    let disputed = tally::lowest(c, total, u8::from(PageState::Disputed));
     if disputed < total {
-        return refusal(wire::PAGE_DISPUTED, disputed);
+        return Err(RefusedAt {
+            why: Refusal::PageDisputed,
+            place: disputed,
+        });
     }
-    let missing = tally::lowest(c, total, block::ABSENT);
+    let missing = tally::lowest(c, total, u8::from(PageState::Absent));
     if missing < total {
-        return refusal(wire::PAGE_MISSING, missing);
+        return Err(RefusedAt {
+            why: Refusal::PageMissing,
+            place: missing,
+        });
     }
     deliver(c, total, out)
 }
 
 // The ciphertext at the front of out, and its length; or 13, 14, 15 and 16 with their place, 11,
 // 17, and nothing changed.
-pub fn finish(c: &[u8], out: &mut [u8]) -> Finished
+pub fn finish(c: &[u8], out: &mut [u8]) -> Result<usize, RefusedAt>
     ensures { Closed (finished c.now out.old) out.old out.new result }
 {
-    let no = book::judge(c);
-    if no != wire::DONE {
-        return refusal(no, 0);
-    }
+    book::judge(c)?;
     let state = book::state(c);
-    if state == book::EMPTY {
-        return refusal(wire::PAGE_MISSING, 0);
+    match state {
+        book::EMPTY => Err(RefusedAt::from(Refusal::PageMissing)),
+        book::COLLECTING => pages(c, book::total(c), out),
+        _ => Err(RefusedAt::from(Refusal::TotalsDisagree)),
     }
-    if state != book::COLLECTING {
-        return refusal(wire::TOTALS_DISAGREE, 0);
-    }
-    pages(c, book::total(c), out)
 }

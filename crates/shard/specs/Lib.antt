@@ -1,3 +1,2 @@
 pub mod Shard
 pub mod Answer
-pub mod Private

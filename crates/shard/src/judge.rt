@@ -9,10 +9,7 @@ use super::Quorum;
 pub(super) fn is_known(kind: &[u8]) -> bool
     ensures { result ≡ known kind.now }
 {
-    if lend::equal(kind, b"passphrase") {
-        return true;
-    }
-    lend::equal(kind, b"signing-seed")
+    lend::equal(kind, b"passphrase") || lend::equal(kind, b"signing-seed")
 }
 
 // Whether a share of so many bytes is the blocks of 16 that length bytes need (R11.5). The length

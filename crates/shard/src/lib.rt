@@ -14,17 +14,15 @@ mod form;
 mod judge;
 
 ghost use Rattle.std.specs.Prelude.{◌≡◌};
-ghost use Rattle.wire.specs.Answer.{number_of};
 ghost use Rattle.wire.specs.Writing.{Written};
 ghost use Rattle.shard.specs.Shard.{body_at, shard_at, shard_verdict, signed_verdict};
 ghost use Rattle.shard.specs.Answer.{shard_told};
 
-use auth::ClaimRead;
-use fields::{ContentRead, QuorumRead};
-use wire::{NumberRead, OUT_OF_RANGE, Span, Wrote};
+use auth::Claimed;
+use wire::{Refusal, Span};
 
 // What is shared: its type, this share of it, and how many bytes the whole has.
-#[derive(Clone, Copy)]
+#[derive(Clone, Copy, Debug, PartialEq, Eq)]
 pub struct Content {
     pub kind: Span,
     pub share: Span,
@@ -32,91 +30,51 @@ pub struct Content {
 }
 
 // How many shares give the whole back, how many there are, and which of them this is.
-#[derive(Clone, Copy)]
+#[derive(Clone, Copy, Debug, PartialEq, Eq)]
 pub struct Quorum {
     pub threshold: u64,
     pub count: u64,
     pub index: u64,
 }
 
-#[derive(Drop)]
-pub enum ShardRead {
-    // Where pub, sig and hash start, which are 32, 64 and 32 bytes (R11.2). The payload ends at
-    // next, the length of the input.
-    Value {
-        public: usize,
-        sig: usize,
-        hash: usize,
-        content: Content,
-        quorum: Quorum,
-        next: usize,
-    },
-    // The number of the refusal (R2.2).
-    Refused {
-        no: u8,
-    },
+// What a shard says: where pub, sig and hash start, which are 32, 64 and 32 bytes (R11.2), and the
+// rest. The payload ends at next, the length of the input.
+#[derive(Clone, Copy, Debug, PartialEq, Eq)]
+pub struct Shard {
+    pub public: usize,
+    pub sig: usize,
+    pub hash: usize,
+    pub content: Content,
+    pub quorum: Quorum,
+    pub next: usize,
 }
 
-impl ShardRead {
-    // The number of the refusal to read a shard; 0 where one was read.
-    //
-    // For a caller's `else`.
-    pub fn no(self) -> u8
-        ensures { result ≡ number_of (shard_told self) }
-    {
-        match self {
-            ShardRead::Refused { no } => no,
-            _ => 0,
-        }
-    }
-}
-
-// All behind the claim, which says where pub, sig and hash start.
-fn body(s: &[u8], at: usize, public: usize, sig: usize, hash: usize) -> ShardRead
-    ensures { shard_told result ≡ body_at s.now at (record { public = public; sig = sig; hash = hash }) }
+// All behind the claim.
+fn body(s: &[u8], claim: Claimed) -> Result<Shard, Refusal>
+    ensures { shard_told result ≡ body_at s.now claim.next (record { public = claim.public; sig = claim.sig; hash = claim.hash }) }
 {
-    let t = fields::content(s, at);
-    let ContentRead::Value { content, next: a } = t else {
-        return ShardRead::Refused { no: t.no() };
-    };
-    let v = cbor::read::number_field(s, a, b"version", 1, 1);
-    let NumberRead::Value { n: _, next: b } = v else {
-        return ShardRead::Refused { no: v.no() };
-    };
-    let q = fields::quorum(s, b);
-    let QuorumRead::Value { quorum, next } = q else {
-        return ShardRead::Refused { no: q.no() };
-    };
+    let (content, a) = fields::content(s, claim.next)?;
+    let (_, b) = cbor::read::number_field(s, a, b"version", 1, 1)?;
+    let (quorum, next) = fields::quorum(s, b)?;
     if next != s.len() {
-        return ShardRead::Refused {
-            no: wire::CUT_OR_LEFT_OVER,
-        };
+        return Err(Refusal::CutOrLeftOver);
     }
-    ShardRead::Value {
-        public,
-        sig,
-        hash,
+    Ok(Shard {
+        public: claim.public,
+        sig: claim.sig,
+        hash: claim.hash,
         content,
         quorum,
         next,
-    }
+    })
 }
 
 // The shard payload that s is, all of s; or the refusal of the first offending item.
-pub fn read(s: &[u8]) -> ShardRead
+pub fn read(s: &[u8]) -> Result<Shard, Refusal>
     ensures { shard_told result ≡ shard_at s.now }
 {
-    let c = auth::claim(s, 0xAA);
-    let ClaimRead::Value {
-        public,
-        sig,
-        hash,
-        next,
-    } = c
-    else {
-        return ShardRead::Refused { no: c.no() };
-    };
-    body(s, next, public, sig, hash)
+    let claim = auth::claim(s, 0xAA)?;
+    body(s, claim)
 }
 
 // The payload of these values, of at most 456 bytes, at the front of out; or 19, then 11, and
@@ -130,24 +88,24 @@ pub fn write(
     length: u64,
     quorum: Quorum,
     out: &mut [u8],
-) -> Wrote
+) -> Result<usize, Refusal>
     ensures { Written 0 (shard_verdict public.now sig.now hash.now kind.now share.now length quorum) out.old out.new result }
 {
     if public.len() != 32 {
-        return Wrote::Refused { no: OUT_OF_RANGE };
+        return Err(Refusal::OutOfRange);
     }
     if sig.len() != 64 {
-        return Wrote::Refused { no: OUT_OF_RANGE };
+        return Err(Refusal::OutOfRange);
     }
     if !judge::rest_fits(hash, kind, share, length, quorum) {
-        return Wrote::Refused { no: OUT_OF_RANGE };
+        return Err(Refusal::OutOfRange);
     }
     let len = form::PAYLOAD_FRONT + form::rest_size(hash, kind, share, length, quorum);
     if out.len() < len {
-        return Wrote::Refused { no: wire::NO_ROOM };
+        return Err(Refusal::NoRoom);
     }
     form::payload(out, public, sig, hash, kind, share, length, quorum);
-    Wrote::Done { len }
+    Ok(len)
 }
 
 // The bytes that get signed for these values, at the front of out; or 19, then 11, and nothing
@@ -160,19 +118,19 @@ pub fn signed(
     length: u64,
     quorum: Quorum,
     out: &mut [u8],
-) -> Wrote
+) -> Result<usize, Refusal>
     ensures { Written 0 (signed_verdict public.now hash.now kind.now share.now length quorum) out.old out.new result }
 {
     if public.len() != 32 {
-        return Wrote::Refused { no: OUT_OF_RANGE };
+        return Err(Refusal::OutOfRange);
     }
     if !judge::rest_fits(hash, kind, share, length, quorum) {
-        return Wrote::Refused { no: OUT_OF_RANGE };
+        return Err(Refusal::OutOfRange);
     }
     let len = form::MESSAGE_FRONT + form::rest_size(hash, kind, share, length, quorum);
     if out.len() < len {
-        return Wrote::Refused { no: wire::NO_ROOM };
+        return Err(Refusal::NoRoom);
     }
     form::message(out, public, hash, kind, share, length, quorum);
-    Wrote::Done { len }
+    Ok(len)
 }

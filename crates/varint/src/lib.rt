@@ -11,12 +11,6 @@ ghost use Rattle.varint.specs.Varint.{varint, onto, ending, tenth, later_from, v
 
 use wire::Refusal;
 
-fn wide(x: u8) -> u64
-    ensures { result ≡ x }
-{
-    x as u64
-}
-
 // b is the last byte of a form, at weight w above the n of the bytes before it; next is the
 // position past it. A form that ends in 00 could be shorter (R4.3).
 fn read_ending(b: u64, n: u64, w: u64, next: usize) -> Result<(u64, usize), Refusal>
@@ -48,9 +42,8 @@ fn read_later(s: &[u8], from: usize, low: u64) -> Result<(u64, usize), Refusal>
     let mut n = low;
     let mut w: u64 = 128;
     let mut left: usize = 8;
-    let mut i = from;
-    while i < s.len() {
-        let b = wide(s[i]);
+    for i in from..s.len() {
+        let b = u64::from(s[i]);
         if left == 0 {
             return read_tenth(b, n, w, i + 1);
         }
@@ -60,7 +53,6 @@ fn read_later(s: &[u8], from: usize, low: u64) -> Result<(u64, usize), Refusal>
         n += w * (b % 128);
         w *= 128;
         left -= 1;
-        i += 1;
     }
     Err(Refusal::CutOrLeftOver)
 }
@@ -74,7 +66,7 @@ pub fn read(s: &[u8], at: usize) -> Result<(u64, usize), Refusal>
     if s.len() <= at {
         return Err(Refusal::CutOrLeftOver);
     }
-    let first = wide(s[at]);
+    let first = u64::from(s[at]);
     if first < 128 {
         return Ok((first, at + 1));
     }
@@ -102,6 +94,7 @@ fn write_fitting(n: u64, out: &mut [u8], at: usize)
 {
     let mut m = n;
     let mut i = at;
+    // stays (3): the number ends the loop, and no slice or range does
     while 128 <= m {
         out[i] = ((m % 128) as u8) + 128;
         m /= 128;
@@ -115,10 +108,7 @@ pub fn write(n: u64, out: &mut [u8], at: usize) -> Result<usize, Refusal>
     ensures { Written at (done (varint n)) out.old out.new result }
 {
     let len = size(n);
-    if out.len() < at {
-        return Err(Refusal::NoRoom);
-    }
-    if out.len() - at < len {
+    if out.len() < at || out.len() - at < len {
         return Err(Refusal::NoRoom);
     }
     write_fitting(n, out, at);

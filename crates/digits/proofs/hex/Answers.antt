@@ -2,9 +2,10 @@
 use native.Mathlib.Omega.{arith}
 use Rattle.digits.proofs.Hexes.{hex_out}
 use Rattle.digits.proofs.hex.Goals as goal
-
-pub returns-else-src-out : goal.returns-else-src-out
-returns-else-src-out c = hex_out _ _ _ (omega arith)
+use Rattle.digits.proofs.hex.Goals.{else-at-out-via-then-at-out+else-src-out, else-at-out-via-else-at-out}
 
 pub returns-else-at-out : goal.returns-else-at-out
-returns-else-at-out c = hex_out _ _ _ (omega arith)
+returns-else-at-out c = hex_out _ _ _ (elim c.else-at-out.branch [
+  | else-at-out-via-then-at-out+else-src-out w ↦ omega arith
+  | else-at-out-via-else-at-out w ↦ omega arith
+])

@@ -3,17 +3,17 @@ use native.Mathlib.Omega.{arith}
 use Rattle.digits.proofs.Hexes.{below_figures, figure, between, a_letter, above_letters}
 use Rattle.digits.proofs.hex_value.Goals as goal
 
-pub returns-then-b-lt48 : goal.returns-then-b-lt48
-returns-then-b-lt48 c = search below_figures
+pub returns-in-48-to-57 : goal.returns-in-48-to-57
+returns-in-48-to-57 c = figure _ (omega arith) (omega arith)
 
-pub returns-then-b-le57 : goal.returns-then-b-le57
-returns-then-b-le57 c = figure _ (omega arith) (omega arith)
+pub returns-in-97-to-102 : goal.returns-in-97-to-102
+returns-in-97-to-102 c = a_letter _ (omega arith) (omega arith)
 
-pub returns-then-b-lt97 : goal.returns-then-b-lt97
-returns-then-b-lt97 c = between _ (omega arith) (omega arith)
+pub returns-in_default : goal.returns-in_default
+returns-in_default c = below_figures _ (omega arith)
 
-pub returns-then-b-le102 : goal.returns-then-b-le102
-returns-then-b-le102 c = a_letter _ (omega arith) (omega arith)
+pub returns-in_default-2 : goal.returns-in_default-2
+returns-in_default-2 c = between _ (omega arith) (omega arith)
 
-pub returns : goal.returns
-returns c = above_letters _ (omega arith)
+pub returns-in_default-3 : goal.returns-in_default-3
+returns-in_default-3 c = above_letters _ (omega arith)

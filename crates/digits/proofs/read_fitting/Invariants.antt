@@ -1,12 +1,7 @@
 -- `digits::read_fitting` meets its contract. The loop's invariant: the bytes of the digits passed
 -- stand in front. Assumes nothing.
-use Prim.Native.Nat.{◌-◌, ◌/◌}
-use lib.ListN.{length}
 use Rattle.digits.proofs.Hexes.{Gone}
 use Rattle.digits.proofs.read_fitting.Given as goal
 
 abbrev pub invariant-loop-i : goal.invariant-loop-i
 invariant-loop-i l = Gone l.s l.initial.out l.i l.out
-
-abbrev pub decreases-loop-i : goal.decreases-loop-i
-decreases-loop-i l = length l.s / 2 - l.i

@@ -1,5 +1,4 @@
 -- `finish::deliver` meets its contract. Assumes nothing.
-use borrow.Author.Tests.{not-true, not-false}
 use Rattle.finish.proofs.Finishing.{no_room, other_id, delivered}
 use Rattle.finish.proofs.deliver.Goals as goal
 
@@ -7,7 +6,7 @@ pub returns-then-out-len : goal.returns-then-out-len
 returns-then-out-len c = search no_room
 
 pub returns-then-not-equal : goal.returns-then-not-equal
-returns-then-not-equal c = search (other_id, not-true)
+returns-then-not-equal c = search other_id
 
 pub returns : goal.returns
-returns c = search (delivered, not-false)
+returns c = search delivered

@@ -2,17 +2,17 @@
 use Rattle.finish.proofs.Finishing.{bad_collection, none_yet, totals_disagree, most_total, has_pages}
 use Rattle.finish.proofs.finish.Goals as goal
 
-pub returns-then-no-ne-DONE : goal.returns-then-no-ne-DONE
-returns-then-no-ne-DONE c = search bad_collection
+pub returns-in_err-judge : goal.returns-in_err-judge
+returns-in_err-judge c = bad_collection _ _ _ _ c.in_err-judge.ensures c.from_residual.ensures
 
-pub returns-then-state-eq-EMPTY : goal.returns-then-state-eq-EMPTY
-returns-then-state-eq-EMPTY c = search none_yet
-
-pub returns-then-state-ne-COLLECTING : goal.returns-then-state-ne-COLLECTING
-returns-then-state-ne-COLLECTING c = search totals_disagree
+pub returns-in-0 : goal.returns-in-0
+returns-in-0 c = search (none_yet, c.in_ok-judge.ensures)
 
 pub pages-requires : goal.pages-requires
-pages-requires c = search most_total
+pages-requires c = search (most_total, c.in_ok-judge.ensures)
 
-pub returns : goal.returns
-returns c = search has_pages
+pub returns-in-1 : goal.returns-in-1
+returns-in-1 c = search (has_pages, c.in_ok-judge.ensures)
+
+pub returns-in_default : goal.returns-in_default
+returns-in_default c = search (totals_disagree, c.in_ok-judge.ensures)

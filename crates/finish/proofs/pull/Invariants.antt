@@ -1,11 +1,7 @@
 -- `finish::pull` meets its contract. The loop's invariant: what was pulled so far, and what stands
 -- behind the cursor, are what stood behind it at first. Assumes nothing.
-use Prim.Native.Nat.{◌-◌}
 use Rattle.finish.proofs.Pulling.{Pulling}
 use Rattle.finish.proofs.pull.Given as goal
 
 abbrev pub invariant-loop-page : goal.invariant-loop-page
-invariant-loop-page l = Pulling l.c l.total l.initial.page l.initial.at l.initial.b l.b l.page l.at l.n
-
-abbrev pub decreases-loop-page : goal.decreases-loop-page
-decreases-loop-page l = l.total - l.page
+invariant-loop-page l = Pulling l.c l.total l.first l.initial.at l.initial.b l.b l.page l.at l.n

@@ -1,12 +1,12 @@
--- `shard::judge::is_known` meets its contract: each comparison picks its case. Assumes nothing.
+-- `shard::judge::is_known` meets its contract: either comparison. Assumes nothing.
 use Rattle.wire.proofs.Branch.{tests}
 use Rattle.shard.specs.Shard.{known}
 use Rattle.shard.proofs.judge.is_known.Goals as goal
 
 pub returns-then-equal : goal.returns-then-equal
 unfolding known
-returns-then-equal c = search tests
+returns-then-equal c = rw (c.if-equal.true, ← c.equal.ensures, c.if-equal.true)
 
-pub returns : goal.returns
+pub returns-else-equal : goal.returns-else-equal
 unfolding known
-returns c = search tests
+returns-else-equal c = search tests
