@@ -16,11 +16,20 @@ use Rattle.wire.specs.Writing.{writing, Written}
 use Rattle.wire.specs.declared.Refusal.{Refusal}
 use Rattle.wire.specs.declared.RefusedAt.{RefusedAt}
 use Rattle.wire.proofs.Cases.{then_passed, escaped, passed, got_value}
-use Rattle.wire.proofs.Placeless.{Placeless, HasName, placeless, placeless_done, placeless_then}
+use Rattle.wire.proofs.Placeless.{Placeless, HasName, placeless, placeless_done, placeless_then, name_placeless, name_then, names}
 use Rattle.auth.specs.Auth.{Claim, auth_at}
 use Rattle.auth.proofs.Placeless.{auth_placeless}
 use Rattle.auth.specs.Answer.{claim_told}
 use Rattle.auth.specs.declared.Claimed.{Claimed}
+use Rattle.shard.specs.Shard.{Shard, shard_at}
+use Rattle.shard.proofs.Placeless.{shard_placeless}
+use Rattle.shard.specs.Answer.{shard_told}
+use Rattle.shard.specs.declared.Shard as sharded
+use Rattle.model.specs.Book.{Book, Slot, empty, collecting, disagree}
+use Rattle.model.specs.Finish.{finish_pages, finish_book}
+use Rattle.book.specs.Read.{book_in}
+use Rattle.book.proofs.Judging.{book_placeless}
+use Rattle.finish.specs.Finish.{collected, finished, delivering}
 use Rattle.lend.specs.Same.{same}
 use Rattle.crc.specs.Crc.{crc32}
 use Rattle.mark.specs.Mark.{mark_of}
@@ -74,6 +83,34 @@ claim_answer s = go (auth_at s) (auth_placeless s)
     go : (g : Got Claim) → Placeless g → (r : Result Claimed Refusal) × (claim_told r ≡ g)
     go (done (c, next)) p = (Ok (record { public = c.public; sig = c.sig; hash = c.hash; next = next }), refl)
     go (refused_at e place) p = (Err p.named.0, ap₂ refused_at p.named.1 (sym p.none))
+
+pub shard_answer : (s : List ℕ) → (r : Result sharded.Shard Refusal) × (shard_told r ≡ shard_at s)
+shard_answer s = go (shard_at s) (shard_placeless s)
+  where
+    go : (g : Got Shard) → Placeless g → (r : Result sharded.Shard Refusal) × (shard_told r ≡ g)
+    go (done (v, next)) p =
+        (Ok (record { public = v.claim.public; sig = v.claim.sig; hash = v.claim.hash; content = v.content; quorum = v.quorum; next = next }), refl)
+    go (refused_at e place) p = (Err p.named.0, ap₂ refused_at p.named.1 (sym p.none))
+
+-- ---- finish: what it refuses has a name, with a place or without
+
+pages_named : (ss : List Slot) → HasName (finish_pages ss)
+unfolding finish_pages
+pages_named ss = search names
+
+book_named : (b : Book) → HasName (finish_book b)
+unfolding finish_book
+book_named empty = search names
+book_named (collecting t ss) = pages_named (take t ss)
+book_named disagree = search names
+
+finished_named : (c out : List ℕ) → HasName (finished c out)
+unfolding finished collected
+finished_named c out =
+    name_then (collected c) _ (name_then (book_in c) finish_book (name_placeless _ (book_placeless c)) book_named) (λ d. search names)
+
+pub finishing_named : (c out : List ℕ) → HasName (delivering out (finished c out))
+finishing_named c out = name_then (finished c out) _ (finished_named c out) (λ d. search names)
 
 -- ---- a frame: its answer's position is past its checksum, as the definition has it
 

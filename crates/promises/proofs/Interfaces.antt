@@ -15,14 +15,10 @@ use Rattle.model.specs.Meaning.{BookIs}
 use Rattle.book.specs.Read.{read_book, ok_book}
 use Rattle.collection.specs.Collection.{opening, offering, joining}
 use Rattle.collection.specs.Answer as answers
-use Rattle.collection.specs.declared.Answered.{Answered}
-use Rattle.collection.specs.declared.Answered.TheVariants as A
-use Rattle.collection.specs.declared.Offered.{Offered}
-use Rattle.collection.specs.declared.Offered.TheVariants as O
 use Rattle.collection.proofs.Placeless.{open_placeless, offer_placeless, join_placeless}
-use Rattle.finish.specs.Finish.{finished, told, delivering, finishing}
-use Rattle.finish.specs.declared.Finished.{Finished}
-use Rattle.finish.specs.declared.Finished.TheVariants as F
+use Rattle.finish.specs.Finish.{finished, finishing}
+use Rattle.wire.specs.Reading.{told_at}
+use Rattle.promises.proofs.Answered.{can_change, can_tell_at, kept_named, finishing_named}
 use Rattle.finish.proofs.Demand.{finish_bytes}
 use Rattle.phone.specs.Packed.{packed, packed_answer, packed_kind, packed_finish, finish_in}
 use Rattle.collection.proofs.open as collection-open
@@ -54,17 +50,9 @@ pub record Lawful (f : Interface) : Type 1 where
 
 -- ---- the libraries
 
-answered : (d : Change Unit) → Placeless d → (r : Answered) × (answers.told r ≡ answer_of d)
-answered (done (x, a)) p = (A.Done, refl)
-answered (refused_at e place) p = (A.Refused e, ap (refused_at e) (sym p.none))
-
-kind : (d : Change ℕ) → Placeless d → (r : Offered) × (answers.told_kind r ≡ answer_of d)
-kind (done (x, k)) p = (O.Done k, refl)
-kind (refused_at e place) p = (O.Refused e, ap (refused_at e) (sym p.none))
-
-ended : (out : List ℕ) (v : Answer (List ℕ)) → (r : Finished) × (told r ≡ answer_of (delivering out v))
-ended out (done d) = (F.Done _, refl)
-ended out (refused_at e k) = (F.Refused e k, refl)
+-- an offer says how the page stands by one of three numbers
+kind : (c raw : List ℕ) → (r : Result Stands Refusal) × (answers.told_kind r ≡ answer_of (offering c raw))
+kind c raw = ?
 
 pub library_lawful : Lawful library
 library_lawful = record {
@@ -75,21 +63,21 @@ library_lawful = record {
       let w = finish_finish_link k in
       (sym e ∙ w.answer ∙ rw (i, j), sym l ∙ w.bytes ∙ rw (i, j));
   can_open = λ id c.
-      let r = answered (opening id c) (open_placeless id c) in
+      let r = can_change (opening id c) (open_placeless id c) in
       let x : List ℕ = bytes_after c (opening id c) in
       (x, (second_lent collection-open.Kinds.r collection-open.Reads.Learnt id c x r.0 (record { answer = r.1; bytes = refl }), refl, refl, refl));
   can_offer = λ c raw.
-      let r = kind (offering c raw) (offer_placeless c raw) in
+      let r = kind c raw in
       let x : List ℕ = bytes_after c (offering c raw) in
       (x, (first_lent collection-offer.Kinds.r collection-offer.Reads.Learnt c raw x r.0 (record { answer = r.1; bytes = refl }), refl, refl, refl));
   can_join = λ c o.
-      let r = answered (joining c o) (join_placeless c o) in
+      let r = can_change (joining c o) (join_placeless c o) in
       let x : List ℕ = bytes_after c (joining c o) in
       (x, (first_lent collection-join.Kinds.r collection-join.Reads.Learnt c o x r.0 (record { answer = r.1; bytes = refl }), refl, refl, refl));
   can_finish = λ c out.
-      let r = ended out (finished c out) in
+      let r = can_tell_at (answer_of (finishing c out)) (kept_named (finishing c out) (finishing_named c out)) in
       let x : List ℕ = bytes_after out (finishing c out) in
-      (x, told r.0, (second_lent finish-finish.Kinds.r finish-finish.Reads.Learnt c out x r.0 (record { answer = r.1; bytes = refl }), refl, refl, refl, refl));
+      (x, told_at r.0, (second_lent finish-finish.Kinds.r finish-finish.Reads.Learnt c out x r.0 (record { answer = r.1; bytes = refl }), refl, refl, refl, refl));
 }
 
 -- ---- the functions for C
