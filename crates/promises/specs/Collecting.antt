@@ -4,7 +4,7 @@
 use Rattle.std.specs.Prelude.{ℕ, ◌≡◌, List}
 use Rattle.wire.specs.Answer.{Answer}
 use Rattle.wire.specs.Writing as writing
-use Rattle.finish.specs.Finish as finishing
+use Rattle.wire.specs.Reading.{told_at}
 use Rattle.mend.specs.Mend as mending
 use Rattle.phone.specs.Packed.{finish_in}
 use Rattle.collection.proofs.open as collection-open
@@ -43,7 +43,7 @@ library = record {
       × (k.args.0.now ≡ c) × (k.args.1.0.now ≡ o) × (k.left.0 ≡ x);
   Finishes = λ c out x a.
       (k : Call finish-finish.Kinds.ps finish-finish.Kinds.r finish-finish.Reads.Learnt)
-      × (k.args.0.now ≡ c) × (k.args.1.0.now ≡ out) × (k.left.1.0 ≡ x) × (finishing.told k.answer ≡ a);
+      × (k.args.0.now ≡ c) × (k.args.1.0.now ≡ out) × (k.left.1.0 ≡ x) × (told_at k.answer ≡ a);
 }
 
 -- from C the answer is one number, which the header reads apart (R16.2)

@@ -17,7 +17,7 @@ use Rattle.book.specs.Encode.{encode}
 use Rattle.book.specs.Read.{id_of, ok_book}
 use Rattle.collection.specs.Answer as collection
 use Rattle.collection.specs.Built.{opened, offered_all, PageAmong, AllBytes}
-use Rattle.finish.specs.Finish as finish
+use Rattle.wire.specs.Reading.{told_at}
 use Rattle.finish.specs.Sets.{Answers}
 use Rattle.status.specs.Sets.{LineIs}
 use Rattle.scan.specs.Session.{At, at}
@@ -82,7 +82,7 @@ Resumes phase c saved x a =
 abbrev pub Shows : (phase : ℕ) (c out x : List ℕ) (a : Answer ℕ) → Type 0
 Shows phase c out x a =
     (k : Call pantry-work-answer.Kinds.ps pantry-work-answer.Kinds.r pantry-work-answer.Reads.Learnt)
-    × (k.args.0.phase ≡ phase) × (k.args.1.0.now ≡ c) × (k.args.1.1.0.now ≡ out) × (k.left.1.1.0 ≡ x) × (finish.told k.answer ≡ a)
+    × (k.args.0.phase ≡ phase) × (k.args.1.0.now ≡ c) × (k.args.1.1.0.now ≡ out) × (k.left.1.1.0 ≡ x) × (told_at k.answer ≡ a)
 
 -- the whole of a text was laid in front of out
 abbrev pub Laid : (text out x : List ℕ) (a : Answer ℕ) → Type 0
