@@ -12,17 +12,17 @@ use lib.ListN.{length, take, drop, length-drop}
 use lib.Seq.{take_all}
 use mir.Syntax.{w64}
 use mir.Val.{Fits}
-use Rattle.wire.specs.Answer.{choose, Answer, done, refused, number_of, Kept}
+use Rattle.std.specs.Prelude.{Err}
+use Rattle.wire.specs.Answer.{choose, Answer, done, refused, Kept}
 use Rattle.wire.specs.Writing.{Written, writing}
-use Rattle.wire.specs.declared.Wrote.TheVariants as wire
+use Rattle.wire.specs.Refusal.{number as told_number}
+use Rattle.wire.specs.declared.Refusal.{Refusal}
+use Rattle.wire.specs.declared.Refusal.TheVariants as refusal
 use Rattle.wire.proofs.Cases.{lt_or_le, both_hold}
 use Rattle.wire.proofs.Writes.{denied}
 use Rattle.document_id.specs.Id.{document_id_of}
 use Rattle.frame.specs.Layout.{layout}
 use Rattle.page.specs.Page.{page_count, page_data, printable, count_of, page_verdict}
-use Rattle.page.specs.Answer.{told}
-use Rattle.page.specs.declared.PageCount.{PageCount}
-use Rattle.page.specs.declared.PageCount.TheVariants.{Pages, Refused}
 use Rattle.page.proofs.Pages.{count_fewest}
 
 printable_facts : (n size : ℕ) → printable n size ≡ true → (0 < n) × (0 < size) × (size ≤ 480)
@@ -85,20 +85,15 @@ page_part c size number k e = ⊎_elim short full (lt_or_le (length c - number *
         let q : k ≡ size = omega arith in
         ap (λ (x : ℕ). take x (drop (number * size) c)) q
 
--- ---- what is answered, for `search`: r is what the count answered
+-- ---- what is answered
 
-module _ (c : List ℕ) (size number : ℕ) (r : PageCount) (h : told r ≡ count_of (length c) size) where
-  pub none_counted : (x e : ℕ) (out : List ℕ) → r ≡ Refused x → e ≡ number_of (told r) → Written 0 (page_verdict c size number) out out (wire.Refused e)
-  none_counted x e out p q =
-      let d : refused e ≡ count_of (length c) size = rw (q, ← h, p) in
-      rw (refused_count c size number e d) (denied 0 out e)
+module _ (c : List ℕ) (size number : ℕ) where
+  pub none_counted : (e : Refusal) (out : List ℕ) → refused (told_number e) ≡ count_of (length c) size → Written 0 (page_verdict c size number) out out (Err e)
+  none_counted e out h = rw (refused_count c size number (told_number e) h) (denied 0 out e)
 
-  module _ (n : ℕ) (p : r ≡ Pages n) where
-    counted : done n ≡ count_of (length c) size
-    counted = rw (← h, p)
-
-    pub none_there : (out : List ℕ) → n ≤ number → Written 0 (page_verdict c size number) out out (wire.Refused 8)
-    none_there out l = rw (no_page c size number n counted l) (denied 0 out 8)
+  module _ (n : ℕ) (counted : done n ≡ count_of (length c) size) where
+    pub none_there : (out : List ℕ) → n ≤ number → Written 0 (page_verdict c size number) out out (Err refusal.BadPlace)
+    none_there out l = rw (no_page c size number n counted l) (denied 0 out refusal.BadPlace)
 
     module _ (l : number < n) where
       pub start_fits : Fits w64 (number * size)
@@ -107,8 +102,7 @@ module _ (c : List ℕ) (size number : ℕ) (r : PageCount) (h : told r ≡ coun
       pub start_within : number * size ≤ length c
       start_within = (page_start c size number n counted l).0
 
-      pub page_laid : (end : ℕ) (id out out' : List ℕ) (a : Answer ℕ) → end - number * size ≡ min size (length c - number * size) → id ≡ document_id_of c
-          → Kept (writing 0 out (done (layout 0x44 id number n (take (end - number * size) (drop (number * size) c))))) out out' a
+      pub page_laid : (k : ℕ) (id out out' : List ℕ) (a : Answer ℕ) → k ≡ min size (length c - number * size) → id ≡ document_id_of c
+          → Kept (writing 0 out (done (layout 0x44 id number n (take k (drop (number * size) c))))) out out' a
           → Kept (writing 0 out (page_verdict c size number)) out out' a
-      page_laid end id out out' a e i w =
-          rw (page_is c size number n counted l, ← i, ← page_part c size number (end - number * size) e) w
+      page_laid k id out out' a e i w = rw (page_is c size number n counted l, ← i, ← page_part c size number k e) w

@@ -3,4 +3,3 @@ pub mod Counts
 pub mod Cutting
 pub mod Typing
 pub mod Round
-pub mod Answers

@@ -1,17 +1,18 @@
 -- A page through a text form: the frame is made in a room of its own, which always suffices.
 -- Assumes nothing.
-use Prim.Native.Nat.{ℕ, ◌+◌, ◌-◌, ◌≤◌, ◌<◌}
+use Prim.Native.Nat.{ℕ, ◌+◌, ◌≤◌, ◌<◌}
 use mathlib.Core.Path.{◌≡◌, sym, ap, ◌∙◌}
 use mathlib.Core.Logic.{⊎_elim}
 use mathlib.Core.List.{List}
 use native.Mathlib.Omega.{arith}
 use borrow.Author.Tests.{ltb-true}
 use lib.Dec.{ltb}
-use lib.ListN.{length, take, drop}
+use lib.ListN.{length, take}
+use Rattle.std.specs.Prelude.{Result, Ok, Err}
 use Rattle.wire.specs.Answer.{Answer, done}
 use Rattle.wire.specs.Writing.{Written}
-use Rattle.wire.specs.declared.Wrote.{Wrote}
-use Rattle.wire.specs.declared.Wrote.TheVariants.{Done, Refused}
+use Rattle.wire.specs.Refusal.{number as told_number}
+use Rattle.wire.specs.declared.Refusal.{Refusal}
 use Rattle.wire.proofs.Cases.{passed, then_done, done_value}
 use Rattle.wire.proofs.Overs.{read_over}
 use Rattle.wire.proofs.Writes.{Stood, done_stood, refused_why, denied}
@@ -44,30 +45,27 @@ pub frame_some : (c : List ℕ) (size number : ℕ) → 1 ≤ length (page_frame
 unfolding page_frame
 frame_some c size number = omega (arith, layout_length 0x44 (document_id_of c) number (page_count (length c) size) (page_data c size number) (id_length c))
 
--- for `search`, of both forms: made is what the frame's writer answered, and room' what it left in
--- the room
-module _ (v : Answer (List ℕ)) (room room' : List ℕ) (made : Wrote) (n : ℕ) (w : Written 0 v room room' made) (k : made ≡ Done n) where
+-- of every form: room' is what the frame's writer left in the room, where it made a frame
+module _ (v : Answer (List ℕ)) (room room' : List ℕ) (n : ℕ) (w : Written 0 v room room' (Ok n)) where
   stood : Stood 0 v room room' n
-  stood = done_stood 0 v room room' n (rw k at w)
+  stood = done_stood 0 v room room' n w
 
   pub made_fits : length room' ≡ length room → n ≤ length room'
   made_fits l = omega (arith, stood.fits)
 
-  -- the frame was made, and its text is what is written
-  pub typed_done : (f : Form) (out out' : List ℕ) (r : Wrote) → Written 0 (done (text_of f (take (n - 0) (drop 0 room')))) out out' r
+  -- its text is what is written
+  pub typed_done : (f : Form) (out out' : List ℕ) (r : Result ℕ Refusal) → Written 0 (done (text_of f (take n room'))) out out' r
       → Written 0 (typed f v) out out' r
   typed_done f out out' r t =
       let bs = stood.what in
       let l : 0 + length bs ≤ length room = omega (arith, stood.fits, stood.count) in
-      let z : n - 0 ≡ length bs = omega (arith, stood.count) in
-      let e : take (n - 0) (drop 0 room') ≡ bs =
-      ap (λ (k : ℕ). take k (drop 0 room')) z ∙ ap (λ (x : List ℕ). take (length bs) (drop 0 x)) stood.stands ∙ read_over 0 bs room l in
+      let e : take n room' ≡ bs =
+      ap (λ (k : ℕ). take k room') stood.count ∙ ap (λ (x : List ℕ). take (length bs) x) stood.stands ∙ read_over 0 bs room l in
       rw stood.meant (rw e at t)
 
 -- it was refused, and so is the text
-pub typed_refused : (c : List ℕ) (size number : ℕ) (room room' : List ℕ) (made : Wrote) (e : ℕ) → Written 0 (page_verdict c size number) room room' made → made ≡ Refused e
-    → 500 ≤ length room → (f : Form) (out : List ℕ) → Written 0 (typed f (page_verdict c size number)) out out made
-typed_refused c size number room room' made e w k h f out =
-    rw k
-    (⊎_elim (λ q. rw q (denied 0 out e)) (λ q. absurd (omega (arith, q.2, frame_short c size number q.0 q.1, h)))
-    (refused_why 0 (page_verdict c size number) room room' e 0 (rw k at w)))
+pub typed_refused : (c : List ℕ) (size number : ℕ) (room room' : List ℕ) (e : Refusal) → Written 0 (page_verdict c size number) room room' (Err e)
+    → 500 ≤ length room → (f : Form) (out : List ℕ) → Written 0 (typed f (page_verdict c size number)) out out (Err e)
+typed_refused c size number room room' e w h f out =
+    ⊎_elim (λ q. rw q (denied 0 out e)) (λ q. absurd (omega (arith, q.2, frame_short c size number q.0 q.1, h)))
+    (refused_why 0 (page_verdict c size number) room room' (told_number e) 0 w)

@@ -6,92 +6,45 @@
 // (`page_typed`).
 #![tactic(auto)]
 
-ghost use Rattle.std.specs.Prelude.{◌≡◌, ◌-◌, ◌≤◌, min};
-ghost use Rattle.wire.specs.Answer.{number_of};
+ghost use Rattle.std.specs.Prelude.{◌≡◌};
+ghost use Rattle.wire.specs.Reading.{told};
 ghost use Rattle.wire.specs.Writing.{Written};
-ghost use Rattle.text.specs.Text.{base64, zbase32};
+ghost use Rattle.text.specs.Text.{Form, base64, zbase32};
 ghost use Rattle.page.specs.Page.{count_of, page_verdict, typed};
-ghost use Rattle.page.specs.Answer.{told};
+ghost use Rattle.page.specs.Private.{Spells};
 
-use wire::Wrote;
-
-#[derive(Drop)]
-pub enum PageCount {
-    Pages { n: usize },
-    // The number of the refusal (R2.2).
-    Refused { no: u8 },
-}
+use frame::Kind;
+use wire::Refusal;
 
 // How many pages of this size hold a ciphertext of n bytes; or 19, then 9.
-pub fn count(n: usize, size: usize) -> PageCount
+pub fn count(n: usize, size: usize) -> Result<usize, Refusal>
     ensures { told result ≡ count_of n size }
 {
-    if n == 0 {
-        return PageCount::Refused {
-            no: wire::OUT_OF_RANGE,
-        };
-    }
-    if size == 0 {
-        return PageCount::Refused {
-            no: wire::OUT_OF_RANGE,
-        };
-    }
-    if wire::MOST_DATA < size {
-        return PageCount::Refused {
-            no: wire::OUT_OF_RANGE,
-        };
+    if n == 0 || size == 0 || wire::MOST_DATA < size {
+        return Err(Refusal::OutOfRange);
     }
     let before_last = (n - 1) / size;
     if wire::MOST_PAGES <= before_last {
-        return PageCount::Refused {
-            no: wire::TOO_LARGE,
-        };
+        return Err(Refusal::TooLarge);
     }
-    PageCount::Pages { n: before_last + 1 }
-}
-
-impl PageCount {
-    fn no(self) -> u8
-        ensures { result ≡ number_of (told self) }
-    {
-        match self {
-            PageCount::Refused { no } => no,
-            _ => 0,
-        }
-    }
-}
-
-// Where a page ends that starts at `start`: only at the end of the document is it shorter than its
-// size (R7.2).
-fn page_end(start: usize, size: usize, n: usize) -> usize
-    requires { start ≤ n }
-    ensures { (start ≤ result) × (result ≤ n) × (result - start ≡ min size (n - start)) }
-{
-    if size < n - start {
-        return start + size;
-    }
-    n
+    Ok(before_last + 1)
 }
 
 // Page `number` of the document as a frame at the front of out, and its length; or 19, 9, 8, 11, in
 // that order, and nothing changed.
-pub fn write(c: &[u8], size: usize, number: usize, out: &mut [u8]) -> Wrote
+pub fn write(c: &[u8], size: usize, number: usize, out: &mut [u8]) -> Result<usize, Refusal>
     ensures { Written 0 (page_verdict c.now size number) out.old out.new result }
 {
-    let counted = count(c.len(), size);
-    let PageCount::Pages { n } = counted else {
-        return Wrote::Refused { no: counted.no() };
-    };
+    let n = count(c.len(), size)?;
     if n <= number {
-        return Wrote::Refused {
-            no: wire::BAD_PLACE,
-        };
+        return Err(Refusal::BadPlace);
     }
+    // Only at the end of the document is a page shorter than its size (R7.2).
     let start = number * size;
-    let end = page_end(start, size, c.len());
+    let end = start + size.min(c.len() - start);
     let id = document_id::of(c);
     frame::lay(
-        frame::MAIN,
+        u8::from(Kind::Main),
         &id,
         number as u64,
         n as u64,
@@ -103,28 +56,34 @@ pub fn write(c: &[u8], size: usize, number: usize, out: &mut [u8]) -> Wrote
 // No frame of a page has more bytes.
 const FRAME_ROOM: usize = 512;
 
-// Page `number` of the document as the base64 text of its code square, at the front of out; or 19,
-// 9, 8, 11, in that order, and nothing changed.
-pub fn write_base64(c: &[u8], size: usize, number: usize, out: &mut [u8]) -> Wrote
-    ensures { Written 0 (typed base64 (page_verdict c.now size number)) out.old out.new result }
+// Page `number` of the document as the text that `spell` makes of its frame.
+fn write_text<F: FnOnce(&[u8], &mut [u8]) -> Result<usize, Refusal>>(
+    spell: F,
+    c: &[u8],
+    size: usize,
+    number: usize,
+    out: &mut [u8],
+) -> Result<usize, Refusal>
+    requires { F.IsAlwaysCallable spell }
+    ensures { (f : Form) → Spells f (F.post spell) → Written 0 (typed f (page_verdict c.now size number)) out.old out.new result }
 {
     let mut room = [0u8; FRAME_ROOM];
-    let made = write(c, size, number, &mut room);
-    let Wrote::Done { len } = made else {
-        return made;
-    };
-    text::base64_write(&room[0..len], out)
+    let len = write(c, size, number, &mut room)?;
+    spell(&room[..len], out)
+}
+
+// Page `number` of the document as the base64 text of its code square, at the front of out; or 19,
+// 9, 8, 11, in that order, and nothing changed.
+pub fn write_base64(c: &[u8], size: usize, number: usize, out: &mut [u8]) -> Result<usize, Refusal>
+    ensures { Written 0 (typed base64 (page_verdict c.now size number)) out.old out.new result }
+{
+    write_text(text::base64_write, c, size, number, out)
 }
 
 // Page `number` of the document as its z-base-32 text, at the front of out; or 19, 9, 8, 11, in
 // that order, and nothing changed.
-pub fn write_zbase32(c: &[u8], size: usize, number: usize, out: &mut [u8]) -> Wrote
+pub fn write_zbase32(c: &[u8], size: usize, number: usize, out: &mut [u8]) -> Result<usize, Refusal>
     ensures { Written 0 (typed zbase32 (page_verdict c.now size number)) out.old out.new result }
 {
-    let mut room = [0u8; FRAME_ROOM];
-    let made = write(c, size, number, &mut room);
-    let Wrote::Done { len } = made else {
-        return made;
-    };
-    text::zbase32_write(&room[0..len], out)
+    write_text(text::zbase32_write, c, size, number, out)
 }
