@@ -2,9 +2,9 @@
 use mathlib.Core.Path.{refl, sym, ◌∙◌}
 use Rattle.promises.specs.Once.{Once}
 use Rattle.promises.proofs.Lasts.{here, past, past3}
+use Rattle.wire.proofs.Answers.{told_injective}
 use Rattle.wire.proofs.Writes.{written_once}
 use Rattle.frame.proofs.Answers as frame
-use Rattle.page.proofs.Answers as page
 use Rattle.frame.proofs.read as frame-read
 use Rattle.frame.proofs.lay as frame-lay
 use Rattle.page.proofs.count as page-count
@@ -21,7 +21,7 @@ pub frame_lay_once : Once frame-lay.Kinds.ps frame-lay.Kinds.r frame-lay.Reads.L
 frame_lay_once κs args x y u v p q = let e = written_once x y p q in (e.0, past3 (past (past (here e.1))))
 
 pub page_count_once : Once page-count.Kinds.ps page-count.Kinds.r page-count.Reads.Learnt
-page_count_once κs args x y u v p q = (page.told_injective x y (p ∙ sym q), refl)
+page_count_once κs args x y u v p q = (told_injective x y (p ∙ sym q), refl)
 
 pub page_write_once : Once page-write.Kinds.ps page-write.Kinds.r page-write.Reads.Learnt
 page_write_once κs args x y u v p q = let e = written_once x y p q in (e.0, past3 (here e.1))

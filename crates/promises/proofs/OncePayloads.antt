@@ -2,12 +2,11 @@
 use mathlib.Core.Path.{refl, sym, ◌∙◌}
 use Rattle.promises.specs.Once.{Once}
 use Rattle.promises.proofs.Lasts.{here, past, past3}
-use Rattle.wire.proofs.Writes.{told_injective, written_once}
-use Rattle.cbor.proofs.Answers.{head_injective}
+use Rattle.wire.proofs.Answers.{told_injective}
+use Rattle.wire.proofs.Writes.{written_once}
 use Rattle.cbor.proofs.Runs.{put_once}
 use Rattle.auth.proofs.Answers.{claim_injective}
 use Rattle.shard.proofs.Answers.{shard_injective}
-use Rattle.entry.proofs.Answers.{file_injective}
 use Rattle.cover.proofs.Answers as cover
 use Rattle.envelope.proofs.Answers as envelope
 use Rattle.auth.proofs.claim as auth-claim
@@ -55,7 +54,7 @@ pub entry_read_integer_once : Once entry-read-integer.Kinds.ps entry-read-intege
 entry_read_integer_once κs args x y u v p q = (told_injective x y (p ∙ sym q), refl)
 
 pub entry_read_file_once : Once entry-read-file.Kinds.ps entry-read-file.Kinds.r entry-read-file.Reads.Learnt
-entry_read_file_once κs args x y u v p q = (file_injective x y (p ∙ sym q), refl)
+entry_read_file_once κs args x y u v p q = (told_injective x y (p ∙ sym q), refl)
 
 pub entry_write_digest_once : Once entry-write-digest.Kinds.ps entry-write-digest.Kinds.r entry-write-digest.Reads.Learnt
 entry_write_digest_once κs args x y u v p q = (p ∙ sym q, refl)
