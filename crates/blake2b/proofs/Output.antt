@@ -1,6 +1,11 @@
 -- The digest, byte by byte: what its loop computes, its length and its range. Assumes nothing.
-use Rattle.std.proofs.Common.{◌≡◌, ℕ, suc, ◌+◌, ◌-◌, ◌*◌, ◌/◌, ◌%◌, ◌^◌, ◌<◌, ◌≤◌, List, [], ◌∷◌, ◌++◌, length, get_or, sym, refl, ap, ◌∙◌, ⊎_elim, mod-lt, arith, lit<, length-append, length-take-le, get_or-take, get_or-append-add}
+use Rattle.std.proofs.Common.{◌≡◌, ℕ, suc, ◌+◌, ◌-◌, ◌*◌, ◌/◌, ◌%◌, ◌^◌, ◌<◌, ◌≤◌, List, [], ◌∷◌, ◌++◌, length, get_or, take, drop, sym, refl, ap, ap₂, add-one, take-suc, take_all, take-append-drop, ◌∙◌, ⊎_elim, mod-lt, arith, lit<, length-append, length-take-le, get_or-take, get_or-append-add}
 use native.Mathlib.Nat.{zero-div}
+use Rattle.std.proofs.lemmas.List.{append_assoc, append-nil}
+use Rattle.std.proofs.lemmas.Slice.{take-put_mid}
+use Rattle.std.specs.Int.{w64, to_le_bytes}
+use borrow.Rule.Slice.PartMut.{put_mid}
+use lib.Seq.{take-append_seam}
 use lib.ListN.{get_or-append, get_or-eq_default}
 use Rattle.wire.specs.Number.{little_endian, Bytes}
 use Rattle.wire.proofs.Cases.{lt_or_le}
@@ -38,7 +43,48 @@ length_bytes [] = refl
 length_bytes (x ∷ xs) =
     length-append (little_endian 8 x) (bytes xs) ∙ rw (length_little 8 x, length_bytes xs) (omega arith)
 
--- what the loop of `digest` computes
+-- ---- what the loop of `digest` writes
+eight_low : (n : ℕ) → to_le_bytes w64 n ≡ little_endian 8 n
+unfolding little_endian
+eight_low n =
+    let b : n / 256 ^ 2 % 256 ≡ n / 256 / 256 % 256 = omega arith in
+    let c : n / 256 ^ 3 % 256 ≡ n / 256 / 256 / 256 % 256 = omega arith in
+    let d : n / 256 ^ 4 % 256 ≡ n / 256 / 256 / 256 / 256 % 256 = omega arith in
+    let e : n / 256 ^ 5 % 256 ≡ n / 256 / 256 / 256 / 256 / 256 % 256 = omega arith in
+    let f : n / 256 ^ 6 % 256 ≡ n / 256 / 256 / 256 / 256 / 256 / 256 % 256 = omega arith in
+    let g : n / 256 ^ 7 % 256 ≡ n / 256 / 256 / 256 / 256 / 256 / 256 / 256 % 256 = omega arith in
+    cc
+
+bytes_append : (xs ys : List ℕ) → bytes (xs ++ ys) ≡ bytes xs ++ bytes ys
+unfolding bytes
+bytes_append [] ys = refl
+bytes_append (x ∷ xs) ys = ap (λ (l : List ℕ). little_endian 8 x ++ l) (bytes_append xs ys) ∙ sym (append_assoc (little_endian 8 x) (bytes xs) (bytes ys))
+
+-- a turn: the eight bytes of word i
+pub bytes_more : (d ws y : List ℕ) (i k : ℕ) → i < length ws → 8 * i ≤ length d → take (8 * i) d ≡ bytes (take i ws)
+    → y ≡ to_le_bytes w64 (get_or ws i 0) → take (8 * (i + 1)) (put_mid (8 * i) k d y) ≡ bytes (take (i + 1) ws)
+unfolding bytes
+bytes_more d ws y i k h f e ey =
+    let x : ℕ = get_or ws i 0 in
+    let eb : y ≡ little_endian 8 x = ey ∙ eight_low x in
+    let ly : length y ≡ 8 = ap length eb ∙ length_little 8 x in
+    take-put_mid (8 * i) k d y (8 * (i + 1)) (omega arith) f
+    ∙ ap₂ ◌++◌ e (eb ∙ sym (append-nil (little_endian 8 x)))
+    ∙ sym (bytes_append (take i ws) (x ∷ []))
+    ∙ ap bytes (sym (take-suc ws i 0 h) ∙ ap (λ (n : ℕ). take n ws) (sym (add-one i)))
+
+-- the end: those of the first four
+pub bytes_front : (h d : List ℕ) (i : ℕ) → length h ≡ 8 → length d ≡ 32 → i ≡ 4 → take (8 * i) d ≡ bytes (take i (take 4 h)) → d ≡ digest h
+unfolding digest
+bytes_front h d i lh ld e p =
+    let f : List ℕ = take 4 h in
+    let l4 : length f ≡ 4 = length-take-le 4 h (omega arith) in
+    let lf : length (bytes f) ≡ 32 = length_bytes f ∙ ap (λ (n : ℕ). n * 8) l4 in
+    sym (take_all 32 d (omega arith))
+    ∙ rw e at p
+    ∙ ap bytes (take_all 4 f (omega arith))
+    ∙ sym (ap (take 32) (ap bytes (sym (take-append-drop 4 h)) ∙ bytes_append f (drop 4 h)) ∙ ap (λ (n : ℕ). take n (bytes f ++ bytes (drop 4 h))) (sym lf) ∙ take-append_seam (bytes f) (bytes (drop 4 h)))
+
 pub digest_vector : (h : List ℕ) → length h ≡ 8 → digest h ≡ vector 32 (byte_of h)
 unfolding digest
 digest_vector h e =

@@ -1,25 +1,31 @@
 -- Words are read from the part of a message that they stand in, so the padded message's blocks are
 -- the message's own but for the last. Assumes nothing.
-use Rattle.std.proofs.Common.{◌≡◌, ℕ, zero, suc, ◌+◌, ◌-◌, ◌*◌, ◌<◌, ◌≤◌, true, List, ◌++◌, reverse, length, get_or, take, drop, set, replicate, sym, refl, ap, ◌∙◌, add-zero, zero-add, add-one, arith, length-drop, take-append-drop, length-take, length-take-le, get_or-drop, take-suc, drop-drop}
+use Rattle.std.proofs.Common.{◌≡◌, ℕ, zero, suc, ◌+◌, ◌-◌, ◌*◌, ◌/◌, ◌<◌, ◌≤◌, true, false, List, ◌++◌, reverse, length, get_or, take, drop, replicate, sym, refl, ap, ap₂, ◌∙◌, zero-add, add-one, arith, length-drop, take-append-drop, length-take, length-take-le, drop-drop}
 use lib.Dec.{eqb-suc-zero}
-use lib.Seq.{drop-append-le, take-append-le, set_at, append_snoc}
+use lib.Seq.{drop-append-le, take-append-le}
 use Rattle.wire.specs.Number.{number, number_from}
 use Rattle.blake2b.specs.Blake2b.{vector, word_at, words, F, blocks, dd, padded, start, final, digest, blake2b}
-use Rattle.blake2b.proofs.Vector.{vector_same, take_vector}
+use Rattle.std.specs.Simd.{first_chunks}
+use Rattle.std.specs.Int.{w64, from_le_bytes}
+use Rattle.bits.proofs.Chunks.{chunk}
+use Rattle.blake2b.proofs.Vector.{vector_same, as_vector}
 
 -- ---- a word
-pub word_sum : (b : List ℕ) (i x0 x1 x2 x3 x4 x5 x6 x7 : ℕ) → i + 8 ≤ length b
-    → x0 ≡ get_or b i 0 → x1 ≡ get_or b (i + 1) 0 → x2 ≡ get_or b (i + 2) 0 → x3 ≡ get_or b (i + 3) 0
-    → x4 ≡ get_or b (i + 4) 0 → x5 ≡ get_or b (i + 5) 0 → x6 ≡ get_or b (i + 6) 0 → x7 ≡ get_or b (i + 7) 0
-    → x0 + x1 * 0x100 + x2 * 0x10000 + x3 * 0x1000000 + x4 * 0x100000000 + x5 * 0x10000000000 + x6 * 0x1000000000000 + x7 * 0x100000000000000
-    ≡ word_at b i
-unfolding word_at vector number_from
-word_sum b i x0 x1 x2 x3 x4 x5 x6 x7 h e0 e1 e2 e3 e4 e5 e6 e7 =
-    let l : 8 ≤ length (drop i b) = simp length-drop (omega arith) in
-    let at : (j : ℕ) → get_or (drop i b) j 0 ≡ get_or b (i + j) 0 = λ j. get_or-drop i b j 0 in
+word_front : (m : List ℕ) → length m ≡ 8 → from_le_bytes w64 m ≡ number 256 (reverse m)
+unfolding vector number_from
+word_front m l =
     sym
-    (ap (λ (x : List ℕ). number 256 (reverse x)) (take_vector 8 (drop i b) l)
-    ∙ omega (arith, rw add-zero at (at 0), at 1, at 2, at 3, at 4, at 5, at 6, at 7))
+    (ap (λ (x : List ℕ). number 256 (reverse x)) (as_vector 8 m l)
+    ∙ omega arith)
+
+-- word i of those that b is read as
+pub word_read : (b : List ℕ) (ws : List (List ℕ)) (d : List ℕ) (k i x : ℕ) → ws ≡ first_chunks 8 k b → i < k → i * 8 + 8 ≤ length b
+    → x ≡ from_le_bytes w64 (get_or ws i d) → x ≡ word_at b (0 + i * 8)
+unfolding word_at
+word_read b ws d k i x w h f e =
+    let g : 8 ≤ length (drop (i * 8) b) = simp length-drop (omega arith) in
+    let p : get_or ws i d ≡ take 8 (drop (i * 8) b) = ap (λ (y : List (List ℕ)). get_or y i d) w ∙ chunk 8 k i b d h in
+    e ∙ ap (from_le_bytes w64) p ∙ word_front (take 8 (drop (i * 8) b)) (length-take-le 8 (drop (i * 8) b) g) ∙ rw zero-add
 
 word_at_append : (b r : List ℕ) (i : ℕ) → i + 8 ≤ length b → word_at (b ++ r) i ≡ word_at b i
 unfolding word_at
@@ -49,18 +55,21 @@ unfolding blocks
 blocks_append zero b r h l = refl
 blocks_append (suc n) b r h l = cc (blocks_append n b r h (omega arith), words_append b r (n * 128) (omega arith))
 
--- ---- the last block
--- a turn of the loop that copies what is left of the message over zeros
-pub fill_more : (r : List ℕ) (j : ℕ) → j < length r → j < 128
-    → set (take j r ++ replicate (128 - j) 0) j (get_or r j 0) ≡ take (j + 1) r ++ replicate (128 - (j + 1)) 0
-fill_more r j h k =
-    let z : List ℕ = replicate (128 - (j + 1)) 0 in
-    let e : 128 - j ≡ suc (128 - (j + 1)) = omega arith in
-    ap (λ (n : ℕ). set (take j r ++ replicate n 0) j (get_or r j 0)) e
-    ∙ set_at (take j r) 0 z (get_or r j 0) j (length-take-le j r (omega arith))
-    ∙ sym (append_snoc (take j r) (get_or r j 0) z)
-    ∙ ap (λ (p : List ℕ). p ++ z) (sym (take-suc r j 0 h) ∙ ap (λ (n : ℕ). take n r) (sym (add-one j)))
+-- one block more, of those that s is read as
+pub blocks_more : (s : List ℕ) (bs : List (List ℕ)) (d : List ℕ) (i : ℕ) (h x y : List ℕ) → bs ≡ first_chunks 128 (length s / 128) s → i < length s / 128
+    → x ≡ blocks i s h → y ≡ F x (words (get_or bs i d) 0) ((i + 1) * 128) false → y ≡ blocks (i + 1) s h
+unfolding blocks
+blocks_more s bs d i h x y w l ex ey =
+    let p : get_or bs i d ≡ take 128 (drop (i * 128) s) = ap (λ (r : List (List ℕ)). get_or r i d) w ∙ chunk 128 (length s / 128) i s d l in
+    let q : words (get_or bs i d) 0 ≡ words s (i * 128) = ap (λ (b : List ℕ). words b 0) p ∙ words_front s (i * 128) (omega arith) in
+    rw add-one (cc)
 
+pub last_dd : (n : ℕ) → (n - 1) / 128 ≡ dd n - 1
+unfolding dd
+last_dd zero = refl
+last_dd (suc n) = rw (eqb-suc-zero n) (omega arith)
+
+-- ---- the last block
 -- how many bytes the blocks before the last one have
 pub dd_blocks : (n : ℕ) → (dd n ≡ dd n - 1 + 1) × ((dd n - 1) * 128 ≤ n) × (n ≤ (dd n - 1) * 128 + 128)
 unfolding dd
@@ -84,3 +93,16 @@ pub whole_digest : (s h x t d : List ℕ) (n : ℕ) → n ≡ dd (length s) - 1 
     → d ≡ digest (F x (words t 0) (length s) true) → d ≡ blake2b s
 unfolding blake2b
 whole_digest s h x t d n e eh ex et ed = cc (whole s t n e et)
+
+-- and where the message is split before its last block
+pub split_digest : (s h x t d full rest : List ℕ) (n : ℕ) → n ≡ dd (length s) - 1 → h ≡ start → full ≡ take (n * 128) s → rest ≡ drop (n * 128) s
+    → x ≡ blocks (length full / 128) full h → t ≡ rest ++ replicate (128 - length rest) 0 → d ≡ digest (F x (words t 0) (length s) true) → d ≡ blake2b s
+split_digest s h x t d full rest n e eh ef er ex et ed =
+    let b = dd_blocks (length s) in
+    let lf : length full ≡ n * 128 = ap length ef ∙ length-take-le (n * 128) s (omega arith) in
+    let k : length full / 128 ≡ n = omega arith in
+    let lr : length rest ≡ length s - n * 128 = ap length er ∙ length-drop (n * 128) s in
+    let z : 128 - length rest ≡ n * 128 + 128 - length s = omega arith in
+    let on : blocks n full h ≡ blocks n s h =
+    sym (blocks_append n full rest h (omega arith)) ∙ ap (λ (l : List ℕ). blocks n l h) (ap₂ ◌++◌ ef er ∙ take-append-drop (n * 128) s) in
+    whole_digest s h x t d n e eh (ex ∙ ap (λ (m : ℕ). blocks m full h) k ∙ on) (et ∙ ap₂ ◌++◌ er (ap (λ (m : ℕ). replicate m 0) z)) ed

@@ -1,7 +1,7 @@
 // BLAKE2b with no key and a digest of 32 bytes (R7.1): RFC 7693, whose sections the comments name.
 #![tactic(auto)]
 
-ghost use Rattle.std.specs.Prelude.{◌≡◌, ◌+◌, ◌-◌, ◌*◌, ◌<◌, ◌≤◌, true, false, ◌++◌, length, drop, replicate};
+ghost use Rattle.std.specs.Prelude.{◌≡◌, ◌+◌, ◌-◌, ◌/◌, ◌<◌, ◌≤◌, true, false, ◌++◌, length, replicate};
 ghost use Rattle.bits.specs.Word as W;
 ghost use Rattle.blake2b.specs.Blake2b as B;
 
@@ -33,31 +33,18 @@ const SIGMA: [[u8; 16]; 12] = [
     [14, 10, 4, 8, 9, 15, 13, 6, 1, 12, 0, 2, 11, 7, 5, 3],
 ];
 
-fn plus(x: u64, y: u64) -> u64
-    ensures { result ≡ W.plus 64 x y }
-{
-    std::num::wrapping_add_u64(x, y)
-}
-
-fn rotr(n: u32, x: u64) -> u64
-    requires { (0 < n) × (n < 64) }
-    ensures { result ≡ W.rotr 64 n x }
-{
-    (x >> n) | (x << (64 - n))
-}
-
 fn add(v: &mut [u64; 16], i: usize, j: usize, x: u64)
     requires { (i < 16) × (j < 16) }
     ensures { v.new ≡ B.add v.old i j x }
 {
-    v[i] = plus(plus(v[i], v[j]), x);
+    v[i] = v[i].wrapping_add(v[j]).wrapping_add(x);
 }
 
 fn turn(v: &mut [u64; 16], i: usize, j: usize, n: u32)
     requires { (i < 16) × (j < 16) × (0 < n) × (n < 64) }
     ensures { v.new ≡ B.turn v.old i j n }
 {
-    v[i] = rotr(n, v[i] ^ v[j]);
+    v[i] = (v[i] ^ v[j]).rotate_right(n);
 }
 
 // 3.1: the mixing function G.
@@ -81,7 +68,7 @@ fn word(m: &[u64; 16], sg: &[[u8; 16]; 12], r: usize, i: usize) -> u64
     requires { (sg.now ≡ B.sigma) × (r < 12) × (i < 16) }
     ensures { result ≡ B.word m.now r i }
 {
-    m[sg[r][i] as usize]
+    m[usize::from(sg[r][i])]
 }
 
 // One line of a round: G at four places, with the round's words i and i + 1.
@@ -127,21 +114,14 @@ fn rounds(v: &mut [u64; 16], m: &[u64; 16], sg: &[[u8; 16]; 12])
     }
 }
 
-// The state, and after it the initialization vector.
-fn join(h: [u64; 8], k: [u64; 8]) -> [u64; 16]
-    ensures { result ≡ h ++ k }
-{
-    [
-        h[0], h[1], h[2], h[3], h[4], h[5], h[6], h[7], k[0], k[1], k[2], k[3], k[4], k[5], k[6],
-        k[7],
-    ]
-}
-
-// The offset t is below 2^64 here, so its high word is 0 and v[13] stays.
+// The state, and after it the initialization vector. The offset t is below 2^64 here, so its high
+// word is 0 and v[13] stays.
 fn begin(h: [u64; 8], t: u64, last: bool) -> [u64; 16]
     ensures { result ≡ B.begin h t last }
 {
-    let mut v = join(h, IV);
+    let mut v = [0u64; 16];
+    v[..8].copy_from_slice(&h);
+    v[8..].copy_from_slice(&IV);
     v[12] = v[12] ^ t;
     if last {
         v[14] = v[14] ^ 0xffffffffffffffff;
@@ -168,71 +148,45 @@ fn compress(h: [u64; 8], m: &[u64; 16], t: u64, last: bool) -> [u64; 8]
     fold(h, &v)
 }
 
-fn wide(x: u8) -> u64
-    ensures { (result ≡ x) × (result < 256) }
-{
-    x as u64
-}
-
-// One sum over the eight bytes, of which the compiler makes one load.
-fn le64(b: &[u8], i: usize) -> u64
-    requires { i + 8 ≤ length b.now }
-    ensures { result ≡ B.word_at b.now i }
-{
-    wide(b[i])
-        + wide(b[i + 1]) * 0x100
-        + wide(b[i + 2]) * 0x10000
-        + wide(b[i + 3]) * 0x1000000
-        + wide(b[i + 4]) * 0x100000000
-        + wide(b[i + 5]) * 0x10000000000
-        + wide(b[i + 6]) * 0x1000000000000
-        + wide(b[i + 7]) * 0x100000000000000
-}
-
-fn words(b: &[u8], at: usize) -> [u64; 16]
-    requires { at + 128 ≤ length b.now }
-    ensures { result ≡ B.words b.now at }
+fn words(b: &[u8; 128]) -> [u64; 16]
+    ensures { result ≡ B.words b.now 0 }
 {
     let mut m = [0u64; 16];
-    for i in 0..16usize {
-        let x = le64(b, at + i * 8);
-        m[i] = x;
+    let (words, _) = b.as_chunks::<8>();
+    for (i, x) in words.iter().enumerate() {
+        m[i] = u64::from_le_bytes(*x);
     }
     m
 }
 
-// The state after the block that starts at byte at of b.
-fn absorb(h: [u64; 8], b: &[u8], at: usize, t: u64, last: bool) -> [u64; 8]
-    requires { at + 128 ≤ length b.now }
-    ensures { result ≡ B.F h (B.words b.now at) t last }
+// The state after the block b.
+fn absorb(h: [u64; 8], b: &[u8; 128], t: u64, last: bool) -> [u64; 8]
+    ensures { result ≡ B.F h (B.words b.now 0) t last }
 {
-    let m = words(b, at);
+    let m = words(b);
     compress(h, &m, t, last)
 }
 
-// The state after the first n blocks of b, none of which is the last.
-fn blocks(b: &[u8], n: usize, h: [u64; 8]) -> [u64; 8]
-    requires { n * 128 ≤ length b.now }
-    ensures { result ≡ B.blocks n b.now h }
+// The state after the whole blocks of s, none of which is the last.
+fn blocks(s: &[u8], h: [u64; 8]) -> [u64; 8]
+    ensures { result ≡ B.blocks (length s.now / 128) s.now h }
 {
     let mut x = h;
-    for k in 0..n {
-        let y = absorb(x, b, k * 128, ((k + 1) * 128) as u64, false);
+    let (blocks, _) = s.as_chunks::<128>();
+    for (k, b) in blocks.iter().enumerate() {
+        let y = absorb(x, b, ((k + 1) * 128) as u64, false);
         x = y;
     }
     x
 }
 
-// The last block: the message from byte at on, and zeros.
-fn tail(s: &[u8], at: usize) -> [u8; 128]
-    requires { (at ≤ length s.now) × (length s.now ≤ at + 128) }
-    ensures { result ≡ drop at s.now ++ replicate (at + 128 - length s.now) 0 }
+// The last block: what is left of the message, and zeros.
+fn tail(rest: &[u8]) -> [u8; 128]
+    requires { length rest.now ≤ 128 }
+    ensures { result ≡ rest.now ++ replicate (128 - length rest.now) 0 }
 {
     let mut t = [0u8; 128];
-    let n = s.len() - at;
-    for j in 0..n {
-        t[j] = s[at + j];
-    }
+    t[..rest.len()].copy_from_slice(rest);
     t
 }
 
@@ -240,8 +194,8 @@ fn digest(h: [u64; 8]) -> [u8; 32]
     ensures { result ≡ B.digest h }
 {
     let mut d = [0u8; 32];
-    for i in 0..32usize {
-        d[i] = ((h[i / 8] >> (i % 8 * 8)) % 256) as u8;
+    for (i, x) in h[..4].iter().enumerate() {
+        d[8 * i..8 * i + 8].copy_from_slice(&x.to_le_bytes());
     }
     d
 }
@@ -250,10 +204,7 @@ fn digest(h: [u64; 8]) -> [u8; 32]
 fn last_block(n: usize) -> usize
     ensures { result ≡ B.dd n - 1 }
 {
-    if n == 0 {
-        return 0;
-    }
-    (n - 1) / 128
+    n.saturating_sub(1) / 128
 }
 
 // ---- block by block, for a message that does not stand in one piece (3.3)
@@ -273,7 +224,7 @@ pub fn start() -> [u64; 8]
 pub fn block(h: [u64; 8], b: &[u8; 128], t: u64) -> [u64; 8]
     ensures { result ≡ B.F h (B.words b.now 0) t false }
 {
-    absorb(h, b, 0, t, false)
+    absorb(h, b, t, false)
 }
 
 // The digest after the last block, which zeros fill up: t is how many bytes the message has.
@@ -282,7 +233,7 @@ pub fn block(h: [u64; 8], b: &[u8; 128], t: u64) -> [u64; 8]
 pub fn last(h: [u64; 8], b: &[u8; 128], t: u64) -> [u8; 32]
     ensures { result ≡ B.digest (B.F h (B.words b.now 0) t true) }
 {
-    digest(absorb(h, b, 0, t, true))
+    digest(absorb(h, b, t, true))
 }
 
 // The BLAKE2b of s, of any length: no key, a digest of 32 bytes.
@@ -291,9 +242,7 @@ pub fn last(h: [u64; 8], b: &[u8; 128], t: u64) -> [u8; 32]
 pub fn blake2b(s: &[u8]) -> [u8; 32]
     ensures { result ≡ B.blake2b s.now }
 {
-    let n = s.len();
-    let full = last_block(n);
-    let x = blocks(s, full, start());
-    let t = tail(s, full * 128);
-    last(x, &t, n as u64)
+    let (full, rest) = s.split_at(last_block(s.len()) * 128);
+    let x = blocks(full, start());
+    last(x, &tail(rest), s.len() as u64)
 }

@@ -6,9 +6,10 @@ use mathlib.Core.Bool.{Bool, true, false, not}
 use mathlib.Core.List.{List}
 use native.Mathlib.Nat.{mul_assoc, mul-le-mul_right}
 use native.Mathlib.Omega.{arith}
-use borrow.Author.Tests.{lt-ltb, le-ltb, eq-eqb, ne_eqb, not-true, not-false}
+use borrow.Author.Tests.{lt-ltb, le-ltb, not-true, not-false}
 use mir.Syntax.{w64}
 use mir.Val.{Fits}
+use denote.Enum.Bare.{sameb}
 use lib.Count.{count_leading_zeros, leading_top}
 use lib.Dec.{ltb, eqb}
 use lib.Pow.{pow-add, pow_mono, pow_pos, shl_lt, shl-shr, shr_lt, shr-shr, shr_mono, shr_le}
@@ -17,6 +18,7 @@ use Rattle.wire.proofs.Cases.{lt_or_le}
 use Rattle.cbor.specs.Float.{exponent_bits, fraction_bits, sign_of, least_of, infinity_of, scale_of, finite, shift_of, packed, widened, narrowed, holds, shortest, magnitude, sign_bit, widened_bits, narrowed_bits}
 use Rattle.cbor.specs.Form.{first_of, bytes_of}
 use Rattle.cbor.specs.Item.{byte_at, big_endian_at, is_float, width_by, body_at, float_at}
+use Rattle.cbor.specs.contracts.Width.{the_type}
 use Rattle.cbor.specs.declared.Width.{Width}
 use Rattle.cbor.specs.declared.Width.TheVariants.{Half, Single, Double}
 use Rattle.cbor.proofs.Packing.{Shifted, shifted, packed_low, packed_high, packed_shifted, worth_shifted, rescaled}
@@ -291,6 +293,19 @@ module _ (w : Width) (m n infinity : ℕ) (c : n ≡ narrowed w m) (e : infinity
 
 -- ---- a float after its first byte: k are its bytes
 
+-- each width has a first byte of its own
+same_width : (v w : Width) → sameb the_type v w ≡ eqb (first_of v) (first_of w)
+unfolding first_of
+same_width Half Half = refl
+same_width Half Single = refl
+same_width Half Double = refl
+same_width Single Half = refl
+same_width Single Single = refl
+same_width Single Double = refl
+same_width Double Half = refl
+same_width Double Single = refl
+same_width Double Double = refl
+
 module _ (s : List ℕ) (at k : ℕ) (w : Width) (f : k ≡ bytes_of w) where
   pub body_cut : (e : ℕ) → refused e ≡ big_endian_at s at k → refused e ≡ body_at s at w
   unfolding body_at
@@ -301,17 +316,17 @@ module _ (s : List ℕ) (at k : ℕ) (w : Width) (f : k ≡ bytes_of w) where
     unfolding body_at
     body_infinite h = rw (← f, ← e, ← a, not-true t h)
 
-    module _ (b : not t ≡ false) (value : ℕ) (c : value ≡ widened_bits w bits) (u : Width) (d : u ≡ shortest (magnitude Double value)) (i j : ℕ) (g : i ≡ first_of u) (l : j ≡ first_of w) where
-      same_first : first_of (shortest (magnitude Double (widened_bits w bits))) ≡ i
-      same_first = sym (g ∙ ap first_of d ∙ ap (λ (n : ℕ). first_of (shortest (magnitude Double n))) c)
+    module _ (b : not t ≡ false) (value : ℕ) (c : value ≡ widened_bits w bits) (u : Width) (d : u ≡ shortest (magnitude Double value)) (r : Bool) (g : r ≡ not (sameb the_type u w)) where
+      same_first : (i : Bool) → sameb the_type u w ≡ i → eqb (first_of (shortest (magnitude Double (widened_bits w bits)))) (first_of w) ≡ i
+      same_first i h = ap (λ (n : ℕ). eqb (first_of (shortest (magnitude Double n))) (first_of w)) (sym c) ∙ ap (λ (v : Width). eqb (first_of v) (first_of w)) (sym d) ∙ sym (same_width u w) ∙ h
 
-      pub body_longer : (i ≡ j → ⊥) → refused 18 ≡ body_at s at w
+      pub body_longer : r ≡ true → refused 18 ≡ body_at s at w
       unfolding body_at
-      body_longer h = rw (← f, ← e, ← a, not-false t b, same_first, ← l, ne_eqb i j h)
+      body_longer h = rw (← f, ← e, ← a, not-false t b, same_first false (not-true _ (sym g ∙ h)))
 
-      pub body_shortest : i ≡ j → got value next ≡ body_at s at w
+      pub body_shortest : r ≡ false → got value next ≡ body_at s at w
       unfolding body_at
-      body_shortest h = rw (← f, ← e, ← a, not-false t b, same_first, ← l, eq-eqb i j h, c)
+      body_shortest h = rw (← f, ← e, ← a, not-false t b, same_first true (not-false _ (sym g ∙ h)), c)
 
 -- ---- the whole float
 

@@ -6,10 +6,11 @@ use mathlib.Core.Bool.{Bool, true, false, not}
 use mathlib.Core.List.{List, [], ◌∷◌, ◌++◌}
 use native.Mathlib.Omega.{arith}
 use borrow.Author.Tests.{not-true, not-false}
-use lib.ListN.{length, length-append}
+use lib.ListN.{length, take, drop, length-append}
 use mir.Syntax.{w64}
 use mir.Val.{Fits}
 use Rattle.std.specs.Prelude.{Ok, Err}
+use Rattle.std.specs.Int.{to_be_bytes}
 use Rattle.wire.specs.Over.{over}
 use Rattle.wire.specs.Number.{big_endian}
 use Rattle.wire.specs.Writing.{Written}
@@ -23,6 +24,7 @@ use Rattle.cbor.specs.declared.Width.{Width}
 use Rattle.cbor.specs.declared.Width.TheVariants.{Double}
 use Rattle.cbor.specs.Put.{Put}
 use Rattle.cbor.proofs.Sizes.{length_head, length_float, length_string, size_some}
+use Rattle.cbor.proofs.Storing.{lowest}
 use Rattle.cbor.proofs.Runs.{past_fits, put_done, put_none, left_all, left_on, left_last, left_over_last}
 
 pub float_long : (value k : ℕ) (w : Width) → w ≡ shortest (magnitude Double value) → k ≡ bytes_of w → 1 + k ≡ length (float_of value)
@@ -51,11 +53,13 @@ module _ (at r : ℕ) (x : List ℕ) (e : r ≡ length x - at) where
     pub number_none : r < 1 + k → Put at (b ∷ big_endian k n) x x at
     number_none h = put_none at (b ∷ big_endian k n) x (omega (arith, length_digits 256 k n))
 
-    pub number_done : (y z : List ℕ) → 1 + k ≤ r → y ≡ over at (b ∷ []) x → z ≡ over (at + 1) (big_endian k n) y → Put at (b ∷ big_endian k n) x z (at + 1 + k)
-    number_done y z h o w =
+    pub number_done : (y z bs : List ℕ) → k ≤ 8 → 1 + k ≤ r → y ≡ over at (b ∷ []) x → bs ≡ to_be_bytes w64 n → z ≡ over (at + 1) (take (8 - (8 - k)) (drop (8 - k) bs)) y
+        → Put at (b ∷ big_endian k n) x z (at + 1 + k)
+    number_done y z bs m h o f w =
         let c = length_digits 256 k n in
+        let l : take (8 - (8 - k)) (drop (8 - k) bs) ≡ big_endian k n = ap (λ (l : List ℕ). take (8 - (8 - k)) (drop (8 - k) l)) f ∙ lowest k n m in
         put_done at (b ∷ big_endian k n) x z (at + 1 + k) (omega arith)
-        (w ∙ ap (over (at + 1) (big_endian k n)) o ∙ over_append at (b ∷ []) (big_endian k n) x (at + 1) refl (omega arith))
+        (w ∙ ap (λ (l : List ℕ). over (at + 1) l y) l ∙ ap (over (at + 1) (big_endian k n)) o ∙ over_append at (b ∷ []) (big_endian k n) x (at + 1) refl (omega arith))
         (omega arith)
 
   module _ (major size : ℕ) (bs : List ℕ) (f : size ≡ head_size (length bs) + length bs) where

@@ -74,36 +74,21 @@ fn shape_of(w: Width) -> Shape
 pub fn begins(x: u64) -> bool
     ensures { result ≡ is_float x }
 {
-    if x < 0xF9 {
-        return false;
-    }
-    x <= 0xFB
+    matches!(x, 0xF9..=0xFB)
 }
 
 // The width that the first byte names.
 pub(super) fn width(x: u64) -> Width
     ensures { result ≡ width_by x }
 {
-    if x == 0xF9 {
-        return Width::Half;
+    match x {
+        0xF9 => Width::Half,
+        0xFA => Width::Single,
+        _ => Width::Double,
     }
-    if x == 0xFA {
-        return Width::Single;
-    }
-    Width::Double
 }
 
 // ---- from width to width
-
-// By how much a is above b, and 0 where it is not.
-fn above(a: u64, b: u64) -> u64
-    ensures { result ≡ a - b }
-{
-    if a < b {
-        return 0;
-    }
-    a - b
-}
 
 // The magnitude of the double that is worth s times 2^x.
 fn pack(s: u64, x: u64) -> u64
@@ -128,7 +113,7 @@ fn widen(w: Width, m: u64) -> u64
     ensures { result ≡ widened w m }
 {
     let a = shape_of(w);
-    let x = above(m / a.step, 1);
+    let x = u64::saturating_sub(m / a.step, 1);
     pack(m - x * a.step, x + a.scale)
 }
 
@@ -138,10 +123,10 @@ fn narrow(w: Width, m: u64) -> u64
     requires { m < 2 ^ 63 }
     ensures { result ≡ narrowed w m }
 {
-    let x = above(m / 0x10000000000000, 1);
+    let x = u64::saturating_sub(m / 0x10000000000000, 1);
     let s = m - x * 0x10000000000000;
     let a = shape_of(w);
-    let z = above(x + 52, a.scale + a.fraction);
+    let z = u64::saturating_sub(x + 52, a.scale + a.fraction);
     let drop = a.scale + z - x;
     if 63 < drop {
         return 0;

@@ -200,7 +200,7 @@ fn float_body(s: &[u8], at: usize, w: Width) -> Result<(u64, usize), Refusal>
         return Err(Refusal::OutOfRange);
     }
     let value = float::widen_bits(w, bits);
-    if float::first(float::least(value)) != float::first(w) {
+    if float::least(value) != w {
         return Err(Refusal::NotCanonical);
     }
     Ok((value, next))

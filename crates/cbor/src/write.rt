@@ -1,9 +1,8 @@
 // Items written at a position of lent output. Each answers the position past the item; where the
 // item does not fit, nothing is written and the position stays. A payload's writer judges first
 // that all of it fits (R10.7).
-ghost use Rattle.std.specs.Prelude.{◌≡◌, ◌∷◌, ◌+◌, ◌-◌, ◌%◌, ◌≤◌, length};
+ghost use Rattle.std.specs.Prelude.{◌≡◌, ◌∷◌, ◌+◌, ◌%◌, ◌≤◌, length};
 ghost use Rattle.wire.specs.Number.{big_endian};
-ghost use Rattle.wire.specs.Over.{over};
 ghost use Rattle.wire.specs.Writing.{Written};
 ghost use Rattle.cbor.specs.Form.{head_of, head_size, string_of, float_of, string_field_of, number_field_of, float_verdict};
 ghost use Rattle.cbor.specs.Put.{Put};
@@ -25,39 +24,17 @@ fn string_size(bs: &[u8]) -> usize
     size(bs.len() as u64) + bs.len()
 }
 
-// How many bytes are left from index at on.
-fn room(len: usize, at: usize) -> usize
-    ensures { result ≡ len - at }
-{
-    if len < at {
-        return 0;
-    }
-    len - at
-}
-
-// The lowest k bytes of n, the highest of them first, where there is room.
-fn big_endian(out: &mut [u8], at: usize, k: usize, n: u64)
-    requires { (at + k ≤ length out.old) × (k ≤ 8) }
-    ensures { out.new ≡ over at (big_endian k n) out.old }
-{
-    let mut i = 0;
-    while i < k {
-        out[at + i] = ((n >> (8 * (k - 1 - i))) % 256) as u8;
-        i += 1;
-    }
-}
-
 // A first byte and the lowest k bytes of n behind it, the highest of them first. Where they do not
 // fit, nothing is written and the position stays.
 fn first_and_number(out: &mut [u8], at: usize, first: u8, k: usize, n: u64) -> usize
     requires { k ≤ 8 }
     ensures { Put at (first ∷ big_endian k n) out.old out.new result }
 {
-    if room(out.len(), at) < 1 + k {
+    if usize::saturating_sub(out.len(), at) < 1 + k {
         return at;
     }
     lend::put(out, at, first);
-    big_endian(out, at + 1, k, n);
+    lend::copy(out, at + 1, &n.to_be_bytes()[8 - k..]);
     at + 1 + k
 }
 
@@ -68,7 +45,7 @@ fn first_and_number(out: &mut [u8], at: usize, first: u8, k: usize, n: u64) -> u
 pub fn fixed(out: &mut [u8], at: usize, item: &[u8]) -> usize
     ensures { Put at item.now out.old out.new result }
 {
-    if room(out.len(), at) < item.len() {
+    if usize::saturating_sub(out.len(), at) < item.len() {
         return at;
     }
     lend::copy(out, at, item);
@@ -91,7 +68,7 @@ pub fn head(out: &mut [u8], at: usize, major: u8, n: u64) -> usize
 pub fn string(out: &mut [u8], at: usize, major: u8, bs: &[u8]) -> usize
     ensures { Put at (string_of (major % 8) bs.now) out.old out.new result }
 {
-    if room(out.len(), at) < string_size(bs) {
+    if usize::saturating_sub(out.len(), at) < string_size(bs) {
         return at;
     }
     let p = head(out, at, major, bs.len() as u64);
@@ -140,7 +117,7 @@ pub fn float_alone(value: u64, out: &mut [u8]) -> Result<usize, Refusal>
 pub fn string_field(out: &mut [u8], at: usize, name: &[u8], major: u8, bs: &[u8]) -> usize
     ensures { Put at (string_field_of name.now (major % 8) bs.now) out.old out.new result }
 {
-    let left = room(out.len(), at);
+    let left = usize::saturating_sub(out.len(), at);
     let a = string_size(name);
     if left < a {
         return at;
@@ -157,7 +134,7 @@ pub fn string_field(out: &mut [u8], at: usize, name: &[u8], major: u8, bs: &[u8]
 pub fn number_field(out: &mut [u8], at: usize, name: &[u8], n: u64) -> usize
     ensures { Put at (number_field_of name.now n) out.old out.new result }
 {
-    let left = room(out.len(), at);
+    let left = usize::saturating_sub(out.len(), at);
     let a = string_size(name);
     if left < a {
         return at;

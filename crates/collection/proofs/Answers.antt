@@ -1,20 +1,31 @@
 -- The answers of open, offer and join say no more than a number and its values. Assumes nothing.
-use mathlib.Core.Path.{◌≡◌, refl}
-use Rattle.collection.specs.Answer.{told, told_kind}
-use Rattle.collection.specs.declared.Answered.{Answered}
-use Rattle.collection.specs.declared.Answered.TheVariants as A
-use Rattle.collection.specs.declared.Offered.{Offered}
-use Rattle.collection.specs.declared.Offered.TheVariants as O
+use mathlib.Core.Path.{◌≡◌, refl, ap}
+use native.Mathlib.Omega.{arith}
+use Rattle.std.specs.Prelude.{Result, Ok, Err}
+use Rattle.wire.specs.declared.Refusal.{Refusal}
+use Rattle.wire.proofs.Answers as answers
+use Rattle.wire.proofs.Cases.{done_value}
+use Rattle.collection.specs.Answer.{told, told_kind, stands_number}
+use Rattle.collection.specs.declared.Stands.{Stands}
+use Rattle.collection.specs.declared.Stands.TheVariants as stands
 
--- the enums say no more than that
-pub told_injective : (r q : Answered) → told r ≡ told q → r ≡ q
-told_injective A.Done A.Done e = refl
-told_injective A.Done (A.Refused n) e = cc
-told_injective (A.Refused m) A.Done e = cc
-told_injective (A.Refused m) (A.Refused n) e = cc
+pub told_injective : (r q : Result Unit Refusal) → told r ≡ told q → r ≡ q
+told_injective = answers.told_injective
 
-pub kind_injective : (r q : Offered) → told_kind r ≡ told_kind q → r ≡ q
-kind_injective (O.Done k) (O.Done l) e = cc
-kind_injective (O.Done k) (O.Refused n) e = cc
-kind_injective (O.Refused m) (O.Done l) e = cc
-kind_injective (O.Refused m) (O.Refused n) e = cc
+number_one : (s t : Stands) → stands_number s ≡ stands_number t → s ≡ t
+number_one stands.Held stands.Held e = refl
+number_one stands.Held stands.Disputed e = absurd (omega arith)
+number_one stands.Held stands.Disagree e = absurd (omega arith)
+number_one stands.Disputed stands.Held e = absurd (omega arith)
+number_one stands.Disputed stands.Disputed e = refl
+number_one stands.Disputed stands.Disagree e = absurd (omega arith)
+number_one stands.Disagree stands.Held e = absurd (omega arith)
+number_one stands.Disagree stands.Disputed e = absurd (omega arith)
+number_one stands.Disagree stands.Disagree e = refl
+
+-- offer's number of R9.5 says how the page stands
+pub kind_injective : (r q : Result Stands Refusal) → told_kind r ≡ told_kind q → r ≡ q
+kind_injective (Ok s) (Ok t) e = ap Ok (number_one s t (done_value e))
+kind_injective (Ok s) (Err n) e = cc
+kind_injective (Err m) (Ok t) e = cc
+kind_injective (Err m) (Err n) e = ap Err (answers.number_injective m n cc)

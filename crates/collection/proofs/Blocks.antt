@@ -16,7 +16,7 @@ use Rattle.block.specs.Block.{state_of, with_page}
 use Rattle.block.specs.Read.{block_at, holding}
 use Rattle.block.proofs.Reading.{block_none, read_fits}
 use Rattle.block.proofs.Round.{page_length}
-use Rattle.block.proofs.Slots.{state_most, is_absent_lem, is_held_lem, is_disputed_lem, holding_yes, holding_no}
+use Rattle.block.proofs.Slots.{is_absent_lem, is_held_lem, is_disputed_lem, holding_yes, holding_no}
 use Rattle.book.proofs.Changes.{block_again}
 use Rattle.collection.specs.Private.{BlockOf, slot_at, Slotted}
 
@@ -34,19 +34,19 @@ module _ (id : List ℕ) (at i : ℕ) (c : List ℕ) (ok : BlockOf id at i c) wh
   pub stays : (p : Slot) → slot_at at c ≡ p → c ≡ with_page at id i p c
   stays p e = sym (ap (λ (q : Slot). with_page at id i q c) (sym e) ∙ block_again id i at c fits ok)
 
-  -- ---- data d offered to it; s is its state
+  -- ---- data d offered to it
 
-  module _ (d : List ℕ) (s : ℕ) (e : s ≡ state_of (slot_at at c)) where
-    pub offered_first : (x : List ℕ) → s ≡ 0 → x ≡ with_page at id i (held d) c → Slotted id at i (join_slot (slot_at at c) (held d)) c x 1
+  module _ (d : List ℕ) where
+    pub offered_first : (x : List ℕ) → 0 ≡ state_of (slot_at at c) → x ≡ with_page at id i (held d) c → Slotted id at i (join_slot (slot_at at c) (held d)) c x 1
     unfolding kind_of_slot
     offered_first x f g =
-        let q : join_slot (slot_at at c) (held d) ≡ held d = rw (is_absent_lem (slot_at at c) (sym e ∙ f)) (join_first (held d)) in
+        let q : join_slot (slot_at at c) (held d) ≡ held d = rw (is_absent_lem (slot_at at c) (sym f)) (join_first (held d)) in
         record { answer = rw q; bytes = rw q g }
 
-    pub offered_more : s ≡ 2 → Slotted id at i (join_slot (slot_at at c) (held d)) c c 2
+    pub offered_more : 2 ≡ state_of (slot_at at c) → Slotted id at i (join_slot (slot_at at c) (held d)) c c 2
     unfolding kind_of_slot
     offered_more f =
-        let z : slot_at at c ≡ disputed = is_disputed_lem (slot_at at c) (sym e ∙ f) in
+        let z : slot_at at c ≡ disputed = is_disputed_lem (slot_at at c) (sym f) in
         let q : join_slot (slot_at at c) (held d) ≡ disputed = rw z (join_stays (held d)) in
         record { answer = rw q; bytes = rw q (stays disputed z) }
 
@@ -57,36 +57,36 @@ module _ (id : List ℕ) (at i : ℕ) (c : List ℕ) (ok : BlockOf id at i c) wh
         let q : join_slot (slot_at at c) (held d) ≡ held d = rw z (join_again d d refl) in
         record { answer = rw q; bytes = rw q (stays (held d) z) }
 
-    pub offered_other : (w : Bool) (x : List ℕ) → (s ≡ 0 → ⊥) → (s ≡ 2 → ⊥) → w ≡ holding (slot_at at c) d → w ≡ false → x ≡ with_page at id i disputed c
+    pub offered_other : (w : Bool) (x : List ℕ) → 1 ≡ state_of (slot_at at c) → w ≡ holding (slot_at at c) d → w ≡ false → x ≡ with_page at id i disputed c
         → Slotted id at i (join_slot (slot_at at c) (held d)) c x 2
     unfolding kind_of_slot
-    offered_other w x n m h f g =
-        let one : state_of (slot_at at c) ≡ 1 = omega (arith, state_most (slot_at at c)) in
-        let z : slot_at at c ≡ held (data_of (slot_at at c)) = is_held_lem (slot_at at c) one in
-        let differ : data_of (slot_at at c) ≡ d → ⊥ = same_false (data_of (slot_at at c)) d (holding_no (slot_at at c) d one (sym h ∙ f)) in
+    offered_other w x m h f g =
+        let z : slot_at at c ≡ held (data_of (slot_at at c)) = is_held_lem (slot_at at c) (sym m) in
+        let differ : data_of (slot_at at c) ≡ d → ⊥ = same_false (data_of (slot_at at c)) d (holding_no (slot_at at c) d (sym m) (sym h ∙ f)) in
         let q : join_slot (slot_at at c) (held d) ≡ disputed = ap (λ (p : Slot). join_slot p (held d)) z ∙ join_other (data_of (slot_at at c)) d differ in
         record { answer = rw q; bytes = rw q g }
 
-  -- ---- the slot p joined to it; u is p's state
+  -- ---- the slot p joined to it
 
-  module _ (p : Slot) (u : ℕ) (e : u ≡ state_of p) where
-    pub joined_absent : u ≡ 0 → c ≡ with_page at id i (join_slot (slot_at at c) p) c
-    joined_absent f = stays (join_slot (slot_at at c) p) (rw (is_absent_lem p (sym e ∙ f)) (sym (join_absent (slot_at at c))))
+  module _ (p : Slot) where
+    pub joined_absent : 0 ≡ state_of p → c ≡ with_page at id i (join_slot (slot_at at c) p) c
+    joined_absent f = stays (join_slot (slot_at at c) p) (rw (is_absent_lem p (sym f)) (sym (join_absent (slot_at at c))))
 
-    pub joined_held : (d x : List ℕ) (r : ℕ) → u ≡ 1 → d ≡ data_of p → Slotted id at i (join_slot (slot_at at c) (held d)) c x r → x ≡ with_page at id i (join_slot (slot_at at c) p) c
+    pub joined_held : (d x : List ℕ) (r : ℕ) → 1 ≡ state_of p → d ≡ data_of p → Slotted id at i (join_slot (slot_at at c) (held d)) c x r → x ≡ with_page at id i (join_slot (slot_at at c) p) c
     joined_held d x r f g h =
-        h.bytes ∙ ap (λ (q : Slot). with_page at id i (join_slot (slot_at at c) q) c) (ap held g ∙ sym (is_held_lem p (sym e ∙ f)))
+        h.bytes ∙ ap (λ (q : Slot). with_page at id i (join_slot (slot_at at c) q) c) (ap held g ∙ sym (is_held_lem p (sym f)))
 
-    disputes : (u ≡ 0 → ⊥) → (u ≡ 1 → ⊥) → join_slot (slot_at at c) p ≡ disputed
-    disputes n m = rw (is_disputed_lem p (omega (arith, state_most p))) (join_disputed (slot_at at c))
+    module _ (two : 2 ≡ state_of p) where
+      disputes : join_slot (slot_at at c) p ≡ disputed
+      disputes = rw (is_disputed_lem p (sym two)) (join_disputed (slot_at at c))
 
-    pub joined_disputed : (x : List ℕ) → (u ≡ 0 → ⊥) → (u ≡ 1 → ⊥) → x ≡ with_page at id i disputed c → x ≡ with_page at id i (join_slot (slot_at at c) p) c
-    joined_disputed x n m g = rw (disputes n m) g
+      pub joined_disputed : (x : List ℕ) → x ≡ with_page at id i disputed c → x ≡ with_page at id i (join_slot (slot_at at c) p) c
+      joined_disputed x g = rw disputes g
 
-    pub joined_stays : (s : ℕ) → (u ≡ 0 → ⊥) → (u ≡ 1 → ⊥) → s ≡ state_of (slot_at at c) → s ≡ 2 → c ≡ with_page at id i (join_slot (slot_at at c) p) c
-    joined_stays s n m g h = rw (disputes n m) (stays disputed (is_disputed_lem (slot_at at c) (sym g ∙ h)))
+      pub joined_stays : state_of (slot_at at c) ≡ 2 → c ≡ with_page at id i (join_slot (slot_at at c) p) c
+      joined_stays h = rw disputes (stays disputed (is_disputed_lem (slot_at at c) h))
 
   -- ---- made absent
 
-  pub absent_stays : (s : ℕ) → s ≡ state_of (slot_at at c) → s ≡ 0 → c ≡ with_page at id i absent c
-  absent_stays s e f = stays absent (is_absent_lem (slot_at at c) (sym e ∙ f))
+  pub absent_stays : state_of (slot_at at c) ≡ 0 → c ≡ with_page at id i absent c
+  absent_stays e = stays absent (is_absent_lem (slot_at at c) e)

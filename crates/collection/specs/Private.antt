@@ -1,6 +1,8 @@
 -- What the private functions are given and answer: nothing here is promised to a caller.
-use Rattle.std.specs.Prelude.{ℕ, ◌+◌, ◌≤◌, ◌<◌, ◌≡◌, true, List, length}
+use Rattle.std.specs.Prelude.{ℕ, ◌+◌, ◌≤◌, ◌<◌, ◌≡◌, true, List, Result, Ok, Err, length}
 use Rattle.wire.specs.Answer.{refused, Got, got}
+use Rattle.wire.specs.Refusal.{number}
+use Rattle.wire.specs.declared.Refusal.{Refusal}
 use Rattle.wire.specs.Sizes.{most_pages, most_data}
 use Rattle.wire.specs.Span.{part_at}
 use Rattle.model.specs.Book.{Slot, Book}
@@ -9,20 +11,15 @@ use Rattle.block.specs.Block.{with_page}
 use Rattle.block.specs.Read.{block_at, read_slot, ok_page}
 use Rattle.book.specs.Head.{read_head}
 use Rattle.book.specs.Encode.{encode}
-use Rattle.collection.specs.declared.take.PageRead.{PageRead}
-use Rattle.collection.specs.declared.take.PageRead.TheVariants as P
+use Rattle.collection.specs.declared.take.PageAt as P
 
 abbrev pub page : ℕ → ℕ → List ℕ → Page
 page i t d = record { index = i; total = t; contents = d }
 
 -- the page of a frame s
-abbrev pub page_told : List ℕ → PageRead → Got Page
-page_told s (P.Page index total at) = got (page index total (part_at s at)) (at.start + at.len + 4)
-page_told s (P.Refused e) = refused e
-
-abbrev pub page_no : PageRead → ℕ
-page_no (P.Page index total at) = 0
-page_no (P.Refused e) = e
+abbrev pub page_told : List ℕ → Result P.PageAt Refusal → Got Page
+page_told s (Ok p) = got (page p.index p.total (part_at s p.at)) (p.at.start + p.at.len + 4)
+page_told s (Err e) = refused (number e)
 
 -- what a page that is taken keeps to
 abbrev pub Fits : ℕ → ℕ → List ℕ → Type 0

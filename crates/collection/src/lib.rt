@@ -10,92 +10,73 @@
 mod merge;
 mod take;
 
+ghost use Rattle.std.specs.Prelude.{◌≡◌};
 ghost use Rattle.wire.specs.Answer.{Kept};
 ghost use Rattle.collection.specs.Collection.{opening, offering, joining};
-ghost use Rattle.collection.specs.Answer.{told, told_kind};
+ghost use Rattle.collection.specs.Answer.{told, told_kind, stands_number};
 
-use take::PageRead;
+use wire::Refusal;
 
 // How a page stands after its offer (R9.5).
-pub const HELD: u8 = 1;
-
-pub const DISPUTED: u8 = 2;
-
-pub const DISAGREE: u8 = 3;
-
-// What open and join answer.
-#[derive(Drop)]
-pub enum Answered {
-    Done,
-    // The number of the refusal (R2.2).
-    Refused { no: u8 },
+#[derive(Clone, Copy, Debug, PartialEq, Eq)]
+pub enum Stands {
+    Held,
+    Disputed,
+    Disagree,
 }
 
-// What offer answers.
-#[derive(Drop)]
-pub enum Offered {
-    // HELD, DISPUTED or DISAGREE.
-    Done { kind: u8 },
-    // The number of the refusal (R2.2).
-    Refused { no: u8 },
+// The number of R9.5.
+impl From<Stands> for u8 {
+    ghost from_gives = { λ stands n. n ≡ stands_number stands };
+
+    fn from(stands: Stands) -> u8 {
+        match stands {
+            Stands::Held => 1,
+            Stands::Disputed => 2,
+            Stands::Disagree => 3,
+        }
+    }
 }
 
 // The empty collection of a document over all of c; or 19, then 11, and nothing changed.
-pub fn open(id: &[u8], c: &mut [u8]) -> Answered
+pub fn open(id: &[u8], c: &mut [u8]) -> Result<(), Refusal>
     ensures { Kept (opening id.now c.old) c.old c.new (told result) }
 {
     if id.len() != wire::ID_SIZE {
-        return Answered::Refused {
-            no: wire::OUT_OF_RANGE,
-        };
+        return Err(Refusal::OutOfRange);
     }
     if c.len() != wire::COLLECTION_SIZE {
-        return Answered::Refused { no: wire::NO_ROOM };
+        return Err(Refusal::NoRoom);
     }
     book::write_head(c, id, book::EMPTY, 0);
     book::blank(c, id);
-    Answered::Done
+    Ok(())
 }
 
 // The collection c with the good page of one raw frame taken, and how that page stands: 1 held, 2
 // disputed, 3 the totals disagree; or 13, the frame's own refusal, 12, and nothing changed.
-pub fn offer(c: &mut [u8], raw: &[u8]) -> Offered
+pub fn offer(c: &mut [u8], raw: &[u8]) -> Result<Stands, Refusal>
     ensures { Kept (offering c.old raw.now) c.old c.new (told_kind result) }
 {
-    let no = book::judge(&c[..]);
-    if no != wire::DONE {
-        return Offered::Refused { no };
-    }
+    book::judge(&c[..])?;
     let id = book::id_copy(&c[..]);
-    let r = take::good_page(&id, raw);
-    let PageRead::Page { index, total, at } = r else {
-        return Offered::Refused { no: r.no() };
-    };
-    let start = at.start;
-    let end = start + at.len;
-    let kind = take::page(c, &id, index, total, &raw[start..end]);
-    Offered::Done { kind }
+    let page = take::good_page(&id, raw)?;
+    let start = page.at.start;
+    let end = start + page.at.len;
+    Ok(take::page(c, &id, page.index, page.total, &raw[start..end]))
 }
 
 // The union of c and o, two collections of one document, in c; or 13 for c, 13 for o, 12, and
 // nothing changed.
-pub fn join(c: &mut [u8], o: &[u8]) -> Answered
+pub fn join(c: &mut [u8], o: &[u8]) -> Result<(), Refusal>
     ensures { Kept (joining c.old o.now) c.old c.new (told result) }
 {
-    let no = book::judge(&c[..]);
-    if no != wire::DONE {
-        return Answered::Refused { no };
-    }
-    let read_no = book::judge(o);
-    if read_no != wire::DONE {
-        return Answered::Refused { no: read_no };
-    }
+    book::judge(&c[..])?;
+    book::judge(o)?;
     let id = book::id_copy(&c[..]);
     if !lend::equal(&id, book::id(o)) {
-        return Answered::Refused {
-            no: wire::OTHER_DOCUMENT,
-        };
+        return Err(Refusal::OtherDocument);
     }
     merge::books(c, &id, o);
-    Answered::Done
+    Ok(())
 }

@@ -9,22 +9,23 @@ ghost use Rattle.collection.specs.Private.{OneTotal, BlockOf, slot_at};
 ghost use Rattle.collection.specs.Built.{Of};
 
 use super::take;
+use block::PageState;
 
 // The block of o from index at on into that of c, which is written only where it changes.
 fn slot(c: &mut [u8], at: usize, id: &[u8], index: u8, o: &[u8])
     requires { BlockOf id.now at index c.old }
     ensures { c.new ≡ with_page at id.now index (join_slot (slot_at at c.old) (slot_at at o.now)) c.old }
 {
-    let state = block::state(o, at);
-    if state == block::ABSENT {
-        return;
-    }
-    if state == block::HELD {
-        take::slot(c, at, id, index, block::contents(o, at));
-        return;
-    }
-    if block::state(&c[..], at) != block::DISPUTED {
-        block::dispute(c, at, id, index);
+    match block::state(o, at) {
+        PageState::Absent => {}
+        PageState::Held => {
+            let _ = take::slot(c, at, id, index, block::contents(o, at));
+        }
+        PageState::Disputed => {
+            if block::state(&c[..], at) != PageState::Disputed {
+                block::dispute(c, at, id, index);
+            }
+        }
     }
 }
 
@@ -35,10 +36,8 @@ fn pages(c: &mut [u8], id: &[u8], o: &[u8])
     requires one_total { OneTotal c.old o.now }
     ensures { c.new ≡ encode id.now (join_book (read_book c.old) (read_book o.now)) }
 {
-    let mut k: u8 = 0;
-    while k < book::PAGES {
+    for k in 0..book::PAGES {
         slot(c, book::place(k), id, k, o);
-        k += 1;
     }
 }
 

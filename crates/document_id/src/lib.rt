@@ -10,7 +10,9 @@ ghost use Rattle.document_id.specs.Id.{id_from, document_id_of};
 pub fn of_digest(d: [u8; 32]) -> [u8; wire::ID_SIZE]
     ensures { result ≡ id_from d }
 {
-    [d[0], d[1], d[2], d[3], d[4], d[5], d[6], d[7]]
+    let mut id = [0; wire::ID_SIZE];
+    id.copy_from_slice(&d[..wire::ID_SIZE]);
+    id
 }
 
 // The id of the document: the first 8 bytes of the BLAKE2b of the whole ciphertext.

@@ -12,7 +12,7 @@ ghost use Rattle.sha256.specs.Sha as S;
 ghost use Rattle.blake2b.specs.Blake2b as B;
 ghost use Rattle.speed.specs.Count as N;
 
-use wire::Wrote;
+use wire::Refusal;
 
 // What `crc::crc32` answers, for a C program.
 #[unsafe(no_mangle)]
@@ -41,13 +41,10 @@ pub extern "C" fn speed_blake2b(s: &[u8], out: &mut [u8])
 }
 
 // How many bytes stand in the output: none where the call was refused.
-fn count(r: Wrote) -> usize
+fn count(r: Result<usize, Refusal>) -> usize
     ensures { result ≡ N.count (told r) }
 {
-    match r {
-        Wrote::Done { len } => len,
-        Wrote::Refused { no: _ } => 0,
-    }
+    r.unwrap_or(0)
 }
 
 // What `text::base64_read` does, for a C program: the bytes at the front of out, and their number;

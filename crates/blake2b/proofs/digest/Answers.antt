@@ -1,25 +1,25 @@
-use Rattle.std.proofs.Common.{sym, refl, ◌∙◌, arith, length-set, w64, rules}
-use borrow.Kind.Array.{good_length, e_int}
-use Rattle.blake2b.specs.Blake2b.{vector}
-use Rattle.blake2b.proofs.Output.{byte_of, digest_vector}
-use Rattle.blake2b.proofs.Vector.{vector_more, vector_whole}
+use Rattle.std.proofs.Common.{◌≡◌, refl, ◌∙◌, arith, rules, length, take, length-take-le}
+use Rattle.std.proofs.lemmas.Slice.{overwrites}
+use Rattle.blake2b.specs.Blake2b.{bytes}
+use Rattle.blake2b.proofs.Output.{bytes_more, bytes_front}
 use Rattle.blake2b.proofs.digest.Goals as goal
 
 pub loop-i-init : goal.loop-i-init
-unfolding vector
-loop-i-init c = (search rules, refl, refl)
+unfolding bytes
+loop-i-init c = (refl, refl)
 
 pub loop-i-preserved : goal.loop-i-preserved
-unfolding byte_of
 loop-i-preserved c =
-    let l = c.loop-i in (
-      omega arith,
-      simp length-set (search rules),
-      vector_more (byte_of c.args.h) l.d l.i _ (omega arith) l.invariant.2 refl,
+    let l = c.loop-i in
+    let lh : length c.args.h ≡ 8 = search rules in
+    let lf : length (take 4 c.args.h) ≡ 4 = length-take-le 4 c.args.h (omega arith) in (
+      search (rules, overwrites),
+      bytes_more l.d _ _ l.i _ (omega arith) (omega arith) l.invariant.1 (c.copy_from_slice.ensures.after ∙ c.to_le_bytes.ensures),
     )
 
 pub returns : goal.returns
 returns c =
     let l = c.loop-i in
-    vector_whole (byte_of c.args.h) l.d 32 l.i l.invariant.1 (omega arith) l.invariant.2
-    ∙ sym (digest_vector c.args.h (good_length (e_int w64) 8 c.args.h _ c.well_formed.0))
+    let lh : length c.args.h ≡ 8 = search rules in
+    let lf : length (take 4 c.args.h) ≡ 4 = length-take-le 4 c.args.h (omega arith) in
+    bytes_front c.args.h l.d l.i lh l.invariant.0 (omega arith) l.invariant.1

@@ -6,14 +6,13 @@ use Rattle.blake2b.proofs.fold.Goals as goal
 
 pub loop-i-init : goal.loop-i-init
 unfolding vector
-loop-i-init c = (search rules, refl, refl)
+loop-i-init c = (refl, refl)
 
 pub loop-i-preserved : goal.loop-i-preserved
 loop-i-preserved c =
     let a = c.args in (
-      omega arith,
       simp length-set (search rules),
-      vector_more (xored a.h a.v.now) c.loop-i.x c.loop-i.i _ (omega arith) c.loop-i.invariant.2 refl,
+      vector_more (xored a.h a.v.now) c.loop-i.x c.loop-i.i _ (omega arith) c.loop-i.invariant.1 refl,
     )
 
 pub returns : goal.returns
@@ -21,4 +20,4 @@ unfolding fold
 returns c =
     let l = c.loop-i in
     let a = c.args in
-    vector_whole (xored a.h a.v.now) l.x 8 l.i l.invariant.1 (omega arith) l.invariant.2
+    vector_whole (xored a.h a.v.now) l.x 8 l.i l.invariant.0 (omega arith) l.invariant.1

@@ -8,20 +8,10 @@ use Rattle.blake2b.proofs.word.Goals as goal
 small : (sg : List (List ℕ)) (r i : ℕ) → (sg ≡ sigma) × (r < 12) × (i < 16) → get_or (get_or sg r []) i 0 < 16
 small sg r i p = rw p.0 (sigma_small r i p.1 p.2)
 
-pub overflow_cast-result : goal.overflow_cast-result
-overflow_cast-result c =
+pub bounds-m-from : goal.bounds-m-from
+bounds-m-from c =
     let a = c.args in
-    omega (arith, small a.sg.now a.r a.i c.requires)
-
-pub offset_bounds-m-sg : goal.offset_bounds-m-sg
-offset_bounds-m-sg c =
-    let a = c.args in
-    omega (arith, small a.sg.now a.r a.i c.requires)
-
-pub bounds-m-sg : goal.bounds-m-sg
-bounds-m-sg c =
-    let a = c.args in
-    omega (arith, small a.sg.now a.r a.i c.requires)
+    omega (arith, small a.sg.now a.r a.i c.requires, c.from.ensures)
 
 pub returns : goal.returns
 unfolding word

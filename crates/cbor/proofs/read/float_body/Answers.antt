@@ -9,8 +9,8 @@ returns-in_err-bits c = handed _ _ c.from_residual.ensures _ (body_cut _ _ _ _ c
 pub returns-then-not-is_finite : goal.returns-then-not-is_finite
 returns-then-not-is_finite c = search (body_infinite, c.in_ok-bits.ensures)
 
-pub returns-then-first : goal.returns-then-first
-returns-then-first c = search (body_longer, c.in_ok-bits.ensures)
+pub returns-then-ne : goal.returns-then-ne
+returns-then-ne c = search (body_longer, c.in_ok-bits.ensures)
 
 pub returns : goal.returns
 returns c = search (body_shortest, c.in_ok-bits.ensures)

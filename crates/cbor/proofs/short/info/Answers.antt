@@ -1,25 +1,25 @@
--- `cbor::short::info` meets its contract, case by case of its tests. Assumes nothing.
+-- `cbor::short::info` meets its contract, case by case. Assumes nothing.
+use native.Mathlib.Omega.{arith}
 use Rattle.wire.proofs.Branch.{branch}
 use Rattle.cbor.specs.Form.{info_of}
-use borrow.Author.Rules.{rules}
 use Rattle.cbor.proofs.short.info.Goals as goal
 
-pub returns-then-n-lt24 : goal.returns-then-n-lt24
+pub returns-in-0-to-23 : goal.returns-in-0-to-23
 unfolding info_of
-returns-then-n-lt24 c = (search branch depth 12, search rules)
+returns-in-0-to-23 c = (search branch depth 12, omega arith)
 
-pub returns-then-n-lt256 : goal.returns-then-n-lt256
+pub returns-in-24-to-255 : goal.returns-in-24-to-255
 unfolding info_of
-returns-then-n-lt256 c = (search branch depth 12, search rules)
+returns-in-24-to-255 c = (search branch depth 12, omega arith)
 
-pub returns-then-n-lt65536 : goal.returns-then-n-lt65536
+pub returns-in-256-to-65535 : goal.returns-in-256-to-65535
 unfolding info_of
-returns-then-n-lt65536 c = (search branch depth 12, search rules)
+returns-in-256-to-65535 c = (search branch depth 12, omega arith)
 
-pub returns-then-n-lt4294967296 : goal.returns-then-n-lt4294967296
+pub returns-in-65536-to-4294967295 : goal.returns-in-65536-to-4294967295
 unfolding info_of
-returns-then-n-lt4294967296 c = (search branch depth 12, search rules)
+returns-in-65536-to-4294967295 c = (search branch depth 12, omega arith)
 
-pub returns : goal.returns
+pub returns-in_default : goal.returns-in_default
 unfolding info_of
-returns c = (search branch depth 12, search rules)
+returns-in_default c = (search branch depth 12, omega arith)

@@ -1,25 +1,32 @@
--- `cbor::short::width` meets its contract, case by case of its tests. Assumes nothing.
-use borrow.Author.Rules.{rules}
+-- `cbor::short::width` meets its contract, case by case. Assumes nothing.
+use mathlib.Core.Path.{◌≡◌}
+use native.Mathlib.Omega.{arith}
 use Rattle.wire.proofs.Branch.{branch}
 use Rattle.cbor.specs.Form.{width_of}
 use Rattle.cbor.proofs.short.width.Goals as goal
 
-pub returns-then-info-lt24 : goal.returns-then-info-lt24
+pub returns-in-0-to-23 : goal.returns-in-0-to-23
 unfolding width_of
-returns-then-info-lt24 c = (search branch depth 12, search rules)
+returns-in-0-to-23 c = (search branch depth 12, omega arith)
 
-pub returns-then-info-eq24 : goal.returns-then-info-eq24
+pub returns-in-24 : goal.returns-in-24
 unfolding width_of
-returns-then-info-eq24 c = (search branch depth 12, search rules)
+returns-in-24 c =
+    let h : c.args.info ≡ 24 = search branch in
+    (rw h, omega arith)
 
-pub returns-then-info-eq25 : goal.returns-then-info-eq25
+pub returns-in-25 : goal.returns-in-25
 unfolding width_of
-returns-then-info-eq25 c = (search branch depth 12, search rules)
+returns-in-25 c =
+    let h : c.args.info ≡ 25 = search branch in
+    (rw h, omega arith)
 
-pub returns-then-info-eq26 : goal.returns-then-info-eq26
+pub returns-in-26 : goal.returns-in-26
 unfolding width_of
-returns-then-info-eq26 c = (search branch depth 12, search rules)
+returns-in-26 c =
+    let h : c.args.info ≡ 26 = search branch in
+    (rw h, omega arith)
 
-pub returns : goal.returns
+pub returns-in_default : goal.returns-in_default
 unfolding width_of
-returns c = (search branch depth 12, search rules)
+returns-in_default c = (search branch depth 12, omega arith)

@@ -3,8 +3,8 @@
 use Rattle.cbor.proofs.Writers.{number_none, number_done}
 use Rattle.cbor.proofs.write.first_and_number.Goals as goal
 
-pub returns-then-room-k : goal.returns-then-room-k
-returns-then-room-k c = search number_none
+pub returns-then-saturating_sub-k : goal.returns-then-saturating_sub-k
+returns-then-saturating_sub-k c = search number_none
 
 pub returns : goal.returns
 returns c = search number_done

@@ -1,11 +1,7 @@
 -- `take::annul` meets its contract. The loop's invariant: the first k pages are absent, and the
 -- rest is as it was. Assumes nothing.
-use Prim.Native.Nat.{◌-◌}
 use Rattle.collection.proofs.Loops.{Clearing}
 use Rattle.collection.proofs.take.annul.Given as goal
 
 abbrev pub invariant-loop-k : goal.invariant-loop-k
 invariant-loop-k l = Clearing l.id l.initial.c l.k l.c
-
-abbrev pub decreases-loop-k : goal.decreases-loop-k
-decreases-loop-k l = 96 - l.k
