@@ -11,8 +11,8 @@ use lib.Seq.{drop-cons}
 use Rattle.wire.specs.Over.{over}
 use Rattle.wire.specs.Answer.{Answer, done, refused_at, Kept}
 use Rattle.wire.specs.Writing.{Written, writing}
-use Rattle.wire.specs.declared.Wrote.{Wrote}
-use Rattle.wire.specs.declared.Wrote.TheVariants.{Done, Refused}
+use Rattle.std.specs.Prelude.{Result, Ok, Err}
+use Rattle.wire.specs.declared.Refusal.{Refusal}
 use Rattle.digits.specs.Decimal.{refused_line}
 use Rattle.collection.specs.Collection.{opening}
 use Rattle.status.specs.Line.{status_line}
@@ -37,11 +37,11 @@ module _ (s : Session) (line : List ℕ) where
 
 -- ---- a line ends
 
-module _ (s : Session) (first c x y : List ℕ) (k : length x ≡ 8) (r : Wrote) (w : Written 0 (id_verdict first) x y r) where
-  pub start_refused : (e : ℕ) → r ≡ Refused e → at (now 2 0) [] c ≡ started (at s [] c) (id_verdict first)
+module _ (s : Session) (first c x y : List ℕ) (k : length x ≡ 8) (r : Result ℕ Refusal) (w : Written 0 (id_verdict first) x y r) where
+  pub start_refused : (e : Refusal) → r ≡ Err e → at (now 2 0) [] c ≡ started (at s [] c) (id_verdict first)
   start_refused e h = sym (ap (started (at s [] c)) (id_refused first x y k r w e h))
 
-  pub start_open : (n : ℕ) → r ≡ Done n → (a : Answer Unit) (z : List ℕ) → Kept (opening y c) c z a → at (now 1 0) [] z ≡ started (at s [] c) (id_verdict first)
+  pub start_open : (n : ℕ) → r ≡ Ok n → (a : Answer Unit) (z : List ℕ) → Kept (opening y c) c z a → at (now 1 0) [] z ≡ started (at s [] c) (id_verdict first)
   start_open n h a z q =
       ap (at (now 1 0) []) q.bytes ∙ sym (ap (started (at s [] c)) (id_read first x y k r w n h))
 
@@ -139,6 +139,6 @@ module _ (phase : ℕ) (c x z : List ℕ) (r : Answer ℕ) where
   unfolding reported
   report_status e w = rw (eq-eqb phase 1 e) w
 
-  pub report_refused : (phase ≡ 1 → ⊥) → Kept (writing 0 x (done (refused_line 19))) x z r → Kept (writing 0 x (done (reported phase c))) x z r
+  pub report_refused : (phase ≡ 1 → ⊥) → (n : ℕ) → n ≡ 19 → Kept (writing 0 x (done (refused_line n))) x z r → Kept (writing 0 x (done (reported phase c))) x z r
   unfolding reported
-  report_refused e w = rw (ne_eqb phase 1 e) w
+  report_refused e n q w = rw (ne_eqb phase 1 e) (rw q at w)

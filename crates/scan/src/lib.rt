@@ -14,17 +14,15 @@ pub mod session;
 ghost use Rattle.wire.specs.Writing.{Written};
 ghost use Rattle.scan.specs.Id.{id_verdict};
 
-use wire::Wrote;
+use wire::Refusal;
 
 // The 8 bytes of the document id that a line of 16 lower-case hex digits says, at the front of out;
 // or 19, then 11, and nothing changed.
-pub fn id(line: &[u8], out: &mut [u8]) -> Wrote
+pub fn id(line: &[u8], out: &mut [u8]) -> Result<usize, Refusal>
     ensures { Written 0 (id_verdict line.now) out.old out.new result }
 {
     if line.len() != 16 {
-        return Wrote::Refused {
-            no: wire::OUT_OF_RANGE,
-        };
+        return Err(Refusal::OutOfRange);
     }
     digits::hex_read(line, out)
 }

@@ -5,9 +5,11 @@ ghost use Rattle.wire.specs.Writing.{Written};
 ghost use Rattle.scan.specs.Id.{id_verdict};
 ghost use Rattle.scan.specs.Session.{scanned, line_of, started, ended, longer, next, fed, closed, reported, at};
 
-use wire::Wrote;
+use wire::Refusal;
 
 // The phases. The first line has not ended:
+// stays (1): `feed`, `close` and `report` take a session of any phase, and `session_refused` (Inputs)
+// says of it what it is not.
 pub const WAITING: u8 = 0;
 
 pub const COLLECTING: u8 = 1;
@@ -39,10 +41,10 @@ pub fn scan(line: &[u8], c: &mut [u8])
     }
     let mut raw = [0u8; LINE_MOST];
     let read = text::base64_read(line, &mut raw);
-    let Wrote::Done { len } = read else {
+    let Ok(len) = read else {
         return;
     };
-    collection::offer(c, &raw[0..len]);
+    let _ = collection::offer(c, &raw[0..len]);
 }
 
 // The bytes of the line that has not ended, in the line buffer; none where the buffer is shorter.
@@ -62,13 +64,13 @@ fn start(first: &[u8], s: Session, c: &mut [u8]) -> Session
 {
     let mut id = [0u8; wire::ID_SIZE];
     let read = super::id(first, &mut id);
-    let Wrote::Done { len: _ } = read else {
+    let Ok(_) = read else {
         return Session {
             phase: REFUSED,
             len: 0,
         };
     };
-    collection::open(&id, c);
+    let _ = collection::open(&id, c);
     Session {
         phase: COLLECTING,
         len: 0,
@@ -118,10 +120,8 @@ pub fn feed(part: &[u8], s: Session, line: &mut [u8], c: &mut [u8]) -> Session
     ensures { at result line.new c.new ≡ fed (at s line.old c.old) part.now }
 {
     let mut now = s;
-    let mut i = 0;
-    while i < part.len() {
-        now = byte(part[i], now, line, c);
-        i += 1;
+    for b in part {
+        now = byte(*b, now, line, c);
     }
     now
 }
@@ -138,11 +138,11 @@ pub fn close(s: Session, line: &[u8], c: &mut [u8]) -> Session
 
 // The one status line, or `refused 19` where the session does not collect, at the front of out, and
 // its length; or 11 and nothing changed.
-pub fn report(s: Session, c: &[u8], out: &mut [u8]) -> Wrote
+pub fn report(s: Session, c: &[u8], out: &mut [u8]) -> Result<usize, Refusal>
     ensures { Written 0 (done (reported s.phase c.now)) out.old out.new result }
 {
     if s.phase == COLLECTING {
         return status::status(c, out);
     }
-    digits::refused_line(wire::OUT_OF_RANGE, out)
+    digits::refused_line(u8::from(Refusal::OutOfRange), out)
 }
