@@ -15,9 +15,10 @@ use Rattle.model.specs.Meaning.{BookIs}
 use Rattle.book.specs.Read.{read_book, ok_book}
 use Rattle.collection.specs.Collection.{opening, offering, joining}
 use Rattle.collection.specs.Answer as answers
-use Rattle.collection.proofs.Placeless.{open_placeless, offer_placeless, join_placeless}
+use Rattle.collection.proofs.Placeless.{open_placeless, join_placeless}
 use Rattle.finish.specs.Finish.{finished, finishing}
 use Rattle.wire.specs.Reading.{told_at}
+use Rattle.promises.proofs.Offered.{offer_answer}
 use Rattle.promises.proofs.Answered.{can_change, can_tell_at, kept_named, finishing_named}
 use Rattle.finish.proofs.Demand.{finish_bytes}
 use Rattle.phone.specs.Packed.{packed, packed_answer, packed_kind, packed_finish, finish_in}
@@ -50,10 +51,6 @@ pub record Lawful (f : Interface) : Type 1 where
 
 -- ---- the libraries
 
--- an offer says how the page stands by one of three numbers
-kind : (c raw : List ℕ) → (r : Result Stands Refusal) × (answers.told_kind r ≡ answer_of (offering c raw))
-kind c raw = ?
-
 pub library_lawful : Lawful library
 library_lawful = record {
   opens = λ id c x (k, i, j, l). sym l ∙ (collection_open_link k).bytes ∙ rw (i, j);
@@ -67,7 +64,7 @@ library_lawful = record {
       let x : List ℕ = bytes_after c (opening id c) in
       (x, (second_lent collection-open.Kinds.r collection-open.Reads.Learnt id c x r.0 (record { answer = r.1; bytes = refl }), refl, refl, refl));
   can_offer = λ c raw.
-      let r = kind c raw in
+      let r = offer_answer c raw in
       let x : List ℕ = bytes_after c (offering c raw) in
       (x, (first_lent collection-offer.Kinds.r collection-offer.Reads.Learnt c raw x r.0 (record { answer = r.1; bytes = refl }), refl, refl, refl));
   can_join = λ c o.

@@ -28,7 +28,7 @@ use Rattle.promises.proofs.Formats.{Ruled, exact}
 use Rattle.promises.proofs.Links.Text.{text_base64_read_link, text_base64_write_link, text_zbase32_read_link, text_zbase32_write_link}
 
 -- what a text's reader refuses has no place
-text_placeless : (f : Form) (s : List ℕ) → Placeless (read_text f s)
+pub text_placeless : (f : Form) (s : List ℕ) → Placeless (read_text f s)
 unfolding read_text read_values
 text_placeless f s = search placeless
 

@@ -1,22 +1,26 @@
 -- Typed lines are read and written exactly, and slips in them are told. Assumes nothing.
-use Prim.Native.Nat.{ℕ, ◌≤◌}
+use Prim.Native.Nat.{ℕ, suc, ◌≤◌}
 use mathlib.Core.Path.{◌≡◌, refl, sym, ap, ◌∙◌}
 use mathlib.Core.Logic.{⊎_elim}
-use mathlib.Core.List.{List}
+use mathlib.Core.Bool.{◌&&◌, ◌||◌}
+use mathlib.Core.List.{List, [], ◌∷◌}
 use native.Mathlib.Omega.{arith}
 use borrow.Author.Tests.{le-leb, leb-true}
-use lib.Dec.{leb}
+use lib.Dec.{leb, eqb}
 use lib.ListN.{length, replicate, length-replicate}
 use Rattle.wire.specs.Answer.{Answer, done, refused_at, answer_of, bytes_after, Kept}
 use Rattle.wire.specs.Number.{Bytes}
 use Rattle.wire.specs.Over.{over}
 use Rattle.wire.specs.Writing.{writing}
-use Rattle.wire.specs.declared.Wrote.TheVariants as W
 use Rattle.wire.proofs.Cases.{done_value, passed}
 use Rattle.wire.proofs.Writes.{refused_why}
-use Rattle.typed.specs.Typed.{most_typed, read_typed, typed_of, write_typed, told}
-use Rattle.typed.specs.declared.TypedRead.{TypedRead}
-use Rattle.typed.specs.declared.TypedRead.TheVariants.{Done, Refused}
+use Rattle.wire.specs.Reading.{told_at}
+use Rattle.wire.specs.Every.{every}
+use Rattle.wire.proofs.Placeless.{HasName, name_placeless, name_choose, name_then, names}
+use Rattle.text.specs.Text.{read_text, zbase32}
+use Rattle.promises.proofs.Answered.{can_tell_at, kept_named}
+use Rattle.promises.proofs.Texts.{text_placeless}
+use Rattle.typed.specs.Typed.{most_typed, most_lines, read_typed, joined_from, lines_of, counts_right, plain, right, feed, is_letter, typed_of, write_typed}
 use Rattle.typed.proofs.Round.{read_written, written_read, read_short}
 use Rattle.typed.proofs.Slips as S
 use Rattle.typed.proofs.read as typed-read
@@ -31,10 +35,23 @@ use Rattle.promises.proofs.Links.Typed.{typed_read_link, typed_write_link}
 abbrev LinesForm : List ℕ → List ℕ → Type 0
 LinesForm v s = Bytes v × (length v ≤ most_typed) × (s ≡ typed_of v)
 
--- every answer has its case
-case_of : (a : Answer ℕ) → (r : TypedRead) × (told r ≡ a)
-case_of (done n) = (Done n, refl)
-case_of (refused_at e k) = (Refused e k, refl)
+-- whatever is refused has a name
+joined_named : (n : ℕ) (ls : List (List ℕ)) → HasName (joined_from n ls)
+unfolding joined_from
+joined_named n [] = search names
+joined_named n (l ∷ more) = name_choose (right n l) _ _ (name_then (joined_from (suc n) more) _ (joined_named (suc n) more) (λ rest. search names)) (search names)
+
+lines_named : (cs : List ℕ) → HasName (read_typed cs)
+unfolding read_typed
+lines_named cs =
+    name_choose (every (λ c. eqb c feed || is_letter c) (plain cs)) _ _
+    (name_choose (leb (length (lines_of cs)) most_lines && counts_right (lines_of cs)) _ _
+    (name_then (joined_from 1 (lines_of cs)) (read_text zbase32) (joined_named 1 (lines_of cs)) (λ d. name_placeless _ (text_placeless zbase32 d)))
+    (search names)) (search names)
+
+writing_named : (out cs : List ℕ) → HasName (writing 0 out (read_typed cs))
+unfolding writing
+writing_named out cs = name_then (read_typed cs) _ (lines_named cs) (λ d. search names)
 
 -- what was read stands in front of the output; where it is refused, so is the call
 lines_said : (s out x : List ℕ) → most_typed ≤ length out → (a : Answer ℕ) → Kept (writing 0 out (read_typed s)) out x a → text_said a x ≡ read_typed s
@@ -46,9 +63,9 @@ lines_said s out x h (refused_at n k) w =
 lines_called : (s out : List ℕ) → (x : List ℕ) × (r : Answer ℕ) × LinesCall s out x r
 lines_called s out =
     let d = writing 0 out (read_typed s) in
-    let c = case_of (answer_of d) in
+    let c = can_tell_at (answer_of d) (kept_named d (writing_named out s)) in
     let x : List ℕ = bytes_after out d in
-    (x, told c.0, (second_lent typed-read.Kinds.r typed-read.Reads.Learnt s out x c.0 (record { answer = c.1; bytes = refl }), refl, refl, refl, refl))
+    (x, told_at c.0, (second_lent typed-read.Kinds.r typed-read.Reads.Learnt s out x c.0 (record { answer = c.1; bytes = refl }), refl, refl, refl, refl))
 
 few_written : (v : List ℕ) → length v ≤ most_typed → write_typed v ≡ done (typed_of v)
 unfolding write_typed
