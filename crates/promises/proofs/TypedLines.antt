@@ -14,6 +14,7 @@ use Rattle.wire.specs.Over.{over}
 use Rattle.wire.specs.Writing.{writing}
 use Rattle.wire.proofs.Cases.{done_value, passed}
 use Rattle.wire.proofs.Writes.{refused_why}
+use Rattle.std.specs.Prelude.{Ok}
 use Rattle.wire.specs.Reading.{told_at}
 use Rattle.wire.specs.Every.{every}
 use Rattle.wire.proofs.Placeless.{HasName, name_placeless, name_choose, name_then, names}
@@ -91,7 +92,7 @@ lines_ruled = record {
       (u.0, (y, f.0, f.1), u.2);
   write = λ v s (y, h, e) out l.
       let t : List ℕ = typed_of v in
-      rw e (y, (second_lent typed-write.Kinds.r typed-write.Reads.Learnt v out (over 0 t out) (W.Done (length t)) (can_write (write_typed v) t out (few_written v h) (rw e at l)), refl, refl, refl, refl));
+      rw e (y, (second_lent typed-write.Kinds.r typed-write.Reads.Learnt v out (over 0 t out) (Ok (length t)) (can_write (write_typed v) t out (few_written v h) (rw e at l)), refl, refl, refl, refl));
 }
 
 pub lines_exact : Exact typed_lines
