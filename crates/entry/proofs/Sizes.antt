@@ -22,7 +22,7 @@ use Rattle.entry.specs.declared.File.{File}
 pub part_length : (pool : List ℕ) (p : Span) → p.start + p.len ≤ length pool → length (part_at pool p) ≡ p.len
 part_length pool p h = length-take-le p.len (drop p.start pool) (omega (arith, length-drop p.start pool))
 
-integer_length : (negative : Bool) (n : ℕ) → length (integer_of negative n) ≡ head_size n
+pub integer_length : (negative : Bool) (n : ℕ) → length (integer_of negative n) ≡ head_size n
 unfolding integer_of
 integer_length true n = length_head 1 n
 integer_length false n = length_head 0 n

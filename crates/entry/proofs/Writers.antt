@@ -169,13 +169,26 @@ module _ (pool prev : List ℕ) (f : File) (e : Bool) (q : e ≡ path_in pool pr
 
 -- ---- what an answer says of its verdict
 
-pub done_verdict : (v : Answer (List ℕ)) (j : Result ℕ Refusal) (n : ℕ) → told j ≡ outcome v → j ≡ Ok n → (bs : List ℕ) × (v ≡ done bs) × (length bs ≡ n)
-done_verdict (done bs) j n e k = (bs, refl, sym (done_value (ap told (sym k) ∙ e)))
-done_verdict (refused_at f place) j n e k = not_done (sym (ap told (sym k) ∙ e))
+module _ (v : Answer (List ℕ)) where
+  pub outcome_done : (n : ℕ) → done n ≡ outcome v → (bs : List ℕ) × (v ≡ done bs) × (length bs ≡ n)
+  outcome_done n = go v
+    where
+      go : (v : Answer (List ℕ)) → done n ≡ outcome v → (bs : List ℕ) × (v ≡ done bs) × (length bs ≡ n)
+      go (done bs) e = (bs, refl, sym (done_value e))
+      go (refused_at f place) e = not_done (sym e)
 
-pub refused_verdict : (v : Answer (List ℕ)) (j : Result ℕ Refusal) (w : Refusal) → told j ≡ outcome v → j ≡ Err w → v ≡ refused (number w)
-refused_verdict (done bs) j w e k = not_done (ap told (sym k) ∙ e)
-refused_verdict (refused_at f place) j w e k = let h : refused {A = ℕ} (number w) ≡ refused_at f place = ap told (sym k) ∙ e in cc
+  pub outcome_refused : (w k : ℕ) → refused_at w k ≡ outcome v → v ≡ refused_at w k
+  outcome_refused w k = go v
+    where
+      go : (v : Answer (List ℕ)) → refused_at w k ≡ outcome v → v ≡ refused_at w k
+      go (done bs) e = not_done e
+      go (refused_at f place) e = cc
+
+  done_verdict : (j : Result ℕ Refusal) (n : ℕ) → told j ≡ outcome v → j ≡ Ok n → (bs : List ℕ) × (v ≡ done bs) × (length bs ≡ n)
+  done_verdict j n e k = outcome_done n (ap told (sym k) ∙ e)
+
+  refused_verdict : (j : Result ℕ Refusal) (w : Refusal) → told j ≡ outcome v → j ≡ Err w → v ≡ refused (number w)
+  refused_verdict j w e k = outcome_refused (number w) 0 (ap told (sym k) ∙ e)
 
 -- ---- `file`
 

@@ -39,9 +39,8 @@ module _ (c : List ℕ) (t : ℕ) where
   behind_more k i m = sym (drop-drop m i (joined (read_pages k (t - k) c)))
 
 -- d is the data that the block of index k says
-module _ (c : List ℕ) (k at : ℕ) (d : List ℕ) (place : at ≡ 512 + 512 * k) (said : d ≡ data_of (read_slot (block_at at c))) where
-  pub page_said : d ≡ data_at c k
-  page_said = said ∙ rw place
+pub page_said : (c : List ℕ) (k at : ℕ) (d : List ℕ) → at ≡ 512 + 512 * k → d ≡ data_of (read_slot (block_at at c)) → d ≡ data_at c k
+page_said c k at d place said = said ∙ rw place
 
 -- ---- their length
 
@@ -55,9 +54,9 @@ module _ (c : List ℕ) (t : ℕ) where
   pub sized_none : Sized c t 0 0
   sized_none = record { most = omega arith; few = omega arith; whole = omega (arith, ap length (behind_all c t)) }
 
-  pub sized_on : (k n at : ℕ) (d : List ℕ) → k < t → at ≡ 512 + 512 * k → d ≡ data_of (read_slot (block_at at c)) → Sized c t k n → Sized c t (k + 1) (n + length d)
-  sized_on k n at d h place said s =
-      let e : length d ≡ length (data_at c k) = ap length (page_said c k at d place said) in
+  pub sized_on : (k n : ℕ) (d : List ℕ) → k < t → d ≡ data_at c k → Sized c t k n → Sized c t (k + 1) (n + length d)
+  sized_on k n d h said s =
+      let e : length d ≡ length (data_at c k) = ap length said in
       record {
         most = omega arith;
         few = omega (arith, s.few, read_fits (page_at k c));
@@ -114,10 +113,9 @@ module _ (c : List ℕ) (t : ℕ) (l : List ℕ) where
   pub gathering_none : Gathering 0 0 l
   gathering_none = (omega arith, rw (behind_all c t) (pouring_none (joined (read_pages 0 t c)) l))
 
-  pub gathering_on : (k n at : ℕ) (d x y : List ℕ) → length (joined (read_pages 0 t c)) ≤ length l → k < t → at ≡ 512 + 512 * k → d ≡ data_of (read_slot (block_at at c))
+  pub gathering_on : (k n : ℕ) (d x y : List ℕ) → length (joined (read_pages 0 t c)) ≤ length l → k < t → d ≡ data_at c k
       → y ≡ over n d x → Gathering k n x → Gathering (k + 1) (n + length d) y
-  gathering_on k n at d x y room h place said o (few, g) =
-      let here : d ≡ data_at c k = page_said c k at d place said in
+  gathering_on k n d x y room h here o (few, g) =
       let turn : behind c t k 0 ≡ d ++ behind c t (k + 1) 0 = behind_turn c t k 0 h (omega arith) ∙ rw (← here) in
       let fits : n + length d ≤ length l = omega (arith, pouring_length _ l x n _ g, ap length turn ∙ length-append d (behind c t (k + 1) 0)) in
       (omega (arith, ap length here, read_fits (page_at k c)), pouring_on _ l x n _ g d y _ turn o fits)

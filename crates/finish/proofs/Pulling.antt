@@ -2,7 +2,7 @@
 use mathlib.Core.Path.{◌≡◌, sym, ap, ◌∙◌}
 use mathlib.Core.Bool.{true, false}
 use mathlib.Core.List.{List, [], ◌++◌}
-use Prim.Native.Nat.{ℕ, ◌+◌, ◌*◌, ◌-◌, ◌≤◌, ◌<◌, min}
+use Prim.Native.Nat.{ℕ, ◌+◌, ◌-◌, ◌≤◌, ◌<◌, min}
 use native.Mathlib.Omega.{arith}
 use lib.ListN.{length, take, drop, replicate, length-take, length-drop, length-replicate, take-append-drop, drop_of_length-le, replicate-append-replicate}
 use lib.Seq.{take_all, take-append-le, length-take-le}
@@ -11,13 +11,11 @@ use Rattle.wire.proofs.Overs.{over_all, over_front}
 use Rattle.blake2b.specs.Blake2b.{words, start, F, digest, blake2b}
 use Rattle.blake2b.proofs.Pieces.{Hashing, hashing_start, hashing_left, hashing_block, hashing_last}
 use Rattle.document_id.specs.Id.{id_from, document_id_of}
-use Rattle.model.specs.Book.{data_of}
 use Rattle.model.specs.Finish.{joined}
-use Rattle.block.specs.Read.{block_at, read_slot}
 use Rattle.block.proofs.Reading.{read_fits}
 use Rattle.book.specs.Read.{page_at, read_pages}
 use Rattle.finish.specs.Private.{data_at, behind, Pulls}
-use Rattle.finish.proofs.Gathering.{behind_all, behind_none, behind_turn, behind_more, page_said, Pouring, pouring_none, pouring_on, pouring_length, pouring_stands, pouring_left, pouring_end}
+use Rattle.finish.proofs.Gathering.{behind_all, behind_none, behind_turn, behind_more, Pouring, pouring_none, pouring_on, pouring_length, pouring_stands, pouring_left, pouring_end}
 
 -- ---- one block
 
@@ -52,11 +50,7 @@ module _ (c : List ℕ) (t k₀ i₀ : ℕ) (l : List ℕ) (pre : (length l ≡ 
 
     -- the block of index k has the data d, and as many of them are taken as there is room for:
     -- those before e
-    module _ (h : k < t) (at : ℕ) (d : List ℕ) (place : at ≡ 512 + 512 * k) (said : d ≡ data_of (read_slot (block_at at c)))
-        (e : ℕ) (end : e ≡ min (i + (128 - n)) (length d)) where
-      here : d ≡ data_at c k
-      here = page_said c k at d place said
-
+    module _ (h : k < t) (d : List ℕ) (here : d ≡ data_at c k) (e : ℕ) (end : e ≡ min (i + (128 - n)) (length d)) where
       pub pulling_inside : i ≤ e
       pulling_inside = omega (arith, p.inside, ap length here)
 

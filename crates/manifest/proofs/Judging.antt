@@ -4,20 +4,18 @@ use mathlib.Core.Path.{◌≡◌, refl, sym, ap, ap₂, ◌∙◌}
 use mathlib.Core.List.{List, [], ◌∷◌, ◌++◌, append_assoc, append-nil, map}
 use native.Mathlib.Numerals.{add-one}
 use native.Mathlib.Omega.{arith}
-use lib.ListN.{length, take, drop, get_or, length-append, drop_of_length-le}
-use lib.Seq.{drop-cons, get_or-take, length-take-le}
+use lib.ListN.{length, take, drop, get_or, length-append, length-take, drop_of_length-le}
+use lib.Seq.{drop-cons}
 use mir.Syntax.{w64}
 use mir.Val.{Fits}
 use Rattle.wire.specs.Answer.{Answer, done, refused_at, then}
-use Rattle.wire.specs.Writing.{told, outcome}
-use Rattle.wire.specs.declared.Wrote.{Wrote}
-use Rattle.wire.specs.declared.Wrote.TheVariants.{Done, Refused}
+use Rattle.wire.specs.Writing.{outcome}
 use Rattle.wire.proofs.Cases.{done_value, then_done}
 use Rattle.wire.specs.declared.Span.{Span}
 use Rattle.wire.specs.Span.{part_at}
 use Rattle.entry.specs.Writing.{entry_in, file_of, file_verdict}
 use Rattle.entry.specs.declared.File.{File}
-use Rattle.entry.proofs.Writers.{Good, verdict_good, good_verdict, good_length, done_verdict, refused_verdict}
+use Rattle.entry.proofs.Writers.{Good, verdict_good, good_verdict, good_length, outcome_done, outcome_refused}
 use Rattle.manifest.specs.Writing.{entries_of, files_verdict}
 
 -- ---- the files that may be written
@@ -75,71 +73,66 @@ behind_one front b (done bs) = ap done (sym (append_assoc front b bs))
 behind_one front b (refused_at e place) = refl
 
 -- the file at an index is the first of those that are left
-pub file_next : (files : List File) (count i : ℕ) (d : File) → count ≤ length files → i < count
-    → drop i (take count files) ≡ get_or files i d ∷ drop (i + 1) (take count files)
-file_next files count i d h l =
-    let n = length-take-le count files h in
-    drop-cons (take count files) i d (omega arith)
-    ∙ ap₂ (λ (x : File) (j : ℕ). x ∷ drop j (take count files)) (get_or-take count files i d l) (sym (add-one i))
+pub file_next : (fs : List File) (i : ℕ) (d : File) → i < length fs → drop i fs ≡ get_or fs i d ∷ drop (i + 1) fs
+file_next fs i d l = rw (add-one, drop-cons fs i d l)
 
 -- after i files: the rest of the judgement is the whole of it
-pub record Judging (pool : List ℕ) (files : List File) (count i sum : ℕ) (last : Span) : Type 0 where
-  pub most : i ≤ count
+pub record Judging (pool : List ℕ) (fs : List File) (i sum : ℕ) (last : Span) : Type 0 where
   pub front : List ℕ
   pub many : sum ≡ length front
   pub small : sum ≤ 300 * i
-  pub whole : files_verdict pool [] (take count files) ≡ behind front (files_verdict pool (part_at pool last) (drop i (take count files)))
+  pub whole : files_verdict pool [] fs ≡ behind front (files_verdict pool (part_at pool last) (drop i fs))
 
-pub judge_none : (pool : List ℕ) (files : List File) (count : ℕ) → Judging pool files count 0 0 (record { start = 0; len = 0 })
-judge_none pool files count =
-    record { most = omega arith; front = []; many = refl; small = omega arith; whole = behind_none (files_verdict pool [] (take count files)) }
+pub taken_few : (n : ℕ) (fs : List File) → n ≤ 64 → length (take n fs) ≤ 64
+taken_few n fs h = simp length-take (omega arith)
 
-module _ (pool : List ℕ) (files : List File) (count i sum : ℕ) (last : Span) (h : Judging pool files count i sum last) (array : length files ≡ 64) (few : count ≤ 64) where
-  pub judge_end : count ≤ i → done sum ≡ outcome (files_verdict pool [] (take count files))
+pub judge_none : (pool : List ℕ) (fs : List File) → Judging pool fs 0 0 (record { start = 0; len = 0 })
+judge_none pool fs =
+    record { front = []; many = refl; small = omega arith; whole = behind_none (files_verdict pool [] fs) }
+
+module _ (pool : List ℕ) (fs : List File) (i sum : ℕ) (last : Span) (h : Judging pool fs i sum last) where
+  pub judge_end : length fs ≤ i → done sum ≡ outcome (files_verdict pool [] fs)
   unfolding files_verdict
   judge_end l =
-      let n = length-take-le count files (omega arith) in
-      let z : drop i (take count files) ≡ [] = drop_of_length-le (take count files) {i = i} (omega arith) in
-      let w : files_verdict pool [] (take count files) ≡ done (h.front ++ []) =
-      h.whole ∙ ap (λ (fs : List File). behind h.front (files_verdict pool (part_at pool last) fs)) z in
+      let z : drop i fs ≡ [] = drop_of_length-le fs {i = i} l in
+      let w : files_verdict pool [] fs ≡ done (h.front ++ []) =
+      h.whole ∙ ap (λ (gs : List File). behind h.front (files_verdict pool (part_at pool last) gs)) z in
       ap done h.many ∙ ap (λ (bs : List ℕ). done (length bs)) (sym (append-nil h.front)) ∙ ap outcome (sym w)
 
-  module _ (l : i < count) (d : File) (prev : List ℕ) (p : prev ≡ part_at pool last) (j : Wrote) (e : told j ≡ outcome (file_verdict pool prev (get_or files i d))) where
+  module _ (l : i < length fs) (d : File) (prev : List ℕ) (p : prev ≡ part_at pool last) where
     abbrev f : File
-    f = get_or files i d
+    f = get_or fs i d
 
     abbrev left : Answer (List ℕ)
-    left = files_verdict pool (part_at pool f.path) (drop (i + 1) (take count files))
+    left = files_verdict pool (part_at pool f.path) (drop (i + 1) fs)
 
-    one_more : files_verdict pool [] (take count files) ≡ behind h.front (then (file_verdict pool prev f) (λ b. then left (λ bs. done (b ++ bs))))
+    one_more : files_verdict pool [] fs ≡ behind h.front (then (file_verdict pool prev f) (λ b. then left (λ bs. done (b ++ bs))))
     unfolding files_verdict
     one_more =
         h.whole
-        ∙ ap (λ (fs : List File). behind h.front (files_verdict pool (part_at pool last) fs)) (file_next files count i d (omega arith) l)
+        ∙ ap (λ (gs : List File). behind h.front (files_verdict pool (part_at pool last) gs)) (file_next fs i d l)
         ∙ ap (λ (q : List ℕ). behind h.front (then (file_verdict pool q f) (λ b. then left (λ bs. done (b ++ bs))))) (sym p)
 
-    pub judge_no : (x : ℕ) → j ≡ Refused x → told j ≡ outcome (files_verdict pool [] (take count files))
-    judge_no x k =
-        let v = refused_verdict (file_verdict pool prev f) j x e k in
-        ap told k
-        ∙ ap outcome (sym (one_more ∙ ap (λ (y : Answer (List ℕ)). behind h.front (then y (λ b. then left (λ bs. done (b ++ bs))))) v))
+    pub judge_no : (e k : ℕ) → refused_at e k ≡ outcome (file_verdict pool prev f) → refused_at e k ≡ outcome (files_verdict pool [] fs)
+    judge_no e k x =
+        let v = outcome_refused (file_verdict pool prev f) e k x in
+        ap outcome (sym (one_more ∙ ap (λ (y : Answer (List ℕ)). behind h.front (then y (λ b. then left (λ bs. done (b ++ bs))))) v))
 
-    module _ (n : ℕ) (k : j ≡ Done n) where
+    module _ (n : ℕ) (k : done n ≡ outcome (file_verdict pool prev f)) where
       part_small : n ≤ 300
       part_small =
-          let v = done_verdict (file_verdict pool prev f) j n e k in
+          let v = outcome_done (file_verdict pool prev f) n k in
           let g = verdict_good pool prev f v.1 in
           let m = good_length pool prev f g.0 in
           omega (arith, v.2, ap length g.1, m.0, m.1)
 
-      pub sum_fits : Fits w64 (sum + n)
-      sum_fits = record { fits = omega (arith, part_small, h.small) }
+      pub sum_fits : length fs ≤ 64 → Fits w64 (sum + n)
+      sum_fits few = record { fits = omega (arith, part_small, h.small) }
 
-      pub judge_more : Judging pool files count (i + 1) (sum + n) (get_or files i d).path
+      pub judge_more : Judging pool fs (i + 1) (sum + n) f.path
       judge_more =
-          let v = done_verdict (file_verdict pool prev f) j n e k in
+          let v = outcome_done (file_verdict pool prev f) n k in
           record {
-            most = omega arith;
             front = h.front ++ v.0;
             many = omega (arith, h.many, v.2, length-append h.front v.0);
             small = omega (arith, part_small, h.small);

@@ -6,11 +6,15 @@ use mathlib.Core.List.{List, [], ◌∷◌, ◌++◌, append_assoc, map}
 use native.Mathlib.Omega.{arith}
 use lib.ListN.{length, take, drop, get_or, length-append, drop_of_length-le, length-map}
 use lib.Seq.{length-take-le}
-use Rattle.wire.specs.Answer.{choose, Answer, done}
+use Rattle.std.specs.Prelude.{Option, Some, None, Result, Ok, Err}
+use Rattle.std.specs.Result.{IsErr, IsErrAnd}
+use Rattle.wire.specs.Answer.{choose, Answer, done, refused}
 use Rattle.wire.specs.Over.{over}
-use Rattle.wire.specs.Writing.{told, outcome, Written}
-use Rattle.wire.specs.declared.Wrote.{Wrote}
-use Rattle.wire.specs.declared.Wrote.TheVariants.{Done, Refused}
+use Rattle.wire.specs.Writing.{outcome, Written}
+use Rattle.wire.specs.Refusal.{number}
+use Rattle.wire.specs.declared.Refusal.{Refusal}
+use Rattle.wire.specs.declared.Refusal.TheVariants.{NoRoom}
+use Rattle.wire.proofs.Answers.{err_is}
 use Rattle.wire.proofs.Overs.{over_none}
 use Rattle.wire.proofs.Cases.{done_value, then_done}
 use Rattle.wire.proofs.Writes.{written, no_room, denied}
@@ -22,11 +26,10 @@ use Rattle.cbor.specs.Put.{Put}
 use Rattle.cbor.proofs.Runs.{Left, left_all, left_on, left_last, put_fits}
 use Rattle.entry.specs.Writing.{entry_in, integer_of, file_verdict, form_of}
 use Rattle.entry.specs.declared.File.{File}
-use Rattle.entry.proofs.Writers.{done_verdict, refused_verdict}
+use Rattle.entry.specs.declared.Integer.{Integer}
+use Rattle.entry.proofs.Writers.{outcome_done, outcome_refused}
 use Rattle.manifest.specs.Writing.{seed_in, said_in, secret_of, entries_of, created_of, said_of, manifest_of, files_verdict, listed, manifest_verdict}
 use Rattle.manifest.specs.Private.{seed_field_of, created_field_of, opening_of, closing_of, Room, Ready}
-use Rattle.manifest.specs.declared.Seed.{Seed}
-use Rattle.manifest.specs.declared.Seed.TheVariants as seed
 use Rattle.manifest.specs.declared.Created.{Created}
 use Rattle.manifest.specs.declared.Created.TheVariants as created
 use Rattle.manifest.specs.declared.Manifest.{Manifest}
@@ -36,60 +39,57 @@ use Rattle.manifest.proofs.Lengths.{Fit, verdict_fit}
 -- ---- the loop
 
 -- after i files: those that are left are judged, and still to be written at p
-pub record Laying (pool : List ℕ) (files : List File) (count at : ℕ) (x y : List ℕ) (i p : ℕ) (last : Span) : Type 0 where
-  pub most : i ≤ count
+pub record Laying (pool : List ℕ) (fs : List File) (at : ℕ) (x y : List ℕ) (i p : ℕ) (last : Span) : Type 0 where
   pub rest : List ℕ
-  pub judged : files_verdict pool (part_at pool last) (drop i (take count files)) ≡ done rest
-  pub left : Left at (form_of (files_verdict pool [] (take count files))) x y p rest
+  pub judged : files_verdict pool (part_at pool last) (drop i fs) ≡ done rest
+  pub left : Left at (form_of (files_verdict pool [] fs)) x y p rest
 
 pub lay_none : (pool : List ℕ) (m : Manifest) (at : ℕ) (x : List ℕ) → Room pool m at x (form_of (files_verdict pool [] (take m.count m.files)))
-    → Laying pool m.files m.count at x x 0 at (record { start = 0; len = 0 })
+    → Laying pool (take m.count m.files) at x x 0 at (record { start = 0; len = 0 })
 lay_none pool m at x r =
     record {
-      most = omega arith;
       rest = form_of (files_verdict pool [] (take m.count m.files));
       judged = r.judged;
       left = left_all at (form_of (files_verdict pool [] (take m.count m.files))) x r.room;
     }
 
-module _ (pool : List ℕ) (files : List File) (count at : ℕ) (x y : List ℕ) (i p : ℕ) (last : Span) (h : Laying pool files count at x y i p last) (array : length files ≡ 64) (few : count ≤ 64) where
-  pub lay_end : at + length (form_of (files_verdict pool [] (take count files))) ≤ length x → count ≤ i → Put at (form_of (files_verdict pool [] (take count files))) x y p
+module _ (pool : List ℕ) (fs : List File) (at : ℕ) (x y : List ℕ) (i p : ℕ) (last : Span) (h : Laying pool fs at x y i p last) where
+  pub lay_end : at + length (form_of (files_verdict pool [] fs)) ≤ length x → length fs ≤ i → Put at (form_of (files_verdict pool [] fs)) x y p
   unfolding files_verdict
   lay_end room l =
-      let n = length-take-le count files (omega arith) in
-      let z : drop i (take count files) ≡ [] = drop_of_length-le (take count files) {i = i} (omega arith) in
+      let z : drop i fs ≡ [] = drop_of_length-le fs {i = i} l in
       let r : h.rest ≡ [] = sym (done_value (ap (files_verdict pool (part_at pool last)) (sym z) ∙ h.judged)) in
-      let q : Left at (form_of (files_verdict pool [] (take count files))) x y p [] = subst (λ (r : List ℕ). Left at (form_of (files_verdict pool [] (take count files))) x y p r) r h.left in
-      put_fits at (form_of (files_verdict pool [] (take count files))) x y p room (sym (over_none p y) ∙ q.whole) (omega (arith, q.ends))
+      let q : Left at (form_of (files_verdict pool [] fs)) x y p [] = subst (λ (r : List ℕ). Left at (form_of (files_verdict pool [] fs)) x y p r) r h.left in
+      put_fits at (form_of (files_verdict pool [] fs)) x y p room (sym (over_none p y) ∙ q.whole) (omega (arith, q.ends))
 
   pub lay_same : length y ≡ length x
   lay_same = h.left.same
 
-  pub lay_more : i < count → (d : File) (prev : List ℕ) → prev ≡ part_at pool last → (z : List ℕ) (q : ℕ) → Put p (form_of (file_verdict pool prev (get_or files i d))) y z q
-      → Laying pool files count at x z (i + 1) q (get_or files i d).path
+  pub lay_more : i < length fs → (d : File) (prev : List ℕ) → prev ≡ part_at pool last → (z : List ℕ) (q : ℕ) → Put p (form_of (file_verdict pool prev (get_or fs i d))) y z q
+      → Laying pool fs at x z (i + 1) q (get_or fs i d).path
   unfolding files_verdict form_of
   lay_more l d prev e z q w =
-      let f : File = get_or files i d in
-      let v = ap (files_verdict pool (part_at pool last)) (sym (file_next files count i d (omega arith) l)) ∙ h.judged in
+      let f : File = get_or fs i d in
+      let v = ap (files_verdict pool (part_at pool last)) (sym (file_next fs i d l)) ∙ h.judged in
       let a = then_done (file_verdict pool (part_at pool last) f) _ v in
-      let b = then_done (files_verdict pool (part_at pool f.path) (drop (i + 1) (take count files))) _ a.2 in
+      let b = then_done (files_verdict pool (part_at pool f.path) (drop (i + 1) fs)) _ a.2 in
       let r : h.rest ≡ a.0 ++ b.0 = sym (done_value b.2) in
       let u : Put p a.0 y z q = subst (λ (v : Answer (List ℕ)). Put p (form_of v) y z q) (ap (λ (k : List ℕ). file_verdict pool k f) e ∙ a.1) w in
-      let t : Left at (form_of (files_verdict pool [] (take count files))) x y p (a.0 ++ b.0) = subst (λ (r : List ℕ). Left at (form_of (files_verdict pool [] (take count files))) x y p r) r h.left in
-      record { most = omega arith; rest = b.0; judged = b.1; left = left_on t u }
+      let t : Left at (form_of (files_verdict pool [] fs)) x y p (a.0 ++ b.0) = subst (λ (r : List ℕ). Left at (form_of (files_verdict pool [] fs)) x y p r) r h.left in
+      record { rest = b.0; judged = b.1; left = left_on t u }
 
 -- ---- a key and its value
 
-module _ (pool : List ℕ) (v : Seed) (at : ℕ) (x : List ℕ) (l : at + length (seed_field_of pool v) ≤ length x) (a : ℕ) (y : List ℕ) (w : Put at (string_of 3 (ascii "seed")) x y a) (z : List ℕ) (r : ℕ) where
+module _ (pool : List ℕ) (v : Option Span) (at : ℕ) (x : List ℕ) (l : at + length (seed_field_of pool v) ≤ length x) (a : ℕ) (y : List ℕ) (w : Put at (string_of 3 (ascii "seed")) x y a) (z : List ℕ) (r : ℕ) where
   seed_run : Put a (secret_of (seed_in pool v)) y z r → Put at (seed_field_of pool v) x z r
   unfolding seed_field_of
   seed_run u = left_last l (left_on (left_all at (string_of 3 (ascii "seed") ++ secret_of (seed_in pool v)) x l) w) u
 
-  pub null_run : v ≡ seed.Null → Put a (0xF6 ∷ []) y z r → Put at (seed_field_of pool v) x z r
+  pub null_run : v ≡ None → Put a (0xF6 ∷ []) y z r → Put at (seed_field_of pool v) x z r
   unfolding secret_of seed_in
   null_run e u = seed_run (rw e u)
 
-  pub bytes_run : (span : Span) (bs : List ℕ) → v ≡ seed.Bytes span → bs ≡ part_at pool span → Put a (string_of 2 bs) y z r → Put at (seed_field_of pool v) x z r
+  pub bytes_run : (span : Span) (bs : List ℕ) → v ≡ Some span → bs ≡ part_at pool span → Put a (string_of 2 bs) y z r → Put at (seed_field_of pool v) x z r
   unfolding secret_of seed_in
   bytes_run span bs e p u = seed_run (rw (e, ← p) u)
 
@@ -98,9 +98,9 @@ module _ (v : Created) (at : ℕ) (x : List ℕ) (l : at + length (created_field
   unfolding created_field_of
   created_run u = left_last l (left_on (left_all at (string_of 3 (ascii "created") ++ created_of v) x l) w) u
 
-  pub integer_run : (negative : Bool) (n : ℕ) → v ≡ created.Integer negative n → Put a (integer_of negative n) y z r → Put at (created_field_of v) x z r
+  pub integer_run : (i : Integer) → v ≡ created.Integer i → Put a (integer_of i.negative i.n) y z r → Put at (created_field_of v) x z r
   unfolding created_of
-  integer_run negative n e u = created_run (rw e u)
+  integer_run i e u = created_run (rw e u)
 
   pub double_run : (bits : ℕ) → v ≡ created.Double bits → Put a (float_of bits) y z r → Put at (created_field_of v) x z r
   unfolding created_of
@@ -188,22 +188,22 @@ module _ (pool : List ℕ) (m : Manifest) (x : List ℕ) (h : Ready pool m x) wh
 
 -- ---- `write`
 
-module _ (v : Answer (List ℕ)) (j : Wrote) (e : told j ≡ outcome v) (x : List ℕ) where
-  pub write_refused : (n : ℕ) → j ≡ Refused n → Written 0 v x x j
-  write_refused n k = rw (refused_verdict v j n e k, k) (denied 0 x n)
+module _ (v : Answer (List ℕ)) (x : List ℕ) where
+  pub write_refused : (r : Result ℕ Refusal) (w : Refusal) → IsErr r × IsErrAnd r (λ x. x ≡ w) → refused (number w) ≡ outcome v → Written 0 v x x r
+  write_refused r w h e = rw (err_is r w h, outcome_refused v (number w) 0 e) (denied 0 x w)
 
-  pub write_short : (n : ℕ) → j ≡ Done n → length x < n → Written 0 v x x (Refused 11)
-  write_short n k l = let d = done_verdict v j n e k in rw d.1 (no_room 0 x d.0 (omega (arith, d.2)))
+  pub write_short : (n : ℕ) → done n ≡ outcome v → length x < n → Written 0 v x x (Err NoRoom)
+  write_short n e l = let d = outcome_done v n e in rw d.1 (no_room 0 x d.0 (omega (arith, d.2)))
 
-module _ (pool : List ℕ) (m : Manifest) (j : Wrote) (e : told j ≡ outcome (manifest_verdict pool m)) (n : ℕ) (k : j ≡ Done n) (x : List ℕ) (l : n ≤ length x) where
+module _ (pool : List ℕ) (m : Manifest) (n : ℕ) (e : done n ≡ outcome (manifest_verdict pool m)) (x : List ℕ) (l : n ≤ length x) where
   judged : manifest_verdict pool m ≡ done (manifest_of pool (listed m))
-  judged = let d = done_verdict (manifest_verdict pool m) j n e k in d.1 ∙ ap done (verdict_fit pool m d.1).1
+  judged = let d = outcome_done (manifest_verdict pool m) n e in d.1 ∙ ap done (verdict_fit pool m d.1).1
 
   long : length (manifest_of pool (listed m)) ≡ n
-  long = let d = done_verdict (manifest_verdict pool m) j n e k in ap length (sym (verdict_fit pool m d.1).1) ∙ d.2
+  long = let d = outcome_done (manifest_verdict pool m) n e in ap length (sym (verdict_fit pool m d.1).1) ∙ d.2
 
   pub write_ready : length m.files ≡ 64 → Ready pool m x
   write_ready array = record { array = array; judged = judged; room = omega (arith, long) }
 
-  pub write_done : (z : List ℕ) → z ≡ over 0 (manifest_of pool (listed m)) x → Written 0 (manifest_verdict pool m) x z (Done n)
+  pub write_done : (z : List ℕ) → z ≡ over 0 (manifest_of pool (listed m)) x → Written 0 (manifest_verdict pool m) x z (Ok n)
   write_done z o = rw judged (written 0 x (manifest_of pool (listed m)) z n (omega (arith, long)) (sym long) o)

@@ -8,24 +8,21 @@ use borrow.Author.Tests.{leb-true, le-leb, lt-leb}
 use lib.Dec.{leb}
 use lib.ListN.{length, take, length-append, length-map}
 use lib.Seq.{length-take-le}
-use Rattle.wire.specs.Answer.{choose, Answer, done, refused, then}
-use Rattle.wire.specs.Writing.{told, outcome}
-use Rattle.wire.specs.declared.Wrote.{Wrote}
-use Rattle.wire.specs.declared.Wrote.TheVariants.{Done, Refused}
+use Rattle.wire.specs.Answer.{choose, Answer, done, refused_at, refused, then}
+use Rattle.wire.specs.Writing.{outcome}
 use Rattle.wire.proofs.Cases.{both_hold, said_yes, passed, done_value, then_done}
+use Rattle.std.specs.Prelude.{Option, Some, None}
+use Rattle.wire.specs.declared.Span.{Span}
 use Rattle.wire.specs.Span.{part_at}
 use Rattle.cbor.specs.Form.{head_of, head_size, string_of, number_field_of}
 use Rattle.wire.specs.Ascii.{ascii}
 use Rattle.cbor.proofs.Sizes.{length_head, length_string, length_number_field_one, size_one, size_two, size_most, float_most}
-use Rattle.entry.specs.Writing.{entry_in, integer_of}
-use Rattle.entry.specs.declared.File.{File}
-use Rattle.entry.proofs.Sizes.{part_length}
-use Rattle.entry.proofs.Writers.{digest_within, done_verdict, refused_verdict}
+use Rattle.entry.specs.Writing.{entry_in}
+use Rattle.entry.proofs.Sizes.{part_length, integer_length}
+use Rattle.entry.proofs.Writers.{digest_within, outcome_done, outcome_refused}
 use Rattle.manifest.specs.Manifest.{agrees}
 use Rattle.manifest.specs.Writing.{Said, seed_in, said_in, secret_of, entries_of, created_of, said_of, manifest_of, seed_allowed, files_verdict, created_allowed, listed, manifest_verdict}
 use Rattle.manifest.specs.Private.{seed_size, created_size}
-use Rattle.manifest.specs.declared.Seed.{Seed}
-use Rattle.manifest.specs.declared.Seed.TheVariants as seed
 use Rattle.manifest.specs.declared.Created.{Created}
 use Rattle.manifest.specs.declared.Created.TheVariants as created
 use Rattle.manifest.specs.declared.Manifest.{Manifest}
@@ -33,10 +30,10 @@ use Rattle.manifest.proofs.Judging.{AllGood, files_good, good_files, files_most}
 
 -- ---- lengths
 
-pub seed_length : (pool : List ℕ) (v : Seed) → seed_allowed pool v ≡ true → length (secret_of (seed_in pool v)) ≡ seed_size v
+pub seed_length : (pool : List ℕ) (v : Option Span) → seed_allowed pool v ≡ true → length (secret_of (seed_in pool v)) ≡ seed_size v
 unfolding seed_allowed seed_in secret_of seed_size
-seed_length pool seed.Null h = refl
-seed_length pool (seed.Bytes span) h =
+seed_length pool None h = refl
+seed_length pool (Some span) h =
     let d = digest_within pool span h in
     let l = part_length pool span d.0 ∙ d.1 in
     omega (arith, length_string 2 (part_at pool span), l, size_32 l)
@@ -44,20 +41,19 @@ seed_length pool (seed.Bytes span) h =
     size_32 : {n : ℕ} → n ≡ 32 → head_size n ≡ 2
     size_32 {n} e = size_two n (omega arith) (omega arith)
 
-pub seed_most : (v : Seed) → seed_size v ≤ 34
+pub seed_most : (v : Option Span) → seed_size v ≤ 34
 unfolding seed_size
-seed_most seed.Null = omega arith
-seed_most (seed.Bytes span) = omega arith
+seed_most None = omega arith
+seed_most (Some span) = omega arith
 
 pub created_length : (v : Created) → length (created_of v) ≡ created_size v
-unfolding created_of created_size integer_of
-created_length (created.Integer true n) = length_head 1 n
-created_length (created.Integer false n) = length_head 0 n
+unfolding created_of created_size
+created_length (created.Integer v) = integer_length v.negative v.n
 created_length (created.Double bits) = refl
 
 pub created_most : (v : Created) → created_size v ≤ 9
 unfolding created_size
-created_most (created.Integer negative n) = size_most n
+created_most (created.Integer v) = size_most v.n
 created_most (created.Double bits) = float_most bits
 
 said_length : (v : Said) → length (said_of v) ≡ 37 + length (secret_of v.seed) + head_size (length v.files) + length (entries_of v.files) + length (created_of v.created)
@@ -158,34 +154,33 @@ module _ (pool : List ℕ) (m : Manifest) where
 
 -- ---- `judge::whole`
 
-module _ (v : Answer (List ℕ)) (j : Wrote) (k : List ℕ → Answer (List ℕ)) (e : told j ≡ outcome v) where
+module _ (v : Answer (List ℕ)) (k : List ℕ → Answer (List ℕ)) where
   -- the files are refused
-  pub outcome_stop : (x : ℕ) → j ≡ Refused x → told j ≡ outcome (then v k)
-  outcome_stop x h = e ∙ ap outcome (refused_verdict v j x e h ∙ sym (ap (λ (w : Answer (List ℕ)). then w k) (refused_verdict v j x e h)))
+  pub outcome_stop : (w p : ℕ) → refused_at w p ≡ outcome v → refused_at w p ≡ outcome (then v k)
+  outcome_stop w p e = ap (λ (u : Answer (List ℕ)). outcome (then u k)) (sym (outcome_refused v w p e))
 
   -- they are not
-  pub outcome_on : (n : ℕ) (r : Answer ℕ) → j ≡ Done n → ((bs : List ℕ) → v ≡ done bs → length bs ≡ n → r ≡ outcome (k bs)) → r ≡ outcome (then v k)
-  outcome_on n r h f = let d = done_verdict v j n e h in f d.0 d.1 d.2 ∙ sym (ap (λ (w : Answer (List ℕ)). outcome (then w k)) d.1)
-
-pub list_small : (pool : List ℕ) (fs : List File) (j : Wrote) (n : ℕ) → told j ≡ outcome (files_verdict pool [] fs) → j ≡ Done n → length fs ≤ 64 → n ≤ 65536
-list_small pool fs j n e k l = let d = done_verdict (files_verdict pool [] fs) j n e k in omega (arith, d.2, files_most pool [] fs d.1)
+  pub outcome_on : (n : ℕ) (r : Answer ℕ) → done n ≡ outcome v → ((bs : List ℕ) → v ≡ done bs → length bs ≡ n → r ≡ outcome (k bs)) → r ≡ outcome (then v k)
+  outcome_on n r e f = let d = outcome_done v n e in f d.0 d.1 d.2 ∙ sym (ap (λ (w : Answer (List ℕ)). outcome (then w k)) d.1)
 
 module _ (pool : List ℕ) (m : Manifest) (array : length m.files ≡ 64) (a : Bool) (sa : a ≡ seed_allowed pool m.seed) (ya : not a ≡ false) (some : 1 ≤ m.count) (few : m.count ≤ 64)
-    (j : Wrote) (e : told j ≡ outcome (files_verdict pool [] (take m.count m.files))) (len : ℕ) (k : j ≡ Done len) where
+    (len : ℕ) (e : done len ≡ outcome (files_verdict pool [] (take m.count m.files))) where
   pub total_fits : len ≤ 65536
-  total_fits = list_small pool (take m.count m.files) j len e k (omega (arith, length-take-le m.count m.files (omega arith)))
+  total_fits =
+      let d = outcome_done (files_verdict pool [] (take m.count m.files)) len e in
+      omega (arith, d.2, files_most pool [] (take m.count m.files) d.1, length-take-le m.count m.files (omega arith))
 
   module _ (b : Bool) (sb : b ≡ agrees m.seed m.sealed) (yb : not b ≡ false) (t : Bool) (st : t ≡ created_allowed m.created) (yt : not t ≡ false)
       (n : ℕ) (sum : n ≡ 37 + seed_size m.seed + head_size m.count + len + created_size m.created) where
     pub long_whole : n ≡ length (manifest_of pool (listed m))
     long_whole =
-        let d = done_verdict (files_verdict pool [] (take m.count m.files)) j len e k in
+        let d = outcome_done (files_verdict pool [] (take m.count m.files)) len e in
         omega (arith, d.2, fit_length pool m array few (said_yes a _ sa ya) d.1)
 
     pub judge_large : 16384 < n → refused 9 ≡ outcome (manifest_verdict pool m)
     unfolding manifest_verdict listed
     judge_large l =
-        let d = done_verdict (files_verdict pool [] (take m.count m.files)) j len e k in
+        let d = outcome_done (files_verdict pool [] (take m.count m.files)) len e in
         rw (
           said_yes a _ sa ya,
           le-leb 1 m.count some,
@@ -198,7 +193,7 @@ module _ (pool : List ℕ) (m : Manifest) (array : length m.files ≡ 64) (a : B
 
     pub judge_whole : n ≤ 16384 → done n ≡ outcome (manifest_verdict pool m)
     judge_whole l =
-        let d = done_verdict (files_verdict pool [] (take m.count m.files)) j len e k in
+        let d = outcome_done (files_verdict pool [] (take m.count m.files)) len e in
         let f : Fit pool m =
         record {
           seeded = said_yes a _ sa ya;

@@ -7,19 +7,14 @@ use native.Mathlib.Nat.{sub-zero}
 use native.Mathlib.Omega.{arith}
 use lib.ListN.{length, set, replicate, length-append}
 use lib.Seq.{set_at}
-use Rattle.wire.specs.Answer.{done, refused_at, refused, number_of, then, Got, got}
+use Rattle.wire.specs.Answer.{done, refused_at, then, Got, got}
 use Rattle.wire.specs.declared.Span.{Span}
 use Rattle.wire.specs.Span.{part_at}
-use Rattle.wire.specs.declared.NumberRead.TheVariants as number
 use Rattle.entry.specs.File.{file_at}
-use Rattle.entry.specs.Answer.{file_told}
 use Rattle.entry.specs.declared.File.{File}
-use Rattle.entry.specs.declared.FileRead.{FileRead}
-use Rattle.entry.specs.declared.FileRead.TheVariants.{Value, Refused}
 use Rattle.manifest.specs.Manifest.{files_at}
 use Rattle.manifest.specs.Answer.{blank_file, padded}
 use Rattle.manifest.specs.Private.{files_answer}
-use Rattle.manifest.specs.declared.FilesRead.{FilesRead}
 
 -- one file more in the array
 pub padded_set : (fs : List File) (f : File) (i : ℕ) → length fs ≡ i → i < 64 → set (padded fs) i f ≡ padded (fs ++ (f ∷ []))
@@ -63,7 +58,7 @@ read_none s at count files e =
     }
 
 module _ (s : List ℕ) (at count : ℕ) (files : List File) (i p : ℕ) (last : Span) (h : Reading s at count files i p last) where
-  pub read_end : count ≤ i → ◌≡◌ {A = FilesRead} (record { answer = number.Value count p; files = files }) (files_answer (files_at s count at []))
+  pub read_end : count ≤ i → done ((record { all = files; count = count }), p) ≡ files_answer (files_at s count at [])
   unfolding files_at
   read_end l =
       let z : count - i ≡ 0 = omega arith in
@@ -74,21 +69,20 @@ module _ (s : List ℕ) (at count : ℕ) (files : List File) (i p : ℕ) (last :
       ∙ ap (λ (l : List File). got l p) (append-nil h.front) in
       rw (w, n, h.array)
 
-  module _ (l : i < count) (prev : List ℕ) (v : prev ≡ part_at s last) (r : FileRead) (e : file_told r ≡ file_at s p prev) where
-    one_more : files_at s count at []
-        ≡ behind h.front (then (file_told r) (λ (f, q). then (files_at s (count - (i + 1)) q (part_at s f.path)) (λ (fs, next). got (f ∷ fs) next)))
-    unfolding files_at
-    one_more = let n : count - i ≡ suc (count - (i + 1)) = omega arith in rw (h.whole, n, ← v, e)
+  module _ (l : i < count) (prev : List ℕ) (v : prev ≡ part_at s last) where
+    rest_of : File × ℕ → Got (List File)
+    rest_of (f, q) = then (files_at s (count - (i + 1)) q (part_at s f.path)) (λ (fs, next). got (f ∷ fs) next)
 
-    pub read_no : (n e : ℕ) (y : FilesRead) → r ≡ Refused e → n ≡ number_of (file_told r) → y ≡ files_answer (refused n) → y ≡ files_answer (files_at s count at [])
-    read_no n x y k q u =
-        let z : n ≡ x = q ∙ ap (λ (v : FileRead). number_of (file_told v)) k in
-        let w : files_at s count at [] ≡ refused x =
-        one_more ∙ ap (λ (v : FileRead). behind h.front (then (file_told v) (λ (f, q). then (files_at s (count - (i + 1)) q (part_at s f.path)) (λ (fs, next). got (f ∷ fs) next)))) k in
-        u ∙ rw (w, z)
+    one_more : files_at s count at [] ≡ behind h.front (then (file_at s p prev) rest_of)
+    unfolding files_at rest_of
+    one_more = let n : count - i ≡ suc (count - (i + 1)) = omega arith in rw (h.whole, n, ← v)
 
-    module _ (f : File) (next : ℕ) (k : r ≡ Value f next) where
+    pub read_no : (e k : ℕ) → refused_at e k ≡ file_at s p prev → refused_at e k ≡ files_answer (files_at s count at [])
+    read_no e k x = rw (one_more, ← x)
+
+    module _ (f : File) (next : ℕ) (k : got f next ≡ file_at s p prev) where
       pub read_more : count ≤ 64 → Reading s at count (set files i f) (i + 1) next f.path
+      unfolding rest_of
       read_more b =
           record {
             most = omega arith;
@@ -97,6 +91,6 @@ module _ (s : List ℕ) (at count : ℕ) (files : List File) (i p : ℕ) (last :
             array = ap (λ (l : List File). set l i f) h.array ∙ padded_set h.front f i h.many (omega arith);
             whole =
                 one_more
-                ∙ ap (λ (x : FileRead). behind h.front (then (file_told x) (λ (f, q). then (files_at s (count - (i + 1)) q (part_at s f.path)) (λ (fs, next). got (f ∷ fs) next)))) k
+                ∙ ap (λ (g : Got File). behind h.front (then g rest_of)) (sym k)
                 ∙ behind_one h.front f (files_at s (count - (i + 1)) next (part_at s f.path));
           }

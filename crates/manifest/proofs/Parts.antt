@@ -7,6 +7,8 @@ use native.Mathlib.Omega.{arith}
 use borrow.Author.Tests.{ltb-true, lt-ltb, leb-true, le-leb, ne_eqb, eqb-true, eqb-false}
 use lib.Dec.{leb, eqb}
 use lib.ListN.{length}
+use Rattle.std.specs.Prelude.{Option, Some, None}
+use Rattle.wire.specs.declared.Span.{Span}
 use Rattle.wire.specs.Answer.{choose, then, Got, got}
 use Rattle.wire.specs.Number.{Bytes, big_endian}
 use Rattle.wire.proofs.Cases.{passed, then_passed, got_next, got_value}
@@ -20,15 +22,13 @@ use Rattle.cbor.proofs.Sizes.{info_most, either}
 use Rattle.cbor.proofs.Within.{number_within, string_within}
 use Rattle.cbor.proofs.Written.{kind_bytes, kind_array, byte_back, float_back, float_begins, key_back, number_back, string_back, any_field_back}
 use Rattle.cbor.proofs.Only.{float_only, key_only, number_only, string_only, any_field_only}
-use Rattle.entry.specs.File.{integer_at, file_at}
+use Rattle.entry.specs.File.{integer_by, integer_at, file_at}
 use Rattle.entry.specs.Writing.{Entry, entry_in, entry_of, integer_of, file_of}
 use Rattle.entry.specs.declared.File.{File}
 use Rattle.entry.proofs.Writers.{within_digest}
 use Rattle.entry.proofs.Rounds.{sign_major, integer_back, integer_first, integer_only, Sound, good_sound, file_back, file_only}
 use Rattle.manifest.specs.Manifest.{seed_at, files_at, list_at, agrees, sealed_at, created_at}
 use Rattle.manifest.specs.Writing.{Secret, none, some, seed_in, secret_of, entries_of, created_of, seed_allowed, created_allowed, CreatedFits}
-use Rattle.manifest.specs.declared.Seed.{Seed}
-use Rattle.manifest.specs.declared.Seed.TheVariants as seed
 use Rattle.manifest.specs.declared.Created.{Created}
 use Rattle.manifest.specs.declared.Created.TheVariants as created
 use Rattle.manifest.proofs.Judging.{AllGood}
@@ -49,23 +49,23 @@ string_first bs v = (
   omega (arith, info_most (length bs)),
 )
 
-pub seed_back : {s : List ℕ} {at next : ℕ} (v : Secret) → SecretLong v → Stands s at (string_of 3 (ascii "seed") ++ secret_of v) next → (w : Seed) × (seed_at s at ≡ got w next) × (seed_in s w ≡ v)
+pub seed_back : {s : List ℕ} {at next : ℕ} (v : Secret) → SecretLong v → Stands s at (string_of 3 (ascii "seed") ++ secret_of v) next → (w : Option Span) × (seed_at s at ≡ got w next) × (seed_in s w ≡ v)
 unfolding seed_at secret_of seed_in
 seed_back none l h =
     let k = stands_first (string_of 3 (ascii "seed")) (0xF6 ∷ []) h in
     let v = stands_second (string_of 3 (ascii "seed")) (0xF6 ∷ []) h in
-    (seed.Null, rw (any_field_back (ascii "seed") (omega arith) k (byte_back 0xF6 v)) (ap (got seed.Null) (sym v.ends)), refl)
+    (None, rw (any_field_back (ascii "seed") (omega arith) k (byte_back 0xF6 v)) (ap (got None) (sym v.ends)), refl)
 seed_back {s} {at} {next} (some bs) l h =
     let k = stands_first (string_of 3 (ascii "seed")) (string_of 2 bs) h in
     let v = stands_second (string_of 3 (ascii "seed")) (string_of 2 bs) h in
     let r = string_back 2 32 32 19 kind_bytes bs (omega arith) (omega arith) (omega arith) v in
     let b = string_first bs v in (
-      seed.Bytes r.0,
+      Some r.0,
       rw (any_field_back (ascii "seed") (omega arith) k b.1, ne_eqb b.0 0xF6 (omega (arith, b.2)), r.1),
       ap some r.2.part,
     )
 
-pub seed_only : {s : List ℕ} {at next : ℕ} {v : Seed} → Bytes s → seed_at s at ≡ got v next → Stands s at (string_of 3 (ascii "seed") ++ secret_of (seed_in s v)) next × (seed_allowed s v ≡ true)
+pub seed_only : {s : List ℕ} {at next : ℕ} {v : Option Span} → Bytes s → seed_at s at ≡ got v next → Stands s at (string_of 3 (ascii "seed") ++ secret_of (seed_in s v)) next × (seed_allowed s v ≡ true)
 unfolding seed_at secret_of seed_in seed_allowed
 seed_only {s} {at} {next} {v} y e =
     let k = then_passed (any_field_at s at (ascii "seed")) _ e in
@@ -74,23 +74,23 @@ seed_only {s} {at} {next} {v} y e =
     (stands_join o.0 r.0, r.1)
   where
     value : (a x : ℕ) → Stands s a (x ∷ []) (a + 1)
-        → choose (eqb x 0xF6) (got seed.Null (a + 1)) (then (string_at s a 2 32 32 19) (λ (v, next). got (seed.Bytes v) next)) ≡ got v next
+        → choose (eqb x 0xF6) (got None (a + 1)) (then (string_at s a 2 32 32 19) (λ (v, next). got (Some v) next)) ≡ got v next
         → Stands s a (secret_of (seed_in s v)) next × (seed_allowed s v ≡ true)
-    value a x b = either (λ (g : Got Seed). g ≡ got v next → Stands s a (secret_of (seed_in s v)) next × (seed_allowed s v ≡ true)) (eqb x 0xF6) null whole
+    value a x b = either (λ (g : Got (Option Span)). g ≡ got v next → Stands s a (secret_of (seed_in s v)) next × (seed_allowed s v ≡ true)) (eqb x 0xF6) null whole
       where
-        null : eqb x 0xF6 ≡ true → got seed.Null (a + 1) ≡ got v next → Stands s a (secret_of (seed_in s v)) next × (seed_allowed s v ≡ true)
+        null : eqb x 0xF6 ≡ true → got None (a + 1) ≡ got v next → Stands s a (secret_of (seed_in s v)) next × (seed_allowed s v ≡ true)
         null q g =
-            subst (λ (v : Seed). Stands s a (secret_of (seed_in s v)) next × (seed_allowed s v ≡ true)) (got_value g)
+            subst (λ (v : Option Span). Stands s a (secret_of (seed_in s v)) next × (seed_allowed s v ≡ true)) (got_value g)
             (stands_as (ap (λ (z : ℕ). z ∷ []) (eqb-true x 0xF6 q)) (got_next g) b, refl)
 
-        whole : eqb x 0xF6 ≡ false → then (string_at s a 2 32 32 19) (λ (v, next). got (seed.Bytes v) next) ≡ got v next
+        whole : eqb x 0xF6 ≡ false → then (string_at s a 2 32 32 19) (λ (v, next). got (Some v) next) ≡ got v next
             → Stands s a (secret_of (seed_in s v)) next × (seed_allowed s v ≡ true)
         whole q g =
-            let i = then_passed (string_at s a 2 32 32 19) (λ (v, next). got (seed.Bytes v) next) g in
-            let f : seed.Bytes i.0 ≡ v = got_value i.3 in
+            let i = then_passed (string_at s a 2 32 32 19) (λ (v, next). got (Some v) next) g in
+            let f : Some i.0 ≡ v = got_value i.3 in
             let n : i.1 ≡ next = got_next i.3 in
             let w = string_within s a 2 32 32 19 i.2 in
-            subst (λ (v : Seed). Stands s a (secret_of (seed_in s v)) next × (seed_allowed s v ≡ true)) f (
+            subst (λ (v : Option Span). Stands s a (secret_of (seed_in s v)) next × (seed_allowed s v ≡ true)) f (
               stands_as refl n (string_only 2 32 32 19 y i.2).0,
               within_digest s i.0 (omega (arith, w.0, w.1)) (omega (arith, w.2, w.3)),
             )
@@ -180,7 +180,7 @@ sealed_range : (b : Bool) → (0xF4 ≤ choose b 0xF5 0xF4) × (choose b 0xF5 0x
 sealed_range true = (omega arith, omega arith)
 sealed_range false = (omega arith, omega arith)
 
-pub sealed_back : {s : List ℕ} {at a next : ℕ} (v : Seed) (b : Bool) → agrees v b ≡ true → Stands s at (string_of 3 (ascii "sealed")) a → Stands s a (choose b 0xF5 0xF4 ∷ []) next
+pub sealed_back : {s : List ℕ} {at a next : ℕ} (v : Option Span) (b : Bool) → agrees v b ≡ true → Stands s at (string_of 3 (ascii "sealed")) a → Stands s a (choose b 0xF5 0xF4 ∷ []) next
     → sealed_at s at v ≡ got b next
 unfolding sealed_at
 sealed_back {s} {at} {a} {next} v b g h₁ h₂ =
@@ -189,7 +189,7 @@ sealed_back {s} {at} {a} {next} v b g h₁ h₂ =
     rw (any_field_back (ascii "sealed") (omega arith) h₁ (byte_back (choose b 0xF5 0xF4) h₂))
     (rw (le-leb 0xF4 (choose b 0xF5 0xF4) r.0, le-leb (choose b 0xF5 0xF4) 0xF5 r.1, sealed_byte b, g) (ap (got b) (sym h₂.ends)))
 
-pub record Flagged (s : List ℕ) (at : ℕ) (v : Seed) (b : Bool) (next : ℕ) : Type 0 where
+pub record Flagged (s : List ℕ) (at : ℕ) (v : Option Span) (b : Bool) (next : ℕ) : Type 0 where
   pub after_key : ℕ
   pub key_stands : Stands s at (string_of 3 (ascii "sealed")) after_key
   pub byte_stands : Stands s after_key (choose b 0xF5 0xF4 ∷ []) next
@@ -199,7 +199,7 @@ pub record Flagged (s : List ℕ) (at : ℕ) (v : Seed) (b : Bool) (next : ℕ) 
 flag_of : (x : ℕ) → 0xF4 ≤ x → x ≤ 0xF5 → x ≡ choose (eqb x 0xF5) 0xF5 0xF4
 flag_of x l m = either (λ (k : ℕ). x ≡ k) (eqb x 0xF5) (λ t. eqb-true x 0xF5 t) (λ t. let n = eqb-false x 0xF5 t in omega arith)
 
-pub sealed_only : {s : List ℕ} {at next : ℕ} {v : Seed} {b : Bool} → sealed_at s at v ≡ got b next → Flagged s at v b next
+pub sealed_only : {s : List ℕ} {at next : ℕ} {v : Option Span} {b : Bool} → sealed_at s at v ≡ got b next → Flagged s at v b next
 unfolding sealed_at
 sealed_only {s} {at} {next} {v} {b} e =
     let c = then_passed (any_field_at s at (ascii "sealed")) _ e in
@@ -221,12 +221,12 @@ sealed_only {s} {at} {next} {v} {b} e =
 
 pub created_back : {s : List ℕ} {at next : ℕ} (v : Created) → CreatedFits v → created_allowed v ≡ true → Stands s at (string_of 3 (ascii "created") ++ created_of v) next → created_at s at ≡ got v next
 unfolding created_at created_of created_allowed
-created_back (created.Integer negative n) t a h =
-    let k = stands_first (string_of 3 (ascii "created")) (integer_of negative n) h in
-    let v = stands_second (string_of 3 (ascii "created")) (integer_of negative n) h in
-    let l = ltb-true n 9223372036854775808 a in
-    let b = integer_first negative n l v in
-    rw (any_field_back (ascii "created") (omega arith) k b.1, not_float b.0 (omega (arith, b.2)), integer_back negative n l v, sign_major negative)
+created_back (created.Integer i) t a h =
+    let k = stands_first (string_of 3 (ascii "created")) (integer_of i.negative i.n) h in
+    let v = stands_second (string_of 3 (ascii "created")) (integer_of i.negative i.n) h in
+    let l = ltb-true i.n 9223372036854775808 a in
+    let b = integer_first i.negative i.n l v in
+    rw (any_field_back (ascii "created") (omega arith) k b.1, not_float b.0 (omega (arith, b.2)), integer_back i.negative i.n l v, sign_major i.negative)
 created_back {s} {at} {next} (created.Double bits) t a h =
     let k = stands_first (string_of 3 (ascii "created")) (float_of bits) h in
     let v = stands_second (string_of 3 (ascii "created")) (float_of bits) h in
@@ -241,7 +241,7 @@ created_only {s} {at} {next} {v} y e =
     let r = value k.1 k.0 k.3 in
     (stands_join (any_field_only (ascii "created") k.2).0 r.0, r.1, r.2)
   where
-    value : (a x : ℕ) → choose (is_float x) (then (float_at s a) (λ (bits, next). got (created.Double bits) next)) (then (integer_at s a) (λ (h, next). got (created.Integer (eqb h.major 1) h.number) next)) ≡ got v next
+    value : (a x : ℕ) → choose (is_float x) (then (float_at s a) (λ (bits, next). got (created.Double bits) next)) (then (integer_at s a) (λ (h, next). got (created.Integer (integer_by h)) next)) ≡ got v next
         → Stands s a (created_of v) next × (created_allowed v ≡ true) × CreatedFits v
     value a x = either (λ (g : Got Created). g ≡ got v next → Stands s a (created_of v) next × (created_allowed v ≡ true) × CreatedFits v) (is_float x) double whole
       where
@@ -254,12 +254,12 @@ created_only {s} {at} {next} {v} y e =
             let r = float_only y i.2 in
             subst (λ (v : Created). Stands s a (created_of v) next × (created_allowed v ≡ true) × CreatedFits v) f (stands_as refl n r.0, r.2, r.1)
 
-        whole : is_float x ≡ false → then (integer_at s a) (λ (h, next). got (created.Integer (eqb h.major 1) h.number) next) ≡ got v next
+        whole : is_float x ≡ false → then (integer_at s a) (λ (h, next). got (created.Integer (integer_by h)) next) ≡ got v next
             → Stands s a (created_of v) next × (created_allowed v ≡ true) × CreatedFits v
         whole q g =
-            let i = then_passed (integer_at s a) (λ (h, next). got (created.Integer (eqb h.major 1) h.number) next) g in
-            let f : created.Integer (eqb i.0.major 1) i.0.number ≡ v = got_value i.3 in
+            let i = then_passed (integer_at s a) (λ (h, next). got (created.Integer (integer_by h)) next) g in
+            let f : created.Integer (integer_by i.0) ≡ v = got_value i.3 in
             let n : i.1 ≡ next = got_next i.3 in
             let r = integer_only y i.2 in
             subst (λ (v : Created). Stands s a (created_of v) next × (created_allowed v ≡ true) × CreatedFits v) f
-            (stands_as refl n r.0, lt-ltb i.0.number 9223372036854775808 r.1, tt)
+            (stands_as refl n r.0, lt-ltb i.0.n 9223372036854775808 r.1, tt)

@@ -9,7 +9,9 @@ use borrow.Author.Tests.{le-leb, leb-true, eq-eqb, eqb-true}
 use lib.Dec.{leb, eqb}
 use lib.ListN.{length, take, length-map}
 use lib.Seq.{take_at, length-take-le}
-use Rattle.wire.specs.Answer.{choose, done, Got, got}
+use Rattle.std.specs.Prelude.{Option, Some, None}
+use Rattle.wire.specs.declared.Span.{Span}
+use Rattle.wire.specs.Answer.{then, choose, done, Got, got}
 use Rattle.wire.specs.Number.{Bytes}
 use Rattle.wire.proofs.Cases.{passed, then_passed, got_value, got_next, got_as}
 use Rattle.wire.proofs.Standing.{Stands, stands_whole, stands_all, stands_first, stands_second, stands_join, stands_as}
@@ -26,11 +28,10 @@ use Rattle.entry.specs.declared.File.{File}
 use Rattle.entry.proofs.Sizes.{part_length}
 use Rattle.entry.proofs.Writers.{digest_within}
 use Rattle.entry.proofs.Rounds.{file_within}
-use Rattle.manifest.specs.Manifest.{Listing, seed_at, files_at, list_at, agrees, sealed_at, created_at, Ending, end_at, manifest_at}
+use Rattle.manifest.specs.Manifest.{Listing, seed_at, files_at, list_at, agrees, sealed_at, created_at, end_at, manifest_at}
 use Rattle.manifest.specs.Writing.{Secret, Said, seed_in, said_in, secret_of, entries_of, created_of, said_of, manifest_of, seed_allowed, created_allowed, listed, manifest_verdict, CreatedFits, Typed}
 use Rattle.manifest.specs.Answer.{padded, answer_for}
-use Rattle.manifest.specs.declared.Seed.{Seed}
-use Rattle.manifest.specs.declared.Seed.TheVariants as seed
+use Rattle.manifest.specs.declared.Ending.{Ending}
 use Rattle.manifest.specs.declared.Manifest.{Manifest}
 use Rattle.manifest.proofs.Judging.{AllGood}
 use Rattle.manifest.proofs.Lengths.{Fit, verdict_fit, fit_verdict}
@@ -68,7 +69,7 @@ files_inside s (suc k) at prev {fs} e =
     ((record { hash_within = w.0; hash_long = w.1; path_within = w.2; sized = omega (arith, w.3) }, r.0), ap suc r.1)
 
 -- the steps that an accepted payload passed
-pub record Ended (s : List ℕ) (at : ℕ) (key : Seed) (v : Ending) (next : ℕ) : Type 0 where
+pub record Ended (s : List ℕ) (at : ℕ) (key : Option Span) (v : Ending) (next : ℕ) : Type 0 where
   pub after_sealed : ℕ
   pub after_created : ℕ
   pub version : ℕ
@@ -77,7 +78,7 @@ pub record Ended (s : List ℕ) (at : ℕ) (key : Seed) (v : Ending) (next : ℕ
   pub version_read : number_field_at s after_created (ascii "version") 1 1 ≡ got version next
   pub ends : next ≡ length s
 
-end_steps : (s : List ℕ) (at : ℕ) (key : Seed) {v : Ending} {next : ℕ} → end_at s at key ≡ got v next → Ended s at key v next
+end_steps : (s : List ℕ) (at : ℕ) (key : Option Span) {v : Ending} {next : ℕ} → end_at s at key ≡ got v next → Ended s at key v next
 unfolding end_at
 end_steps s at key {v} {next} e =
     let t₁ = then_passed (sealed_at s at key) _ e in
@@ -139,23 +140,23 @@ manifest_within s {v} e =
 
 -- ---- what is written reads back
 
-secret_long : (pool : List ℕ) (v : Seed) → seed_allowed pool v ≡ true → SecretLong (seed_in pool v)
+secret_long : (pool : List ℕ) (v : Option Span) → seed_allowed pool v ≡ true → SecretLong (seed_in pool v)
 unfolding seed_allowed seed_in
-secret_long pool seed.Null h = tt
-secret_long pool (seed.Bytes span) h =
+secret_long pool None h = tt
+secret_long pool (Some span) h =
     let d = digest_within pool span h in
     part_length pool span d.0 ∙ d.1
 
 -- sealed agrees with what the seed says, wherever its place is
-agrees_said : (pool s : List ℕ) (v w : Seed) (b : Bool) → seed_in s w ≡ seed_in pool v → agrees v b ≡ agrees w b
+agrees_said : (pool s : List ℕ) (v w : Option Span) (b : Bool) → seed_in s w ≡ seed_in pool v → agrees v b ≡ agrees w b
 unfolding seed_in agrees
-agrees_said pool s seed.Null seed.Null b e = refl
-agrees_said pool s seed.Null (seed.Bytes i) b e = let z : ◌≡◌ {A = ℕ} 0 1 = cc in absurd (omega arith)
-agrees_said pool s (seed.Bytes i) seed.Null b e = let z : ◌≡◌ {A = ℕ} 0 1 = cc in absurd (omega arith)
-agrees_said pool s (seed.Bytes i) (seed.Bytes j) b e = refl
+agrees_said pool s None None b e = refl
+agrees_said pool s None (Some i) b e = let z : ◌≡◌ {A = ℕ} 0 1 = cc in absurd (omega arith)
+agrees_said pool s (Some i) None b e = let z : ◌≡◌ {A = ℕ} 0 1 = cc in absurd (omega arith)
+agrees_said pool s (Some i) (Some j) b e = refl
 
 -- a payload that stands in s, by what it says
-said_back : (s : List ℕ) (v : Said) (w : (x : Seed) → seed_in s x ≡ v.seed → agrees x v.sealed ≡ true) → SecretLong v.seed → AllSound [] v.files → 1 ≤ length v.files → length v.files ≤ 64
+said_back : (s : List ℕ) (v : Said) (w : (x : Option Span) → seed_in s x ≡ v.seed → agrees x v.sealed ≡ true) → SecretLong v.seed → AllSound [] v.files → 1 ≤ length v.files → length v.files ≤ 64
     → created_allowed v.created ≡ true → CreatedFits v.created → length s ≤ 16384 → Stands s 0 (said_of v) (length s)
     → (r : Listing) × (manifest_at s ≡ got r (length s)) × (said_in s r ≡ v)
 unfolding manifest_at end_at said_of said_in
@@ -205,7 +206,7 @@ manifest_back pool m {bs} y h =
     let n : length (map (entry_in pool) (take m.count m.files)) ≡ m.count = length-map (take m.count m.files) (entry_in pool) ∙ length-take-le m.count m.files (omega (arith, y.array, g.few)) in
     subst (λ (bs : List ℕ). (v : Listing) × (manifest_at bs ≡ got v (length bs)) × (said_in bs v ≡ said_in pool (listed m))) (sym f.1)
     (said_back (manifest_of pool (listed m)) (said_in pool (listed m))
-    (λ (x : Seed) (e : seed_in (manifest_of pool (listed m)) x ≡ seed_in pool m.seed). sym (agrees_said pool (manifest_of pool (listed m)) m.seed x m.sealed e) ∙ g.agreed)
+    (λ (x : Option Span) (e : seed_in (manifest_of pool (listed m)) x ≡ seed_in pool m.seed). sym (agrees_said pool (manifest_of pool (listed m)) m.seed x m.sealed e) ∙ g.agreed)
     (secret_long pool m.seed g.seeded)
     (all_sound pool [] (take m.count m.files) g.filed)
     (omega (arith, n, g.some))
@@ -227,7 +228,7 @@ listed_value v =
 -- a payload of bytes that is read is the written form, with itself as the pool, of the value read;
 -- and the writer accepts that value: what is read and then written is as it was
 pub manifest_only : {s : List ℕ} {v : Listing} {next : ℕ} → Bytes s → manifest_at s ≡ got v next
-    → (s ≡ manifest_of s v) × (next ≡ length s) × (manifest_verdict s (answer_for (manifest_at s)).value ≡ done s)
+    → (s ≡ manifest_of s v) × (next ≡ length s) × (then (answer_for (manifest_at s)) (λ (m, p). manifest_verdict s m) ≡ done s)
 unfolding manifest_of said_of said_in listed
 manifest_only {s} {v} {next} y e =
     let t = manifest_steps s e in
@@ -250,7 +251,7 @@ manifest_only {s} {v} {next} y e =
     (whole, z.ends, verdict whole a.1 b c.agreed d.1 t.small)
   where
     verdict : s ≡ manifest_of s v → seed_allowed s v.seed ≡ true → {at q : ℕ} → Listed s at v.files q → agrees v.seed v.sealed ≡ true → created_allowed v.created ≡ true → length s ≤ 16384
-        → manifest_verdict s (answer_for (manifest_at s)).value ≡ done s
+        → then (answer_for (manifest_at s)) (λ (m, p). manifest_verdict s m) ≡ done s
     verdict whole a b c d small =
         let m : Manifest = record { seed = v.seed; files = padded v.files; count = length v.files; sealed = v.sealed; created = v.created } in
         let i = listed_value v in
@@ -264,7 +265,7 @@ manifest_only {s} {v} {next} y e =
           dated = d;
           small = omega (arith, ap length whole, ap (λ (x : Listing). length (manifest_of s x)) i);
         } in
-        ap (λ (g : Got Listing). manifest_verdict s (answer_for g).value) e
+        ap (λ (g : Got Listing). then (answer_for g) (λ (m, p). manifest_verdict s m)) e
         ∙ fit_verdict s (record { seed = v.seed; files = padded v.files; count = length v.files; sealed = v.sealed; created = v.created }) f
         ∙ ap done (ap (manifest_of s) i ∙ sym whole)
 

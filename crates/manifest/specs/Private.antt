@@ -1,41 +1,30 @@
 -- What a part of the code answers, for the contract of a private function: nothing here is promised
 -- to a caller.
-use Rattle.std.specs.Prelude.{ℕ, ◌+◌, ◌≤◌, ◌≡◌, Bool, List, [], ◌∷◌, ◌++◌, length, take}
-use Rattle.wire.specs.Answer.{choose, done, refused_at, refused, Got, got}
+use Rattle.std.specs.Prelude.{ℕ, ◌+◌, ◌≤◌, ◌≡◌, List, [], ◌∷◌, ◌++◌, Option, Some, None, length, take}
+use Rattle.wire.specs.Answer.{choose, done, then, Got, got}
 use Rattle.wire.specs.Sizes.{most_files}
 use Rattle.cbor.specs.Form.{head_of, head_size, string_of, float_of, number_field_of}
+use Rattle.wire.specs.declared.Span.{Span}
 use Rattle.wire.specs.Ascii.{ascii}
-use Rattle.wire.specs.declared.NumberRead.TheVariants as number
 use Rattle.entry.specs.declared.File.{File}
-use Rattle.manifest.specs.Manifest.{Ending}
 use Rattle.manifest.specs.Answer.{padded}
 use Rattle.manifest.specs.Writing.{seed_in, secret_of, created_of, files_verdict, listed, manifest_verdict, manifest_of}
-use Rattle.manifest.specs.declared.Seed.{Seed}
-use Rattle.manifest.specs.declared.Seed.TheVariants as seed
 use Rattle.manifest.specs.declared.Created.{Created}
 use Rattle.manifest.specs.declared.Created.TheVariants as created
 use Rattle.manifest.specs.declared.Manifest.{Manifest}
-use Rattle.manifest.specs.declared.SeedRead.{SeedRead}
-use Rattle.manifest.specs.declared.SeedRead.TheVariants as seedread
-use Rattle.manifest.specs.declared.SealedRead.{SealedRead}
-use Rattle.manifest.specs.declared.SealedRead.TheVariants as sealedread
-use Rattle.manifest.specs.declared.CreatedRead.{CreatedRead}
-use Rattle.manifest.specs.declared.CreatedRead.TheVariants as createdread
-use Rattle.manifest.specs.declared.EndRead.{EndRead}
-use Rattle.manifest.specs.declared.EndRead.TheVariants as endread
-use Rattle.manifest.specs.declared.FilesRead.{FilesRead}
+use Rattle.manifest.specs.declared.FileList.{FileList}
 
 -- how long a seed is that may be written
-unfoldable pub seed_size : Seed → ℕ
-seed_size seed.Null = 1
-seed_size (seed.Bytes span) = 34
+unfoldable pub seed_size : Option Span → ℕ
+seed_size None = 1
+seed_size (Some span) = 34
 
 unfoldable pub created_size : Created → ℕ
-created_size (created.Integer negative n) = head_size n
+created_size (created.Integer v) = head_size v.n
 created_size (created.Double bits) = length (float_of bits)
 
 -- a key and its value
-unfoldable pub seed_field_of : List ℕ → Seed → List ℕ
+unfoldable pub seed_field_of : List ℕ → Option Span → List ℕ
 seed_field_of pool v = string_of 3 (ascii "seed") ++ secret_of (seed_in pool v)
 
 unfoldable pub created_field_of : Created → List ℕ
@@ -61,25 +50,6 @@ pub record Ready (pool : List ℕ) (m : Manifest) (out : List ℕ) : Type 0 wher
   pub judged : manifest_verdict pool m ≡ done (manifest_of pool (listed m))
   pub room : length (manifest_of pool (listed m)) ≤ length out
 
--- ---- what a field's reader answers, as a number and a value (R18.5)
-
-abbrev pub seed_told : SeedRead → Got Seed
-seed_told (seedread.Value v next) = got v next
-seed_told (seedread.Refused e) = refused e
-
-abbrev pub sealed_told : SealedRead → Got Bool
-sealed_told (sealedread.Value v next) = got v next
-sealed_told (sealedread.Refused e) = refused e
-
-abbrev pub created_told : CreatedRead → Got Created
-created_told (createdread.Value v next) = got v next
-created_told (createdread.Refused e) = refused e
-
-abbrev pub end_told : EndRead → Got Ending
-end_told (endread.Value v next) = got (record { sealed = v.sealed; created = v.created }) next
-end_told (endread.Refused e) = refused e
-
--- the files stand in an array beside their answer
-abbrev pub files_answer : Got (List File) → FilesRead
-files_answer (done (fs, next)) = record { answer = number.Value (length fs) next; files = padded fs }
-files_answer (refused_at e place) = record { answer = number.Refused e; files = padded [] }
+-- the files stand in an array with their count (R13.7)
+abbrev pub files_answer : Got (List File) → Got FileList
+files_answer g = then g (λ (fs, next). got (record { all = padded fs; count = length fs }) next)

@@ -1,7 +1,8 @@
 -- The manifest, as it is written: section 13 of docs/RULES.md.
-use Rattle.std.specs.Prelude.{ℕ, ◌^◌, ◌<◌, ◌≡◌, Bool, true, ◌&&◌, List, [], ◌∷◌, ◌++◌, map, ltb, leb, length, take}
+use Rattle.std.specs.Prelude.{ℕ, ◌^◌, ◌<◌, ◌≡◌, Bool, true, ◌&&◌, List, [], ◌∷◌, ◌++◌, Option, Some, None, map, ltb, leb, length, take}
 use Rattle.wire.specs.Answer.{choose, Answer, done, then, demand}
 use Rattle.wire.specs.Sizes.{most_manifest, most_files}
+use Rattle.wire.specs.declared.Span.{Span}
 use Rattle.wire.specs.Span.{part_at}
 use Rattle.cbor.specs.Float.{finite}
 use Rattle.cbor.specs.declared.Width.TheVariants as width
@@ -10,8 +11,6 @@ use Rattle.wire.specs.Ascii.{ascii}
 use Rattle.entry.specs.Writing.{Entry, entry_in, entry_of, integer_of, digest_in, file_verdict}
 use Rattle.entry.specs.declared.File.{File}
 use Rattle.manifest.specs.Manifest.{Listing, agrees}
-use Rattle.manifest.specs.declared.Seed.{Seed}
-use Rattle.manifest.specs.declared.Seed.TheVariants as seed
 use Rattle.manifest.specs.declared.Created.{Created}
 use Rattle.manifest.specs.declared.Created.TheVariants as created
 use Rattle.manifest.specs.declared.Manifest.{Manifest}
@@ -31,9 +30,9 @@ pub record Said : Type 0 where
   pub created : Created
 
 -- a seed whose place is in a pool
-unfoldable pub seed_in : List ℕ → Seed → Secret
-seed_in pool seed.Null = none
-seed_in pool (seed.Bytes span) = some (part_at pool span)
+unfoldable pub seed_in : List ℕ → Option Span → Secret
+seed_in pool None = none
+seed_in pool (Some span) = some (part_at pool span)
 
 -- a manifest whose places are in a pool (R13.7)
 unfoldable pub said_in : List ℕ → Listing → Said
@@ -52,7 +51,7 @@ entries_of (e ∷ es) = entry_of e ++ entries_of es
 
 -- an integer or a float (R13.6)
 unfoldable pub created_of : Created → List ℕ
-created_of (created.Integer negative n) = integer_of negative n
+created_of (created.Integer v) = integer_of v.negative v.n
 created_of (created.Double bits) = float_of bits
 
 -- a map of five (R13.1), its fields in the order of their keys (R10.1)
@@ -73,9 +72,9 @@ manifest_of pool v = said_of (said_in pool v)
 -- ---- which values may be written
 
 -- null, or 32 bytes in the pool (R13.3, R13.7)
-unfoldable pub seed_allowed : List ℕ → Seed → Bool
-seed_allowed pool seed.Null = true
-seed_allowed pool (seed.Bytes span) = digest_in pool span
+unfoldable pub seed_allowed : List ℕ → Option Span → Bool
+seed_allowed pool None = true
+seed_allowed pool (Some span) = digest_in pool span
 
 -- each file in the order that is given (R13.4), the first above prev and each above the one before
 -- it (R12.5)
@@ -86,7 +85,7 @@ files_verdict pool prev (f ∷ fs) =
 
 -- from -2^63 to 2^63 - 1, or finite (R13.6, R10.9)
 unfoldable pub created_allowed : Created → Bool
-created_allowed (created.Integer negative n) = ltb n (2 ^ 63)
+created_allowed (created.Integer v) = ltb v.n (2 ^ 63)
 created_allowed (created.Double bits) = finite width.Double bits
 
 -- the first `count` files of the array are those that are meant
@@ -108,7 +107,7 @@ manifest_verdict pool m =
 
 -- a double has 64 bits
 abbrev pub CreatedFits : Created → Type 0
-CreatedFits (created.Integer negative n) = Unit
+CreatedFits (created.Integer v) = Unit
 CreatedFits (created.Double bits) = bits < 2 ^ 64
 
 -- the array has room for the most files (R3.4)

@@ -1,63 +1,36 @@
 // The list of files at a position of the input (R13.4).
 ghost use Rattle.std.specs.Prelude.{◌≡◌, [], ◌≤◌};
+ghost use Rattle.wire.specs.Reading.{told};
 ghost use Rattle.wire.specs.Sizes.{most_files};
-ghost use Rattle.wire.specs.Answer.{refused};
 ghost use Rattle.manifest.specs.Manifest.{files_at, list_at};
 ghost use Rattle.manifest.specs.Private.{files_answer};
 
-use super::{FilesRead, blank_files};
+use super::{FileList, blank_files};
 use cbor::ARRAY;
-use entry::FileRead;
-use wire::{NumberRead, OUT_OF_RANGE, Span, StepRead};
-
-fn no_files(no: u8) -> FilesRead
-    ensures { result ≡ files_answer (refused no) }
-{
-    let files = blank_files();
-    FilesRead {
-        answer: NumberRead::Refused { no },
-        files,
-    }
-}
+use wire::{Refusal, Span};
 
 // count files from position at on.
-fn run(s: &[u8], at: usize, count: usize) -> FilesRead
+fn run(s: &[u8], at: usize, count: usize) -> Result<(FileList, usize), Refusal>
     requires { count ≤ most_files }
-    ensures { result ≡ files_answer (files_at s.now count at []) }
+    ensures { told result ≡ files_answer (files_at s.now count at []) }
 {
-    let mut files = blank_files();
-    let mut i = 0;
+    let mut all = blank_files();
     let mut p = at;
     let mut last = Span { start: 0, len: 0 };
-    while i < count {
-        let r = entry::read::file(s, p, lend::part(s, last));
-        let FileRead::Value { file, next } = r else {
-            return no_files(r.no());
-        };
-        files[i] = file;
+    for i in 0..count {
+        let (file, next) = entry::read::file(s, p, lend::part(s, last))?;
+        all[i] = file;
         last = file.path;
         p = next;
-        i += 1;
     }
-    FilesRead {
-        answer: NumberRead::Value {
-            n: count as u64,
-            next: p,
-        },
-        files,
-    }
+    Ok((FileList { all, count }, p))
 }
 
-pub(super) fn list(s: &[u8], at: usize) -> FilesRead
-    ensures { result ≡ files_answer (list_at s.now at) }
+pub(super) fn list(s: &[u8], at: usize) -> Result<(FileList, usize), Refusal>
+    ensures { told result ≡ files_answer (list_at s.now at) }
 {
-    let k = cbor::read::key(s, at, b"files");
-    let StepRead::Past { next: a } = k else {
-        return no_files(k.no());
-    };
-    let h = cbor::read::number(s, a, ARRAY, 1, wire::MOST_FILES as u64, OUT_OF_RANGE);
-    let NumberRead::Value { n, next } = h else {
-        return no_files(h.no());
-    };
+    let a = cbor::read::key(s, at, b"files")?;
+    let most = wire::MOST_FILES as u64;
+    let (n, next) = cbor::read::number(s, a, ARRAY, 1, most, Refusal::OutOfRange)?;
     run(s, next, n as usize)
 }

@@ -7,19 +7,19 @@ ghost use Rattle.entry.specs.Writing.{form_of};
 ghost use Rattle.manifest.specs.Writing.{files_verdict, listed, manifest_of};
 ghost use Rattle.manifest.specs.Private.{seed_field_of, created_field_of, opening_of, closing_of, Room, Ready};
 
-use super::{Created, Manifest, Seed};
+use super::{Created, Manifest};
 use cbor::{ARRAY, BYTES, TEXT};
 use wire::Span;
 
-fn seed_field(pool: &[u8], seed: Seed, out: &mut [u8], at: usize) -> usize
+fn seed_field(pool: &[u8], seed: Option<Span>, out: &mut [u8], at: usize) -> usize
     requires { at + length (seed_field_of pool.now seed) ≤ length out.old }
     ensures { Put at (seed_field_of pool.now seed) out.old out.new result }
 {
     let a = cbor::write::string(out, at, TEXT, b"seed");
-    let Seed::Bytes { span } = seed else {
-        return cbor::write::fixed(out, a, b"\xF6");
-    };
-    cbor::write::string(out, a, BYTES, lend::part(pool, span))
+    match seed {
+        None => cbor::write::fixed(out, a, b"\xF6"),
+        Some(span) => cbor::write::string(out, a, BYTES, lend::part(pool, span)),
+    }
 }
 
 fn created_field(created: Created, out: &mut [u8], at: usize) -> usize
@@ -28,7 +28,7 @@ fn created_field(created: Created, out: &mut [u8], at: usize) -> usize
 {
     let a = cbor::write::string(out, at, TEXT, b"created");
     match created {
-        Created::Integer { negative, n } => entry::write::integer(out, a, negative, n),
+        Created::Integer(v) => entry::write::integer(out, a, v),
         Created::Double { bits } => cbor::write::float(out, a, bits),
     }
 }
@@ -47,15 +47,11 @@ fn list(pool: &[u8], m: Manifest, out: &mut [u8], at: usize) -> usize
     requires { Room pool.now m at out.old (form_of (files_verdict pool.now [] (take m.count m.files))) }
     ensures { Put at (form_of (files_verdict pool.now [] (take m.count m.files))) out.old out.new result }
 {
-    let count = m.count;
-    let mut i = 0;
     let mut p = at;
     let mut last = Span { start: 0, len: 0 };
-    while i < count {
-        let f = m.files[i];
-        p = entry::write::file(pool, lend::part(pool, last), f, out, p);
+    for f in &m.files[..m.count] {
+        p = entry::write::file(pool, lend::part(pool, last), *f, out, p);
         last = f.path;
-        i += 1;
     }
     p
 }
@@ -65,9 +61,8 @@ fn opening(pool: &[u8], m: Manifest, out: &mut [u8]) -> usize
     requires { length (opening_of pool.now m) ≤ length out.old }
     ensures { Put 0 (opening_of pool.now m) out.old out.new result }
 {
-    let seed = m.seed;
     let a = cbor::write::fixed(out, 0, b"\xA5");
-    let b = seed_field(pool, seed, out, a);
+    let b = seed_field(pool, m.seed, out, a);
     let c = cbor::write::string(out, b, TEXT, b"files");
     cbor::write::head(out, c, ARRAY, m.count as u64)
 }
@@ -77,10 +72,9 @@ fn closing(m: Manifest, out: &mut [u8], at: usize) -> usize
     requires { at + length (closing_of m) ≤ length out.old }
     ensures { Put at (closing_of m) out.old out.new result }
 {
-    let created = m.created;
     let a = cbor::write::string(out, at, TEXT, b"sealed");
     let b = sealed_byte(out, a, m.sealed);
-    let c = created_field(created, out, b);
+    let c = created_field(m.created, out, b);
     cbor::write::number_field(out, c, b"version", 1)
 }
 

@@ -11,110 +11,48 @@ mod form;
 mod judge;
 
 ghost use Rattle.std.specs.Prelude.{◌≡◌, []};
-ghost use Rattle.wire.specs.Answer.{refused, number_of};
+ghost use Rattle.wire.specs.Reading.{told};
 ghost use Rattle.wire.specs.Writing.{Written};
 ghost use Rattle.manifest.specs.Manifest.{manifest_at};
 ghost use Rattle.manifest.specs.Writing.{manifest_verdict};
 ghost use Rattle.manifest.specs.Answer.{padded, answer_for};
-ghost use Rattle.manifest.specs.Private.{seed_told, end_told};
 
-use entry::{File, Mtime};
-use wire::{NumberRead, Span, StepRead, Wrote};
+use entry::{File, Integer};
+use wire::{Refusal, Span};
 
-#[derive(Clone, Copy)]
-pub enum Seed {
-    Null,
-    // A place in the pool of the manifest's bytes: of one that was read the pool is the input
-    // (R13.7).
-    Bytes { span: Span },
-}
-
-#[derive(Clone, Copy)]
+#[derive(Clone, Copy, Debug, PartialEq, Eq)]
 pub enum Created {
-    // The number n, or -1 - n where it is negative (R13.6).
-    Integer { negative: bool, n: u64 },
+    Integer(Integer),
     // A float, by the 64 bits of its double (R10.8).
     Double { bits: u64 },
 }
 
 // The first `count` files are meant.
-#[derive(Clone, Copy)]
+//
+// stays (6): a list of files of its own length would need a heap, and the project has none.
+#[derive(Clone, Copy, Debug, PartialEq, Eq)]
 pub struct Manifest {
-    pub seed: Seed,
+    // A place in the pool of the manifest's bytes: of one that was read the pool is the input
+    // (R13.7).
+    pub seed: Option<Span>,
     pub files: [File; wire::MOST_FILES],
     pub count: usize,
     pub sealed: bool,
     pub created: Created,
 }
 
-// The position past the manifest, which is the input's length, or the number of the refusal (R2.2).
-// The value of a refused manifest, and each file past the count, is blank (R13.7).
-#[derive(Drop)]
-pub struct ManifestRead {
-    pub answer: StepRead,
-    pub value: Manifest,
-}
-
-// What each field's reader answers: a value and the position past it, or the number of the refusal.
-#[derive(Drop)]
-enum SeedRead {
-    Value { seed: Seed, next: usize },
-    Refused { no: u8 },
-}
-
-impl SeedRead {
-    // The number of a refusal, for a caller's `else`.
-    fn no(self) -> u8
-        ensures { result ≡ number_of (seed_told self) }
-    {
-        match self {
-            SeedRead::Refused { no } => no,
-            _ => 0,
-        }
-    }
-}
-
-#[derive(Drop)]
-enum SealedRead {
-    Value { sealed: bool, next: usize },
-    Refused { no: u8 },
-}
-
-#[derive(Drop)]
-enum CreatedRead {
-    Value { created: Created, next: usize },
-    Refused { no: u8 },
+// The first `count` files were read, and each behind them is blank (R13.7).
+#[derive(Clone, Copy)]
+struct FileList {
+    all: [File; wire::MOST_FILES],
+    count: usize,
 }
 
 // What stands after the files.
-#[derive(Drop)]
+#[derive(Clone, Copy)]
 struct Ending {
     sealed: bool,
     created: Created,
-}
-
-#[derive(Drop)]
-enum EndRead {
-    Value { end: Ending, next: usize },
-    Refused { no: u8 },
-}
-
-impl EndRead {
-    fn no(self) -> u8
-        ensures { result ≡ number_of (end_told self) }
-    {
-        match self {
-            EndRead::Refused { no } => no,
-            _ => 0,
-        }
-    }
-}
-
-// How many files there are and the position past them, or the refusal; and the files.
-#[derive(Drop)]
-struct FilesRead {
-    answer: NumberRead,
-    files: [File; wire::MOST_FILES],
 }
 
 fn blank_files() -> [File; wire::MOST_FILES]
@@ -125,69 +63,33 @@ fn blank_files() -> [File; wire::MOST_FILES]
         hash: none,
         path: none,
         size: 0,
-        mtime: Mtime::Null,
+        mtime: None,
     };
     [file; wire::MOST_FILES]
 }
 
-fn refusal(no: u8) -> ManifestRead
-    ensures { result ≡ answer_for (refused no) }
-{
-    let files = blank_files();
-    let value = Manifest {
-        seed: Seed::Null,
-        files,
-        count: 0,
-        sealed: true,
-        created: Created::Integer {
-            negative: false,
-            n: 0,
-        },
-    };
-    ManifestRead {
-        answer: StepRead::Refused { no },
-        value,
-    }
-}
-
-// The whole value of the manifest that s is, every field of it; or the refusal of the first
-// offending item, 9 before all else.
-pub fn read(s: &[u8]) -> ManifestRead
-    ensures { result ≡ answer_for (manifest_at s.now) }
+// The whole value of the manifest that s is, every field of it, and the position past it, which is
+// the input's length; or the refusal of the first offending item, 9 before all else. Each file past
+// the count is blank (R13.7).
+pub fn read(s: &[u8]) -> Result<(Manifest, usize), Refusal>
+    ensures { told result ≡ answer_for (manifest_at s.now) }
 {
     if wire::MOST_MANIFEST < s.len() {
-        return refusal(wire::TOO_LARGE);
+        return Err(Refusal::TooLarge);
     }
-    let m = cbor::read::one_byte(s, 0, 0xA5);
-    let StepRead::Past { next: a } = m else {
-        return refusal(m.no());
-    };
-    let k = fields::seed_field(s, a);
-    let SeedRead::Value { seed, next: b } = k else {
-        return refusal(k.no());
-    };
-    let l = files::list(s, b);
-    let listed = l.answer;
-    let NumberRead::Value { n, next: c } = listed else {
-        return refusal(listed.no());
-    };
-    let e = fields::ending(s, c, seed);
-    let EndRead::Value { end, next } = e else {
-        return refusal(e.no());
-    };
-    let files = l.files;
-    let created = end.created;
+    let a = cbor::read::one_byte(s, 0, 0xA5)?;
+    let (seed, b) = fields::seed_field(s, a)?;
+    let (files, c) = files::list(s, b)?;
+    let (end, next) = fields::ending(s, c, seed)?;
+    let all = files.all;
     let value = Manifest {
         seed,
-        files,
-        count: n as usize,
+        files: all,
+        count: files.count,
         sealed: end.sealed,
-        created,
+        created: end.created,
     };
-    ManifestRead {
-        answer: StepRead::Past { next },
-        value,
-    }
+    Ok((value, next))
 }
 
 // The manifest of m, with the first `count` of its files, at the front of out; or 19, 20, then 9,
@@ -195,16 +97,13 @@ pub fn read(s: &[u8]) -> ManifestRead
 //
 // Its places are in the pool, so what `read` answered is written by the same bytes with the input
 // as the pool.
-pub fn write(pool: &[u8], m: Manifest, out: &mut [u8]) -> Wrote
+pub fn write(pool: &[u8], m: Manifest, out: &mut [u8]) -> Result<usize, Refusal>
     ensures { Written 0 (manifest_verdict pool.now m) out.old out.new result }
 {
-    let j = judge::whole(pool, m);
-    let Wrote::Done { len } = j else {
-        return j;
-    };
+    let len = judge::whole(pool, m)?;
     if out.len() < len {
-        return Wrote::Refused { no: wire::NO_ROOM };
+        return Err(Refusal::NoRoom);
     }
     form::whole(pool, m, out);
-    Wrote::Done { len }
+    Ok(len)
 }

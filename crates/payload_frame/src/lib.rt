@@ -7,68 +7,48 @@
 // (`payload_frame_short`). Other data above 480 bytes are 9.
 #![tactic(auto)]
 
-ghost use Rattle.std.specs.Prelude.{◌≡◌, length};
-ghost use Rattle.wire.specs.Answer.{done};
-ghost use Rattle.wire.specs.Sizes.{id_size};
+ghost use Rattle.std.specs.Prelude.{◌≡◌};
+ghost use Rattle.wire.specs.Answer.{Answer};
 ghost use Rattle.wire.specs.Writing.{Written};
-ghost use Rattle.frame.specs.Layout.{layout};
-ghost use Rattle.payload_frame.specs.Payload.{key_frame, auth_frame};
-ghost use Rattle.payload_frame.specs.Private.{fault_of};
+ghost use Rattle.frame.specs.Kind.{type_byte};
+ghost use Rattle.payload_frame.specs.Payload.{payload_frame_of, key_frame, auth_frame};
+ghost use Rattle.payload_frame.specs.Private.{Reads};
 
-use auth::ClaimRead;
-use shard::ShardRead;
-use wire::Wrote;
+use frame::Kind;
+use wire::Refusal;
 
-// The number of what is refused whatever the payload says, 0 where that is nothing (R7.5).
-fn fault(id: &[u8], contents: &[u8]) -> u8
-    ensures { result ≡ fault_of id.now contents.now }
+// A frame that is the first of one, of a payload that `read` accepts (R7.5).
+fn carry<T: Drop, F: FnOnce(&[u8]) -> Result<T, Refusal>>(
+    read: F,
+    kind: Kind,
+    id: &[u8],
+    contents: &[u8],
+    out: &mut [u8],
+) -> Result<usize, Refusal>
+    requires { F.IsAlwaysCallable read }
+    ensures { (g : Answer Unit) → Reads (F.post read) contents.now g → Written 0 (payload_frame_of (type_byte kind) id.now contents.now g) out.old out.new result }
 {
-    if id.len() != wire::ID_SIZE {
-        return wire::OUT_OF_RANGE;
-    }
+    let Ok(eight) = <&[u8; wire::ID_SIZE]>::try_from(id) else {
+        return Err(Refusal::OutOfRange);
+    };
     if wire::MOST_DATA < contents.len() {
-        return wire::TOO_LARGE;
+        return Err(Refusal::TooLarge);
     }
-    wire::DONE
-}
-
-// The frame, once its payload is accepted: such a frame is the first of one (R7.5).
-fn lay(kind: u8, id: &[u8], contents: &[u8], out: &mut [u8]) -> Wrote
-    requires { length id.now ≡ id_size }
-    ensures { Written 0 (done (layout kind id.now 0 1 contents.now)) out.old out.new result }
-{
-    let mut eight = [0u8; wire::ID_SIZE];
-    lend::copy(&mut eight, 0, id);
-    frame::lay(kind, &eight, 0, 1, contents, out)
+    let _ = read(contents)?;
+    frame::lay(u8::from(kind), eight, 0, 1, contents, out)
 }
 
 // A key frame, which carries one shard, at the front of out; or 19, 9, the shard reader's refusal,
 // 11, and nothing changed.
-pub fn key(id: &[u8], contents: &[u8], out: &mut [u8]) -> Wrote
+pub fn key(id: &[u8], contents: &[u8], out: &mut [u8]) -> Result<usize, Refusal>
     ensures { Written 0 (key_frame id.now contents.now) out.old out.new result }
 {
-    let no = fault(id, contents);
-    if no != wire::DONE {
-        return Wrote::Refused { no };
-    }
-    let r = shard::read(contents);
-    if let ShardRead::Refused { no } = r {
-        return Wrote::Refused { no };
-    }
-    lay(frame::KEY, id, contents, out)
+    carry(shard::read, Kind::Key, id, contents, out)
 }
 
 // An auth frame at the front of out; or 19, 9, the auth reader's refusal, 11, and nothing changed.
-pub fn auth(id: &[u8], contents: &[u8], out: &mut [u8]) -> Wrote
+pub fn auth(id: &[u8], contents: &[u8], out: &mut [u8]) -> Result<usize, Refusal>
     ensures { Written 0 (auth_frame id.now contents.now) out.old out.new result }
 {
-    let no = fault(id, contents);
-    if no != wire::DONE {
-        return Wrote::Refused { no };
-    }
-    let r = auth::read(contents);
-    if let ClaimRead::Refused { no } = r {
-        return Wrote::Refused { no };
-    }
-    lay(frame::AUTH, id, contents, out)
+    carry(auth::read, Kind::Auth, id, contents, out)
 }

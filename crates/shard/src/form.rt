@@ -6,7 +6,7 @@ ghost use Rattle.cbor.specs.Form.{head_size};
 ghost use Rattle.cbor.specs.Put.{Put};
 ghost use Rattle.shard.specs.Shard.{content_of, quorum_of, rest_of, shard_of, signed_of};
 
-use super::Quorum;
+use super::{Quorum, Rest};
 use cbor::{BYTES, TEXT};
 
 // What stands before `hash`: in the payload the head of the map, `pub` and `sig`; in the signed
@@ -24,12 +24,13 @@ fn size(n: u64) -> usize
 
 // How long the form is from `hash` on. All its keys, `hash`, `version` and the head of `type` make
 // 101 bytes.
-pub(super) fn rest_size(hash: &[u8], kind: &[u8], share: &[u8], len: u64, q: Quorum) -> usize
-    requires { (length hash.now ≡ 32) × (length kind.now ≤ 12) × (length share.now ≤ most_share) }
-    ensures { (result ≡ length (rest_of hash.now kind.now share.now len q)) × (result ≤ 400) }
+pub(super) fn rest_size(r: Rest) -> usize
+    requires { (length r.hash.now ≡ 32) × (length r.kind.now ≤ 12) × (length r.share.now ≤ most_share) }
+    ensures { (result ≡ length (rest_of r.entry.hash.now r.entry.kind.now r.entry.share.now r.entry.len r.entry.quorum)) × (result ≤ 400) }
 {
-    let numbers = size(len) + size(q.threshold) + size(q.count) + size(q.index);
-    101 + kind.len() + size(share.len() as u64) + share.len() + numbers
+    let q = r.quorum;
+    let numbers = size(r.len) + size(q.threshold) + size(q.count) + size(q.index);
+    101 + r.kind.len() + size(r.share.len() as u64) + r.share.len() + numbers
 }
 
 // The fields `type`, `share` and `length`. Here and below the answer is the index past what is
@@ -54,59 +55,34 @@ fn quorum(out: &mut [u8], at: usize, q: Quorum) -> usize
 }
 
 // From `hash` on.
-fn rest(
-    out: &mut [u8],
-    at: usize,
-    hash: &[u8],
-    kind: &[u8],
-    share: &[u8],
-    len: u64,
-    q: Quorum,
-) -> usize
-    requires { at + length (rest_of hash.now kind.now share.now len q) ≤ length out.old }
-    ensures { Put at (rest_of hash.now kind.now share.now len q) out.old out.new result }
+fn rest(out: &mut [u8], at: usize, r: Rest) -> usize
+    requires { at + length (rest_of r.hash.now r.kind.now r.share.now r.len r.quorum) ≤ length out.old }
+    ensures { Put at (rest_of r.entry.hash.now r.entry.kind.now r.entry.share.now r.entry.len r.entry.quorum) out.old out.new result }
 {
-    let a = cbor::write::string_field(out, at, b"hash", BYTES, hash);
-    let b = content(out, a, kind, share, len);
+    let a = cbor::write::string_field(out, at, b"hash", BYTES, r.hash);
+    let b = content(out, a, r.kind, r.share, r.len);
     let c = cbor::write::number_field(out, b, b"version", 1);
-    quorum(out, c, q)
+    quorum(out, c, r.quorum)
 }
 
 // The payload.
-pub(super) fn payload(
-    out: &mut [u8],
-    public: &[u8],
-    sig: &[u8],
-    hash: &[u8],
-    kind: &[u8],
-    share: &[u8],
-    len: u64,
-    q: Quorum,
-)
-    requires { length (shard_of public.now sig.now hash.now kind.now share.now len q) ≤ length out.old }
-    ensures { out.new ≡ over 0 (shard_of public.now sig.now hash.now kind.now share.now len q) out.old }
+pub(super) fn payload(out: &mut [u8], public: &[u8], sig: &[u8], r: Rest)
+    requires { length (shard_of public.now sig.now r.hash.now r.kind.now r.share.now r.len r.quorum) ≤ length out.old }
+    ensures { out.new ≡ over 0 (shard_of public.now sig.now r.entry.hash.now r.entry.kind.now r.entry.share.now r.entry.len r.entry.quorum) out.old }
 {
     let a = cbor::write::fixed(out, 0, b"\xAA");
     let b = cbor::write::string_field(out, a, b"pub", BYTES, public);
     let c = cbor::write::string_field(out, b, b"sig", BYTES, sig);
-    rest(out, c, hash, kind, share, len, q);
+    rest(out, c, r);
 }
 
 // The bytes that get signed. The domain and the keys are fixed strings (R18.2).
-pub(super) fn message(
-    out: &mut [u8],
-    public: &[u8],
-    hash: &[u8],
-    kind: &[u8],
-    share: &[u8],
-    len: u64,
-    q: Quorum,
-)
-    requires { length (signed_of public.now hash.now kind.now share.now len q) ≤ length out.old }
-    ensures { out.new ≡ over 0 (signed_of public.now hash.now kind.now share.now len q) out.old }
+pub(super) fn message(out: &mut [u8], public: &[u8], r: Rest)
+    requires { length (signed_of public.now r.hash.now r.kind.now r.share.now r.len r.quorum) ≤ length out.old }
+    ensures { out.new ≡ over 0 (signed_of public.now r.entry.hash.now r.entry.kind.now r.entry.share.now r.entry.len r.entry.quorum) out.old }
 {
     let a = cbor::write::fixed(out, 0, b"ETHERNITY-SHARD-V1");
     let b = cbor::write::fixed(out, a, b"\xA9");
     let c = cbor::write::string_field(out, b, b"pub", BYTES, public);
-    rest(out, c, hash, kind, share, len, q);
+    rest(out, c, r);
 }

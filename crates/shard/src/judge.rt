@@ -3,7 +3,7 @@ ghost use Rattle.std.specs.Prelude.{◌≡◌, [], eqb};
 ghost use Rattle.wire.specs.Answer.{number_of};
 ghost use Rattle.shard.specs.Shard.{known, padded, rest_verdict};
 
-use super::Quorum;
+use super::Rest;
 
 // What is shared is a passphrase or a seed to sign with (R11.4).
 pub(super) fn is_known(kind: &[u8]) -> bool
@@ -28,23 +28,24 @@ pub(super) fn fills(share: u64, length: u64) -> bool
 
 // Whether the values that the payload and the signed bytes share, but for pub, may be written
 // (R10.7). What is at most share_count needs no bound of its own above.
-pub(super) fn rest_fits(hash: &[u8], kind: &[u8], share: &[u8], len: u64, q: Quorum) -> bool
-    ensures { result ≡ eqb (number_of (rest_verdict hash.now kind.now share.now len q [])) 0 }
+pub(super) fn rest_fits(r: Rest) -> bool
+    ensures { result ≡ eqb (number_of (rest_verdict r.entry.hash.now r.entry.kind.now r.entry.share.now r.entry.len r.entry.quorum [])) 0 }
 {
-    let size = share.len() as u64;
-    if hash.len() != 32 {
+    let size = r.share.len() as u64;
+    let q = r.quorum;
+    if r.hash.len() != 32 {
         return false;
     }
-    if !is_known(kind) {
+    if !is_known(r.kind) {
         return false;
     }
     if (wire::MOST_SHARE as u64) < size {
         return false;
     }
-    if len < 1 {
+    if r.len < 1 {
         return false;
     }
-    if !fills(size, len) {
+    if !fills(size, r.len) {
         return false;
     }
     if q.threshold < 1 {

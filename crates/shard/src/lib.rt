@@ -49,6 +49,16 @@ pub struct Shard {
     pub next: usize,
 }
 
+// What the payload and the signed bytes have in common: the values from `hash` on.
+#[derive(Clone, Copy)]
+struct Rest<'a> {
+    hash: &'a [u8],
+    kind: &'a [u8],
+    share: &'a [u8],
+    len: u64,
+    quorum: Quorum,
+}
+
 // All behind the claim.
 fn body(s: &[u8], claim: Claimed) -> Result<Shard, Refusal>
     ensures { shard_told result ≡ body_at s.now claim.next (record { public = claim.public; sig = claim.sig; hash = claim.hash }) }
@@ -97,14 +107,21 @@ pub fn write(
     if sig.len() != 64 {
         return Err(Refusal::OutOfRange);
     }
-    if !judge::rest_fits(hash, kind, share, length, quorum) {
+    let rest = Rest {
+        hash,
+        kind,
+        share,
+        len: length,
+        quorum,
+    };
+    if !judge::rest_fits(rest) {
         return Err(Refusal::OutOfRange);
     }
-    let len = form::PAYLOAD_FRONT + form::rest_size(hash, kind, share, length, quorum);
+    let len = form::PAYLOAD_FRONT + form::rest_size(rest);
     if out.len() < len {
         return Err(Refusal::NoRoom);
     }
-    form::payload(out, public, sig, hash, kind, share, length, quorum);
+    form::payload(out, public, sig, rest);
     Ok(len)
 }
 
@@ -124,13 +141,20 @@ pub fn signed(
     if public.len() != 32 {
         return Err(Refusal::OutOfRange);
     }
-    if !judge::rest_fits(hash, kind, share, length, quorum) {
+    let rest = Rest {
+        hash,
+        kind,
+        share,
+        len: length,
+        quorum,
+    };
+    if !judge::rest_fits(rest) {
         return Err(Refusal::OutOfRange);
     }
-    let len = form::MESSAGE_FRONT + form::rest_size(hash, kind, share, length, quorum);
+    let len = form::MESSAGE_FRONT + form::rest_size(rest);
     if out.len() < len {
         return Err(Refusal::NoRoom);
     }
-    form::message(out, public, hash, kind, share, length, quorum);
+    form::message(out, public, rest);
     Ok(len)
 }

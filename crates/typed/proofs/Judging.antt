@@ -9,7 +9,10 @@ use lib.Dec.{ltb, leb, eqb}
 use native.Mathlib.Numerals.{add-one}
 use lib.ListN.{length, get_or, take, drop, length-append}
 use lib.Seq.{take-suc, take_all, take_at, length-take-le}
-use Rattle.wire.specs.Answer.{choose, done, refused_at}
+use Rattle.wire.specs.Answer.{choose, Answer, done, refused_at}
+use Rattle.wire.specs.Refusal.{number, Placeless}
+use Rattle.wire.specs.declared.Refusal.{Refusal}
+use Rattle.wire.specs.declared.RefusedAt.{RefusedAt}
 use Rattle.wire.specs.Every.{every}
 use Rattle.wire.specs.Over.{over}
 use Rattle.wire.proofs.Overs.{over_none, over_fits, length_over}
@@ -164,6 +167,10 @@ every_line : (cs : List ℕ) → every (λ c. skipped c || typable false c) cs �
 unfolding typable
 every_line cs = every_plain is_letter cs
 
+-- a refusal that comes without a place
+pub placed : {A : Type 0} (b : Refusal) (e : RefusedAt) → Placeless b e → (y : Answer A) → refused_at (number b) 0 ≡ y → refused_at (number e.why) e.place ≡ y
+placed b e (p, q) y k = rw (p, q) k
+
 module _ (last : Bool) (number : ℕ) (cs : List ℕ) (s : Bool) (spelt : s ≡ every (λ c. skipped c || typable false c) cs) where
   pub line_unspelt : not s ≡ true → refused_at 1 0 ≡ read_line last number cs
   unfolding read_line
@@ -179,7 +186,7 @@ module _ (last : Bool) (number : ℕ) (cs : List ℕ) (s : Bool) (spelt : s ≡ 
       unfolding possible
       line_bounds = count_bounds last n (both_hold (leb 1 number && leb number 20) (count_right last n) (said_yes p _ e may)).1
 
-      module _ (l : List ℕ) (stands : take (n - 0) l ≡ plain cs) (r : Bool) (f : r ≡ right number (take (n - 0) l)) where
+      module _ (l : List ℕ) (stands : take n l ≡ plain cs) (r : Bool) (f : r ≡ right number (take n l)) where
         pub line_right : r ≡ true → done tt ≡ read_line last number cs
         unfolding read_line possible
         line_right h = rw (sym (every_line cs), said_yes s _ spelt good, ← count, said_yes p _ e may, ← stands, ← f, h)

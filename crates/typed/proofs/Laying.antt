@@ -3,6 +3,7 @@ use Prim.Native.Nat.{ℕ, zero, suc, ◌+◌, ◌-◌, ◌*◌, ◌≤◌, ◌<�
 use mathlib.Core.Path.{◌≡◌, refl, sym, ap, ◌∙◌}
 use mathlib.Core.Logic.{◌⊎◌, inl, inr}
 use mathlib.Core.List.{List, [], ◌∷◌, ◌++◌, append_assoc, append-nil}
+use native.Mathlib.Nat.{sub-zero}
 use native.Mathlib.Numerals.{add-one}
 use native.Mathlib.Omega.{arith}
 use borrow.Author.Tests.{le-leb, lt-leb}
@@ -10,11 +11,12 @@ use lib.ListN.{length, take, drop, length-append, length-take, length-drop, drop
 use lib.Seq.{take_all, drop-drop}
 use Rattle.digits.specs.Private.{Laid}
 use Rattle.digits.proofs.Laying.{laid_whole}
+use Rattle.std.specs.Prelude.{Result, Ok, Err}
 use Rattle.wire.specs.Answer.{Answer, done, Kept}
 use Rattle.wire.specs.Over.{over}
 use Rattle.wire.specs.Writing.{told, writing, Written}
-use Rattle.wire.specs.declared.Wrote.{Wrote}
-use Rattle.wire.specs.declared.Wrote.TheVariants.{Done, Refused}
+use Rattle.wire.specs.declared.Refusal.{Refusal}
+use Rattle.wire.specs.declared.Refusal.TheVariants.{TooLarge}
 use Rattle.wire.proofs.Writes.{kept_fits, denied}
 use Rattle.wire.proofs.Cases.{lt_or_le, not_done, done_value}
 use Rattle.wire.proofs.Overs.{over_none, over_then, length_over, read_over}
@@ -139,13 +141,13 @@ module _ (cs out₀ : List ℕ) (first start : ℕ) (most : length cs ≤ 800) (
 
 -- the first line, and behind it the others
 module _ (cs out : List ℕ) (room : 859 ≤ length out) (some : length cs ≡ 0 → ⊥) (first : ℕ) (e : first ≡ 0 + min 40 (length cs - 0)) where
-  pub all_lined : (x y : List ℕ) (start end : ℕ) → Laid 0 42 (with_check 1 (take (first - 0) (drop 0 cs))) out x start
+  pub all_lined : (x y : List ℕ) (start end : ℕ) → Laid 0 42 (with_check 1 (take first cs)) out x start
       → Laid start 859 (fed (numbered 2 (rows 19 (drop first cs)))) x y end × (end ≤ 859) → Laid 0 859 (parted (numbered 1 (rows 20 cs))) out y end
   unfolding numbered parted
   all_lined x y start end p (q, l) =
-      let r : take (first - 0) (drop 0 cs) ≡ take 40 cs = row_is cs 0 first e in
+      let r : take first cs ≡ take 40 cs = ap (λ (k : ℕ). take k cs) (sym (sub-zero first)) ∙ row_is cs 0 first e in
       let d : drop first cs ≡ drop 40 cs = row_left cs 0 first e in
-      let a : List ℕ = with_check 1 (take (first - 0) (drop 0 cs)) in
+      let a : List ℕ = with_check 1 (take first cs) in
       let b : List ℕ = fed (numbered 2 (rows 19 (drop first cs))) in
       let w : parted (numbered 1 (rows 20 cs)) ≡ a ++ b = ap (λ (ls : List (List ℕ)). parted (numbered 1 ls)) (rows_step 19 cs (positive (length cs) some)) ∙ rw (r, d) in
       let s : length (a ++ b) ≡ end = omega (arith, length-append a b, p.next, q.next) in
@@ -162,36 +164,36 @@ none_lined (c ∷ cs) out e = absurd (omega arith)
 
 -- ---- the lines of bytes
 
-module _ (src chars₀ chars : List ℕ) (r : Wrote) (k : Written 0 (done (text_of zbase32 src)) chars₀ chars r) (few : length src ≤ 500) (size : length chars₀ ≡ 800) where
+module _ (src chars₀ chars : List ℕ) (r : Result ℕ Refusal) (k : Written 0 (done (text_of zbase32 src)) chars₀ chars r) (few : length src ≤ 500) (size : length chars₀ ≡ 800) where
   fitting : (told r ≡ done (length (text_of zbase32 src))) × (chars ≡ over 0 (text_of zbase32 src) chars₀)
   fitting = kept_fits 0 (text_of zbase32 src) chars₀ chars (omega (arith, text_length src)) k
 
-  pub never_refused : {P : Type 0} (e : ℕ) → r ≡ Refused e → P
+  pub never_refused : {P : Type 0} (e : Refusal) → r ≡ Err e → P
   never_refused e q = not_done (sym (ap told q) ∙ fitting.0)
 
-  module _ (n : ℕ) (q : r ≡ Done n) where
+  module _ (n : ℕ) (q : r ≡ Ok n) where
     count_is : n ≡ length (text_of zbase32 src)
     count_is = done_value (sym (ap told q) ∙ fitting.0)
 
     pub chars_few : n ≤ 800
     chars_few = omega (arith, count_is, text_length src)
 
-    chars_are : take (n - 0) chars ≡ text_of zbase32 src
+    chars_are : take n chars ≡ text_of zbase32 src
     chars_are =
-        let z : n - 0 ≡ length (text_of zbase32 src) = omega (arith, count_is) in
+        let z : n ≡ length (text_of zbase32 src) = count_is in
         rw (z, fitting.1) (read_over 0 (text_of zbase32 src) chars₀ (omega (arith, text_length src)))
 
     pub whole_given : (aside x out out' : List ℕ) (end : ℕ) (a : Answer ℕ) → length aside ≡ 859
-        → Laid 0 859 (parted (numbered 1 (rows 20 (take (n - 0) chars)))) aside x end
-        → Kept (writing 0 out (done (take (end - 0) x))) out out' a → Kept (writing 0 out (done (typed_of src))) out out' a
+        → Laid 0 859 (parted (numbered 1 (rows 20 (take n chars)))) aside x end
+        → Kept (writing 0 out (done (take end x))) out out' a → Kept (writing 0 out (done (typed_of src))) out out' a
     unfolding typed_of
     whole_given aside x out out' end a room p g =
-        rw chars_are at (laid_whole 859 end (parted (numbered 1 (rows 20 (take (n - 0) chars)))) aside x out out' a (omega arith) p g)
+        rw chars_are at (laid_whole 859 end (parted (numbered 1 (rows 20 (take n chars)))) aside x out out' a (omega arith) p (rw (sub-zero end) g))
 
-pub too_many : (src out : List ℕ) → 500 < length src → Written 0 (write_typed src) out out (Refused 9)
+pub too_many : (src out : List ℕ) → 500 < length src → Written 0 (write_typed src) out out (Err TooLarge)
 unfolding write_typed
-too_many src out h = rw (lt-leb (length src) 500 h) (denied 0 out 9)
+too_many src out h = rw (lt-leb (length src) 500 h) (denied 0 out TooLarge)
 
-pub few_enough : (src out x : List ℕ) (r : Wrote) → length src ≤ 500 → Written 0 (done (typed_of src)) out x r → Written 0 (write_typed src) out x r
+pub few_enough : (src out x : List ℕ) (r : Result ℕ Refusal) → length src ≤ 500 → Written 0 (done (typed_of src)) out x r → Written 0 (write_typed src) out x r
 unfolding write_typed
 few_enough src out x r h k = rw (le-leb (length src) 500 h) k

@@ -6,7 +6,6 @@ pub mod Round
 pub mod Found
 pub mod Slips
 pub mod Pages
-pub mod Once
 mod Judging
 mod Weighing
 mod Answers

@@ -4,19 +4,23 @@ use Prim.Native.Nat.{ℕ, ◌+◌, ◌-◌, ◌≤◌, ◌<◌}
 use mathlib.Core.Path.{◌≡◌, refl, sym, ap, ◌∙◌, subst}
 use mathlib.Core.Bool.{Bool, true, false}
 use mathlib.Core.List.{List, ◌++◌}
-use native.Mathlib.Nat.{sub-zero}
 use native.Mathlib.Numerals.{add-one}
 use native.Mathlib.Omega.{arith}
 use borrow.Author.Tests.{eq-eqb, ne_eqb, le-leb, lt-leb, lt-ltb, le-ltb}
 use lib.ListN.{length, get_or, set, take, drop, drop_of_length-le}
 use lib.Seq.{take-take, take-suc-set, length-take-le, drop-cons}
-use Rattle.wire.specs.Answer.{done, refused, refused_at, then}
+use Rattle.std.specs.Prelude.{Result, Ok, Err}
+use Rattle.std.specs.Result.{IsErr, IsErrAnd}
+use Rattle.std.proofs.lemmas.Result.{err_from_is_err_and}
+use Rattle.wire.specs.Refusal.{number, Placeless}
+use Rattle.wire.specs.declared.RefusedAt.{RefusedAt}
+use Rattle.wire.proofs.Answers.{err_is}
+use Rattle.wire.specs.declared.Refusal.{Refusal}
+use Rattle.wire.specs.Answer.{Answer, done, refused, refused_at, then}
 use Rattle.wire.specs.Over.{over}
 use Rattle.typed.specs.Typed.{skipped, data_of, right}
-use Rattle.typed.specs.Private.{Held, held, Fits, wrong_after, closed, stepped, step_told, Going, ran, start, verdict, ending}
+use Rattle.typed.specs.Private.{Held, held, Fits, wrong_after, closed, stepped, step_told, Going, ran, start, verdict, ending, gathered_told, Ample}
 use Rattle.typed.specs.declared.lines.Typing.{Typing}
-use Rattle.typed.specs.declared.lines.Step.{Step}
-use Rattle.typed.specs.declared.lines.Step.TheVariants.{On, Bad}
 use Rattle.typed.proofs.Judging.{front_over}
 
 -- ---- the first wrong line
@@ -47,13 +51,13 @@ module _ (t : Typing) (line contents : List ℕ) (fit : Fits t) (size : length l
 
   -- the data is copied behind that of the lines before
   pub close_held : (x : List ℕ) (w : ℕ) → 2 ≤ t.at → length contents ≡ 800 → w ≡ wrong_after t.n t.wrong (take t.at line)
-      → x ≡ over t.made (take (t.at - 2 - 0) line) contents
+      → x ≡ over t.made (take (t.at - 2) line) contents
       → held (record { n = t.n + 1; at = 0; wrong = w; made = t.made + (t.at - 2) }) line x ≡ closed (held t line contents)
   unfolding held closed data_of
   close_held x w two room e q =
-      let bs : List ℕ = take (t.at - 2 - 0) line in
-      let len : length bs ≡ t.at - 2 = length-take-le (t.at - 2 - 0) line (omega (arith, fit.short)) ∙ sub-zero (t.at - 2) in
-      let d : bs ≡ take (length (take t.at line) - 2) (take t.at line) = rw (line_length_lem, sub-zero (t.at - 2)) (sym (take-take (t.at - 2) t.at line (omega arith))) in
+      let bs : List ℕ = take (t.at - 2) line in
+      let len : length bs ≡ t.at - 2 = length-take-le (t.at - 2) line (omega (arith, fit.short)) in
+      let d : bs ≡ take (length (take t.at line) - 2) (take t.at line) = rw line_length_lem (sym (take-take (t.at - 2) t.at line (omega arith))) in
       same_held (add-one t.n) e refl
       (ap (take (t.made + (t.at - 2))) q
       ∙ ap (λ (k : ℕ). take (t.made + k) (over t.made bs contents)) (sym len)
@@ -99,14 +103,21 @@ module _ (text : List ℕ) (i : ℕ) (h : Held) (more : i < length text) where
   ran_next = ap (ran h) (drop-cons text i 0 more) ∙ ap (λ (j : ℕ). then (stepped h (get_or text i 0)) (λ k. ran k (drop j text))) (sym (add-one i))
 
   -- the step's answer r, with the buffers x and y that it left
-  module _ (r : Step) (x y : List ℕ) (e : step_told r x y ≡ stepped h (get_or text i 0)) where
-    pub ran_stop : r ≡ Bad → refused 2 ≡ ran h (drop i text)
-    ran_stop q = sym (ran_next ∙ rw (sym e, q))
+  module _ (r : Result Typing Refusal) (x y : List ℕ) (e : step_told r x y ≡ stepped h (get_or text i 0)) where
+    pub ran_stop : (b : Refusal) → r ≡ Err b → refused (number b) ≡ ran h (drop i text)
+    ran_stop b q = sym (ran_next ∙ rw (sym e, q))
 
-    pub ran_on : (t : Typing) → r ≡ On t → ran h (drop i text) ≡ ran (held t x y) (drop (i + 1) text)
+    pub ran_on : (t : Typing) → r ≡ Ok t → ran h (drop i text) ≡ ran (held t x y) (drop (i + 1) text)
     ran_on t q = ran_next ∙ rw (sym e, q)
 
-pub goes_on : (r : Step) (t : Typing) → Going r → r ≡ On t → Fits t
+-- what `?` hands on
+pub stopped : (r : Result Typing Refusal) (b : Refusal) → IsErr r × IsErrAnd r (λ x. x ≡ b) → (x y : List ℕ) (a : Answer Held) → refused (number b) ≡ a → (step_told r x y ≡ a) × Going r
+stopped r b h x y a k = rw (err_is r b h) (k, tt)
+
+pub gather_stopped : (r : Result ℕ RefusedAt) (b : Refusal) → IsErr r × IsErrAnd r (Placeless b) → (x : List ℕ) (a : Answer (List ℕ)) → refused (number b) ≡ a → (gathered_told r x ≡ a) × Ample r
+gather_stopped r b (h, k) x a q = let p = err_from_is_err_and r k in rw (p.1, p.2.0, p.2.1) (q, tt)
+
+pub goes_on : (r : Result Typing Refusal) (t : Typing) → Going r → r ≡ Ok t → Fits t
 goes_on r t g e = subst Going e g
 
 pub ran_all : (text : List ℕ) (i : ℕ) (h : Held) → length text ≤ i → done h ≡ ran h (drop i text)
@@ -115,11 +126,11 @@ ran_all text i h l = rw (drop_of_length-le text {i = i} l)
 
 -- ---- and behind them the end of the last line
 
-module _ (text : List ℕ) (r : Step) (x y : List ℕ) (e : step_told r x y ≡ ran (start 1) text) where
-  pub gather_stop : r ≡ Bad → refused 2 ≡ then (ran (start 1) text) ending
-  gather_stop q = rw (sym e, q)
+module _ (text : List ℕ) (r : Result Typing Refusal) (x y : List ℕ) (e : step_told r x y ≡ ran (start 1) text) where
+  pub gather_stop : (b : Refusal) → r ≡ Err b → refused (number b) ≡ then (ran (start 1) text) ending
+  gather_stop b q = rw (sym e, q)
 
-  module _ (t : Typing) (q : r ≡ On t) (fit : Fits t) (size : length x ≡ 42) where
+  module _ (t : Typing) (q : r ≡ Ok t) (fit : Fits t) (size : length x ≡ 42) where
     pub gather_short : t.at < 3 → refused 2 ≡ then (ran (start 1) text) ending
     unfolding ending held
     gather_short h = rw (sym e, q, line_length_lem t x y fit size, lt-leb 3 t.at h)

@@ -3,7 +3,7 @@ use Prim.Native.Nat.{ℕ, suc, ◌+◌, ◌-◌, ◌*◌, ◌/◌, ◌%◌, ◌�
 use mathlib.Core.Path.{◌≡◌, refl, sym, ap, ◌∙◌}
 use mathlib.Core.Bool.{false}
 use mathlib.Core.List.{List, [], ◌∷◌}
-use native.Mathlib.Nat.{add_assoc, sub-zero, mul-le-mul_right}
+use native.Mathlib.Nat.{add_assoc, mul-le-mul_right}
 use native.Mathlib.Numerals.{add-one}
 use native.Mathlib.Omega.{arith}
 use borrow.Author.Tests.{eq-eqb, ne_eqb}
@@ -60,12 +60,12 @@ unfolding check_letters
 check_written n sum q r cs e f g = rw (f, g, e)
 
 -- x are the check's characters of the data of line l, which stand in front of its last two
-module _ (n : ℕ) (l x : List ℕ) (two : 2 ≤ length l) (e : x ≡ check_letters n (take (length l - 2 - 0) (drop 0 l))) where
+module _ (n : ℕ) (l x : List ℕ) (two : 2 ≤ length l) (e : x ≡ check_letters n (take (length l - 2) l)) where
   of_data : x ≡ check_letters n (data_of l)
   unfolding data_of
-  of_data = e ∙ rw (sub-zero (length l - 2))
+  of_data = e
 
-  pub right_not : (get_or l (length l - 2) 0 ≡ get_or x 0 0 → ⊥) → false ≡ right n l
+  pub right_not : (get_or l (length l - 2) 0 ≡ get_or x 0 0 → ⊥) → eqb (get_or l (length l - 2) 0) (get_or x 0 0) ≡ right n l
   unfolding right check_letters
   right_not h =
       let k : letter zbase32 (check_of n (data_of l) / 32) ≡ get_or x 0 0 = ap (λ (z : List ℕ). get_or z 0 0) (sym of_data) in

@@ -1,13 +1,12 @@
 -- What the parts of the code answer, for the contracts of private functions: nothing here is
 -- promised to a caller.
-use Rattle.std.specs.Prelude.{ℕ, suc, ◌-◌, ◌*◌, ◌≤◌, Bool, ◌&&◌, ◌||◌, List, [], ◌∷◌, ◌++◌, ltb, leb, eqb, length, take}
+use Rattle.std.specs.Prelude.{ℕ, Result, Ok, Err, suc, ◌-◌, ◌*◌, ◌≤◌, Bool, ◌&&◌, ◌||◌, List, [], ◌∷◌, ◌++◌, ltb, leb, eqb, length, take}
 use Rattle.wire.specs.Answer.{choose, Answer, done, refused, refused_at, then, demand}
+use Rattle.wire.specs.Refusal.{number}
+use Rattle.wire.specs.declared.Refusal.{Refusal}
+use Rattle.wire.specs.declared.RefusedAt.{RefusedAt}
 use Rattle.typed.specs.Typed.{most_lines, full_data, full_line, feed, skipped, is_letter, count_right, data_of, right}
 use Rattle.typed.specs.declared.lines.Typing.{Typing}
-use Rattle.typed.specs.declared.lines.Step.{Step}
-use Rattle.typed.specs.declared.lines.Step.TheVariants.{On, Bad}
-use Rattle.typed.specs.declared.lines.Gathered.{Gathered}
-use Rattle.typed.specs.declared.lines.Gathered.TheVariants as G
 
 -- a character that a text may have, or a line by itself, which has no line feed
 unfoldable pub typable : (feeds : Bool) → ℕ → Bool
@@ -64,14 +63,14 @@ ran h [] = done h
 ran h (c ∷ cs) = then (stepped h c) (λ k. ran k cs)
 
 -- what a step says, the buffers being as it left them
-abbrev pub step_told : Step → (line contents : List ℕ) → Answer Held
-step_told (On t) line contents = done (held t line contents)
-step_told Bad line contents = refused 2
+abbrev pub step_told : Result Typing Refusal → (line contents : List ℕ) → Answer Held
+step_told (Ok t) line contents = done (held t line contents)
+step_told (Err e) line contents = refused (number e)
 
 -- where it goes on there is room
-abbrev pub Going : Step → Type 0
-Going (On t) = Fits t
-Going Bad = Unit
+abbrev pub Going : Result Typing Refusal → Type 0
+Going (Ok t) = Fits t
+Going (Err e) = Unit
 
 abbrev pub start : ℕ → Held
 start n = record { number = n; wrong = 0; line = []; contents = [] }
@@ -84,13 +83,11 @@ unfoldable pub ending : Held → Answer (List ℕ)
 ending h = demand (leb 3 (length h.line)) 2 (verdict (closed h))
 
 -- what all lines say, the data being in front of a buffer
-abbrev pub gathered_told : Gathered → List ℕ → Answer (List ℕ)
-gathered_told (G.Data len) contents = done (take len contents)
-gathered_told (G.Wrong line) contents = refused_at 23 line
-gathered_told G.Bad contents = refused 2
+abbrev pub gathered_told : Result ℕ RefusedAt → List ℕ → Answer (List ℕ)
+gathered_told (Ok len) contents = done (take len contents)
+gathered_told (Err e) contents = refused_at (number e.why) e.place
 
 -- the buffer has as many
-abbrev pub Ample : Gathered → Type 0
-Ample (G.Data len) = len ≤ full_data * most_lines
-Ample (G.Wrong line) = Unit
-Ample G.Bad = Unit
+abbrev pub Ample : Result ℕ RefusedAt → Type 0
+Ample (Ok len) = len ≤ full_data * most_lines
+Ample (Err e) = Unit

@@ -1,13 +1,11 @@
 -- Typed lines: R5.8 to R5.14 of docs/RULES.md.
-use Rattle.std.specs.Prelude.{ℕ, zero, suc, ◌+◌, ◌-◌, ◌*◌, ◌/◌, ◌%◌, Bool, true, false, ◌&&◌, ◌||◌, List, [], ◌∷◌, ◌++◌, ltb, leb, eqb, length, get_or, take, drop}
-use Rattle.wire.specs.Answer.{choose, Answer, done, refused_at, then, demand_at, demand, Kept}
+use Rattle.std.specs.Prelude.{ℕ, Result, zero, suc, ◌+◌, ◌-◌, ◌*◌, ◌/◌, ◌%◌, Bool, true, false, ◌&&◌, ◌||◌, List, [], ◌∷◌, ◌++◌, ltb, leb, eqb, length, get_or, take, drop}
+use Rattle.wire.specs.Answer.{choose, Answer, done, then, demand_at, demand, Kept}
 use Rattle.wire.specs.Every.{every}
+use Rattle.wire.specs.Reading.{told_at}
 use Rattle.wire.specs.Writing.{writing}
+use Rattle.wire.specs.declared.RefusedAt.{RefusedAt}
 use Rattle.text.specs.Text.{zbase32, value, letter, text_of, read_text}
-use Rattle.typed.specs.declared.TypedRead.{TypedRead}
-use Rattle.typed.specs.declared.TypedRead.TheVariants as T
-use Rattle.typed.specs.declared.LineRead.{LineRead}
-use Rattle.typed.specs.declared.LineRead.TheVariants as L
 
 -- ---- sizes (R5.8, R5.9)
 
@@ -150,16 +148,6 @@ typed_of bs = parted (numbered 1 (rows most_lines (text_of zbase32 bs)))
 unfoldable pub write_typed : List ℕ → Answer (List ℕ)
 write_typed bs = demand (leb (length bs) most_typed) 9 (done (typed_of bs))
 
--- ---- the enums' cases (R18.5)
-
-abbrev pub told : TypedRead → Answer ℕ
-told (T.Done len) = done len
-told (T.Refused e line) = refused_at e line
-
-abbrev pub line_told : LineRead → Answer Unit
-line_told L.Right = done tt
-line_told (L.Refused e line) = refused_at e line
-
 -- the whole promise of the reader: its answer, and every byte of its output (R1.2)
-abbrev pub ReadLines : (v : Answer (List ℕ)) (out out' : List ℕ) (r : TypedRead) → Type 0
-ReadLines v out out' r = Kept (writing 0 out v) out out' (told r)
+abbrev pub ReadLines : (v : Answer (List ℕ)) (out out' : List ℕ) (r : Result ℕ RefusedAt) → Type 0
+ReadLines v out out' r = Kept (writing 0 out v) out out' (told_at r)

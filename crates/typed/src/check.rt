@@ -8,10 +8,8 @@ fn weigh(contents: &[u8]) -> u32
     ensures { (result ≡ weighed 1 contents.now) × (result ≤ 51200) }
 {
     let mut sum: u32 = 0;
-    let mut i = 0;
-    while i < contents.len() {
-        sum += (i as u32 + 1) * (text::zbase32_value(contents[i]) as u32);
-        i += 1;
+    for (i, c) in contents.iter().enumerate() {
+        sum += (i as u32 + 1) * u32::from(text::zbase32_value(*c));
     }
     sum
 }
@@ -20,7 +18,7 @@ fn of(number: u8, contents: &[u8]) -> u32
     requires { length contents.now ≤ 40 }
     ensures { (result ≡ check_of number contents.now) × (result < 1021) }
 {
-    (weigh(contents) + 41 * (number as u32)) % 1021
+    (weigh(contents) + 41 * u32::from(number)) % 1021
 }
 
 // The check of a line's data, as its two characters.
@@ -40,9 +38,6 @@ pub(super) fn right(number: u8, line: &[u8]) -> bool
     ensures { result ≡ right number line.now }
 {
     let end = line.len() - 2;
-    let check = letters(number, &line[0..end]);
-    if line[end] != check[0] {
-        return false;
-    }
-    line[end + 1] == check[1]
+    let check = letters(number, &line[..end]);
+    line[end] == check[0] && line[end + 1] == check[1]
 }

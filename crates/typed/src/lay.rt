@@ -6,7 +6,7 @@ ghost use Rattle.wire.specs.Writing.{Written};
 ghost use Rattle.typed.specs.Typed.{rows, with_check, numbered, fed, parted, typed_of};
 
 use super::check;
-use wire::Wrote;
+use wire::Refusal;
 
 // The bytes of a full page's frame, their characters, and the lines of those.
 pub(super) const MOST_TYPED: usize = 500;
@@ -33,10 +33,7 @@ fn row_end(from: usize, len: usize) -> usize
     requires { from ≤ len }
     ensures { result ≡ from + min 40 (len - from) }
 {
-    if len - from < ROW {
-        return len;
-    }
-    from + ROW
+    from + ROW.min(len - from)
 }
 
 // The lines of the characters from index first on, each behind a line feed. Answers the index
@@ -63,23 +60,21 @@ fn lines(chars: &[u8], out: &mut [u8]) -> usize
     requires { (length chars.now ≤ 800) × (859 ≤ length out.old) }
     ensures { Laid 0 859 (parted (numbered 1 (rows 20 chars.now))) out.old out.new result }
 {
-    if chars.len() == 0 {
+    if chars.is_empty() {
         return 0;
     }
     let first = row_end(0, chars.len());
-    let start = line(out, 0, 1, &chars[0..first]);
+    let start = line(out, 0, 1, &chars[..first]);
     further(chars, first, out, start)
 }
 
-pub(super) fn whole(src: &[u8], out: &mut [u8]) -> Wrote
+pub(super) fn whole(src: &[u8], out: &mut [u8]) -> Result<usize, Refusal>
     requires { length src.now ≤ 500 }
     ensures { Written 0 (done (typed_of src.now)) out.old out.new result }
 {
     let mut chars = [0u8; TEXT_ROOM];
-    let Wrote::Done { len } = text::zbase32_write(src, &mut chars) else {
-        return Wrote::Refused { no: wire::NO_ROOM };
-    };
+    let len = text::zbase32_write(src, &mut chars)?;
     let mut aside = [0u8; LINES_ROOM];
-    let end = lines(&chars[0..len], &mut aside);
-    lend::give(&aside[0..end], out)
+    let end = lines(&chars[..len], &mut aside);
+    lend::give(&aside[..end], out)
 }

@@ -12,12 +12,11 @@ mod lay;
 mod lines;
 
 ghost use Rattle.std.specs.Prelude.{◌≡◌, length};
+ghost use Rattle.wire.specs.Reading.{told_at};
 ghost use Rattle.wire.specs.Writing.{Written};
-ghost use Rattle.text.specs.Text.{zbase32, read_text};
-ghost use Rattle.typed.specs.Typed.{skipped, plain, read_typed, read_line, write_typed, ReadLines, line_told};
+ghost use Rattle.typed.specs.Typed.{skipped, plain, read_typed, read_line, write_typed, ReadLines};
 
-use lines::Gathered;
-use wire::Wrote;
+use wire::{Refusal, RefusedAt};
 
 // A page has at most so many lines.
 pub const MOST_LINES: u8 = 20;
@@ -25,113 +24,64 @@ pub const MOST_LINES: u8 = 20;
 // A full line has so many characters, its check among them.
 pub const FULL_LINE: usize = 42;
 
-// The answer of the reader: how many bytes it wrote, or the refusal, with the number of the line
-// where it is 23 and else 0.
-#[derive(Clone, Copy)]
-pub enum TypedRead {
-    Done { len: usize },
-    Refused { no: u8, line: u8 },
-}
-
-// The answer on one line.
-#[derive(Clone, Copy)]
-pub enum LineRead {
-    Right,
-    Refused { no: u8, line: u8 },
-}
-
 // Whether a character between the others is skipped: the space, the tab and the dash are.
+#[tactic(auto, unfolding(crate::specs::Typed::skipped))]
 pub fn skipped(c: u8) -> bool
     ensures { result ≡ skipped c }
 {
-    if c == b' ' {
-        return true;
-    }
-    if c == b'\t' {
-        return true;
-    }
-    c == b'-'
-}
-
-// The bytes of the joined data, or its refusal.
-fn decode(contents: &[u8], out: &mut [u8]) -> TypedRead
-    ensures { ReadLines (read_text zbase32 contents.now) out.old out.new result }
-{
-    match text::zbase32_read(contents, out) {
-        Wrote::Done { len } => TypedRead::Done { len },
-        Wrote::Refused { no } => TypedRead::Refused { no, line: 0 },
-    }
+    matches!(c, b' ' | b'\t' | b'-')
 }
 
 // The bytes of typed lines at the front of out, and their number; or, each over the whole text, 1
 // for a character, 2 for a line that is too long or too short and for a 21st, 23 with the number of
 // the first line whose check is wrong; then 2 where the data does not end as bytes do, 11; and
 // nothing changed.
-pub fn read(text: &[u8], out: &mut [u8]) -> TypedRead
+pub fn read(text: &[u8], out: &mut [u8]) -> Result<usize, RefusedAt>
     ensures { ReadLines (read_typed text.now) out.old out.new result }
 {
-    if text.len() == 0 {
-        return TypedRead::Done { len: 0 };
+    if text.is_empty() {
+        return Ok(0);
     }
     if !lines::spelt(text, true) {
-        return TypedRead::Refused {
-            no: wire::BAD_CHARACTER,
-            line: 0,
-        };
+        return Err(RefusedAt::from(Refusal::BadCharacter));
     }
     let mut contents = [0u8; lines::DATA_ROOM];
-    match lines::gather(text, &mut contents) {
-        Gathered::Bad => TypedRead::Refused {
-            no: wire::BAD_TEXT_LENGTH,
-            line: 0,
-        },
-        Gathered::Wrong { line } => TypedRead::Refused {
-            no: wire::MISTYPED,
-            line,
-        },
-        Gathered::Data { len } => decode(&contents[0..len], out),
-    }
+    let len = lines::gather(text, &mut contents)?;
+    let written = text::zbase32_read(&contents[..len], out)?;
+    Ok(written)
 }
 
 // The typed lines of all bytes of src at the front of out, and their length; or 9 for more than 500
 // bytes, 11, and nothing changed.
-pub fn write(src: &[u8], out: &mut [u8]) -> Wrote
+pub fn write(src: &[u8], out: &mut [u8]) -> Result<usize, Refusal>
     ensures { Written 0 (write_typed src.now) out.old out.new result }
 {
     if lay::MOST_TYPED < src.len() {
-        return Wrote::Refused {
-            no: wire::TOO_LARGE,
-        };
+        return Err(Refusal::TooLarge);
     }
     lay::whole(src, out)
 }
 
 // Whether a text is the line of this number, as the last of its page or as one that another
 // follows; or 1, 2 or 23 as `typed::read` judges it. No line has the number 0 or one above 20: 2.
-pub fn line(text: &[u8], number: u8, last: bool) -> LineRead
-    ensures { line_told result ≡ read_line last number text.now }
+pub fn line(text: &[u8], number: u8, last: bool) -> Result<(), RefusedAt>
+    ensures { told_at result ≡ read_line last number text.now }
 {
     if !lines::spelt(text, false) {
-        return LineRead::Refused {
-            no: wire::BAD_CHARACTER,
-            line: 0,
-        };
+        return Err(RefusedAt::from(Refusal::BadCharacter));
     }
     let mut kept = [0u8; FULL_LINE];
     let n = lines::squeeze(text, &mut kept);
     if !lines::possible(number, last, n) {
-        return LineRead::Refused {
-            no: wire::BAD_TEXT_LENGTH,
-            line: 0,
-        };
+        return Err(RefusedAt::from(Refusal::BadTextLength));
     }
-    if check::right(number, &kept[0..n]) {
-        return LineRead::Right;
+    if !check::right(number, &kept[..n]) {
+        return Err(RefusedAt {
+            why: Refusal::Mistyped,
+            place: number,
+        });
     }
-    LineRead::Refused {
-        no: wire::MISTYPED,
-        line: number,
-    }
+    Ok(())
 }
 
 // How many characters of a text count: all but spaces, tabs and dashes.

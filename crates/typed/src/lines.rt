@@ -8,6 +8,7 @@ ghost use Rattle.typed.specs.Typed.{skipped, plain};
 ghost use Rattle.typed.specs.Private.{typable, possible, Fits, held, wrong_after, closed, stepped, step_told, Going, ran, start, ending, gathered_told, Ample};
 
 use super::check;
+use wire::{Refusal, RefusedAt};
 
 // The data of all lines.
 pub(super) const DATA_ROOM: usize = 800;
@@ -15,30 +16,18 @@ pub(super) const DATA_ROOM: usize = 800;
 const FEED: u8 = b'\n';
 
 // Whether a text may have this character; a line by itself may have no line feed.
+#[tactic(auto, unfolding(crate::specs::Private::typable, crate::specs::Typed::is_letter))]
 fn may(c: u8, feeds: bool) -> bool
     ensures { result ≡ (skipped c || typable feeds c) }
 {
-    if super::skipped(c) {
-        return true;
-    }
-    if c == FEED {
-        return feeds;
-    }
-    text::zbase32_value(c) < 32
+    super::skipped(c) || feeds && c == FEED || text::zbase32_value(c) < 32
 }
 
 // Whether a text may have all its characters.
 pub(super) fn spelt(text: &[u8], feeds: bool) -> bool
     ensures { result ≡ every (λ c. skipped c || typable feeds c) text.now }
 {
-    let mut i = 0;
-    while i < text.len() {
-        if !may(text[i], feeds) {
-            return false;
-        }
-        i += 1;
-    }
-    true
+    text.iter().all(|c| may(*c, feeds))
 }
 
 // The character is put behind n others, unless it is skipped. Answers how many there are then.
@@ -59,10 +48,8 @@ pub(super) fn squeeze(text: &[u8], kept: &mut [u8]) -> usize
     ensures { (result ≡ length (plain text.now)) × (result ≤ length kept.new → take result kept.new ≡ plain text.now) }
 {
     let mut n = 0;
-    let mut i = 0;
-    while i < text.len() {
-        n = keep(kept, n, text[i]);
-        i += 1;
+    for c in text {
+        n = keep(kept, n, *c);
     }
     n
 }
@@ -93,13 +80,6 @@ pub struct Typing {
     pub made: usize,
 }
 
-#[derive(Clone, Copy)]
-pub enum Step {
-    On { typing: Typing },
-    // The line has another number of characters than it may have, or is one too many.
-    Bad,
-}
-
 // The number of the first wrong line, once this one has ended, or 0.
 fn first_wrong(t: Typing, line: &[u8]) -> u8
     requires { Fits t × (2 ≤ t.at) × (length line.now ≡ 42) }
@@ -108,8 +88,7 @@ fn first_wrong(t: Typing, line: &[u8]) -> u8
     if t.wrong != 0 {
         return t.wrong;
     }
-    let at = t.at;
-    if check::right(t.n, &line[0..at]) {
+    if check::right(t.n, &line[..t.at]) {
         return 0;
     }
     t.n
@@ -122,7 +101,7 @@ fn close(t: Typing, line: &[u8], contents: &mut [u8]) -> Typing
 {
     let wrong = first_wrong(t, line);
     let len = t.at - 2;
-    lend::copy(contents, t.made, &line[0..len]);
+    lend::copy(contents, t.made, &line[..len]);
     Typing {
         n: t.n + 1,
         at: 0,
@@ -131,42 +110,34 @@ fn close(t: Typing, line: &[u8], contents: &mut [u8]) -> Typing
     }
 }
 
-// One character more.
-fn feed(t: Typing, c: u8, line: &mut [u8], contents: &mut [u8]) -> Step
+// One character more; or 2 for a line that has another number of characters than it may have, or is
+// one too many.
+fn feed(t: Typing, c: u8, line: &mut [u8], contents: &mut [u8]) -> Result<Typing, Refusal>
     requires { Fits t × (length line.old ≡ 42) × (length contents.old ≡ 800) }
     ensures { (step_told result line.new contents.new ≡ stepped (held t line.old contents.old) c) × Going result }
 {
     if c == FEED {
         if t.at < super::FULL_LINE {
-            return Step::Bad;
+            return Err(Refusal::BadTextLength);
         }
         if super::MOST_LINES <= t.n {
-            return Step::Bad;
+            return Err(Refusal::BadTextLength);
         }
-        return Step::On {
-            typing: close(t, line, contents),
-        };
+        return Ok(close(t, line, contents));
     }
     if super::skipped(c) {
-        return Step::On { typing: t };
+        return Ok(t);
     }
     let at = t.at;
     if super::FULL_LINE <= at {
-        return Step::Bad;
+        return Err(Refusal::BadTextLength);
     }
     line[at] = c;
-    Step::On {
-        typing: Typing {
-            n: t.n,
-            at: at + 1,
-            wrong: t.wrong,
-            made: t.made,
-        },
-    }
+    Ok(Typing { at: at + 1, ..t })
 }
 
 // All characters of the text.
-fn run(text: &[u8], line: &mut [u8], contents: &mut [u8]) -> Step
+fn run(text: &[u8], line: &mut [u8], contents: &mut [u8]) -> Result<Typing, Refusal>
     requires { (length line.old ≡ 42) × (length contents.old ≡ 800) }
     ensures { (step_told result line.new contents.new ≡ ran (start 1) text.now) × Going result }
 {
@@ -176,42 +147,29 @@ fn run(text: &[u8], line: &mut [u8], contents: &mut [u8]) -> Step
         wrong: 0,
         made: 0,
     };
-    let mut i = 0;
-    while i < text.len() {
-        let Step::On { typing } = feed(t, text[i], line, contents) else {
-            return Step::Bad;
-        };
-        t = typing;
-        i += 1;
+    for c in text {
+        t = feed(t, *c, line, contents)?;
     }
-    Step::On { typing: t }
+    Ok(t)
 }
 
-#[derive(Clone, Copy)]
-pub(super) enum Gathered {
-    // So many characters of data stand in the buffer.
-    Data { len: usize },
-    // The number of the first line whose check is wrong.
-    Wrong { line: u8 },
-    // There are too many lines, or one has another number of characters than it may have.
-    Bad,
-}
-
-// The data of all lines, in front of the buffer.
-pub(super) fn gather(text: &[u8], contents: &mut [u8]) -> Gathered
+// The data of all lines, in front of the buffer, and how many characters they are; or 2, or 23 with
+// the number of the first line whose check is wrong.
+pub(super) fn gather(text: &[u8], contents: &mut [u8]) -> Result<usize, RefusedAt>
     requires { length contents.old ≡ 800 }
     ensures { (gathered_told result contents.new ≡ then (ran (start 1) text.now) ending) × Ample result }
 {
     let mut line = [0u8; super::FULL_LINE];
-    let Step::On { typing } = run(text, &mut line, contents) else {
-        return Gathered::Bad;
-    };
+    let typing = run(text, &mut line, contents)?;
     if typing.at < 3 {
-        return Gathered::Bad;
+        return Err(RefusedAt::from(Refusal::BadTextLength));
     }
     let end = close(typing, &line, contents);
     if end.wrong != 0 {
-        return Gathered::Wrong { line: end.wrong };
+        return Err(RefusedAt {
+            why: Refusal::Mistyped,
+            place: end.wrong,
+        });
     }
-    Gathered::Data { len: end.made }
+    Ok(end.made)
 }

@@ -8,8 +8,8 @@ returns-in_err-judge c = bad_collection _ _ _ _ c.in_err-judge.ensures c.from_re
 pub returns-in-0 : goal.returns-in-0
 returns-in-0 c = search (none_yet, c.in_ok-judge.ensures)
 
-pub pages-requires : goal.pages-requires
-pages-requires c = search (most_total, c.in_ok-judge.ensures)
+pub invariant_of-pages : goal.invariant_of-pages
+invariant_of-pages c = record { most = search (most_total, c.in_ok-judge.ensures) }
 
 pub returns-in-1 : goal.returns-in-1
 returns-in-1 c = search (has_pages, c.in_ok-judge.ensures)

@@ -4,15 +4,14 @@ use Rattle.manifest.proofs.Laying.{write_refused, write_short, write_ready, writ
 use borrow.Author.Rules.{rules}
 use Rattle.manifest.proofs.write.Goals as goal
 
-pub returns-in_default : goal.returns-in_default
-returns-in_default c = search write_refused
+pub returns-in_err-len : goal.returns-in_err-len
+returns-in_err-len c = write_refused _ _ _ _ c.from_residual.ensures c.in_err-len.ensures
 
 pub returns-then-out-len : goal.returns-then-out-len
-returns-then-out-len c = search write_short
+returns-then-out-len c = write_short _ _ _ c.in_ok-len.ensures c.if-out-len.true
 
-pub whole-requires : goal.whole-requires
-whole-requires c =
-    write_ready _ _ _ c.whole-j.ensures _ c.in-Done.is _ c.if-out-len.false (search rules)
+pub whole-requires-2 : goal.whole-requires-2
+whole-requires-2 c = write_ready _ _ _ c.in_ok-len.ensures _ c.if-out-len.false (search rules)
 
 pub returns : goal.returns
-returns c = search write_done
+returns c = search (write_done, c.in_ok-len.ensures)

@@ -1,16 +1,9 @@
--- `payload_frame::auth` meets its contract: the id and the length, the payload, and then the frame.
--- Assumes nothing.
-use Rattle.payload_frame.proofs.Judging.{faulty, fit_id, no_auth, an_auth}
+-- `payload_frame::auth` meets its contract. Assumes nothing.
+use Rattle.auth.specs.Auth.{auth_at}
+use Rattle.payload_frame.proofs.Judging.{bare, frame_bare, auth_accepted}
 use Rattle.payload_frame.proofs.auth.Goals as goal
 
-pub returns-then-no-ne-DONE : goal.returns-then-no-ne-DONE
-returns-then-no-ne-DONE c = search faulty
-
-pub returns-in-Refused : goal.returns-in-Refused
-returns-in-Refused c = search no_auth
-
-pub lay-requires : goal.lay-requires
-lay-requires c = search fit_id
-
 pub returns : goal.returns
-returns c = search an_auth
+returns c =
+    let a = c.args in
+    rw (← frame_bare 0x41 a.id.now a.contents.now (auth_at a.contents.now)) (c.carry.ensures (bare (auth_at a.contents.now)) (λ s r e w. auth_accepted a.contents.now r (rw (← e) w)))

@@ -1,16 +1,9 @@
--- `payload_frame::key` meets its contract: the id and the length, the payload, and then the frame.
--- Assumes nothing.
-use Rattle.payload_frame.proofs.Judging.{faulty, fit_id, no_key, a_key}
+-- `payload_frame::key` meets its contract. Assumes nothing.
+use Rattle.shard.specs.Shard.{shard_at}
+use Rattle.payload_frame.proofs.Judging.{bare, frame_bare, shard_accepted}
 use Rattle.payload_frame.proofs.key.Goals as goal
 
-pub returns-then-no-ne-DONE : goal.returns-then-no-ne-DONE
-returns-then-no-ne-DONE c = search faulty
-
-pub returns-in-Refused : goal.returns-in-Refused
-returns-in-Refused c = search no_key
-
-pub lay-requires : goal.lay-requires
-lay-requires c = search fit_id
-
 pub returns : goal.returns
-returns c = search a_key
+returns c =
+    let a = c.args in
+    rw (← frame_bare 0x4B a.id.now a.contents.now (shard_at a.contents.now)) (c.carry.ensures (bare (shard_at a.contents.now)) (λ s r e w. shard_accepted a.contents.now r (rw (← e) w)))

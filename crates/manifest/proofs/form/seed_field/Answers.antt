@@ -3,8 +3,8 @@
 use Rattle.manifest.proofs.Laying.{null_run, bytes_run}
 use Rattle.manifest.proofs.form.seed_field.Goals as goal
 
-pub returns-in_default : goal.returns-in_default
-returns-in_default c = search null_run
+pub returns-in-None : goal.returns-in-None
+returns-in-None c = search null_run
 
-pub returns : goal.returns
-returns c = search bytes_run
+pub returns-in-Some : goal.returns-in-Some
+returns-in-Some c = search bytes_run

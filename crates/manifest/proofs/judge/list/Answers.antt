@@ -1,17 +1,18 @@
-use Rattle.manifest.proofs.Judging.{judge_none, judge_no, sum_fits, judge_more, judge_end}
+use Rattle.wire.proofs.Answers.{handed}
+use Rattle.manifest.proofs.Judging.{taken_few, judge_none, judge_no, sum_fits, judge_more, judge_end}
 use Rattle.manifest.proofs.judge.list.Goals as goal
 
-pub loop-i-init : goal.loop-i-init
-loop-i-init c = search judge_none
+pub loop-f-init : goal.loop-f-init
+loop-f-init c = search judge_none
 
-pub returns-in_default : goal.returns-in_default
-returns-in_default c = search judge_no
+pub returns-in_err-len : goal.returns-in_err-len
+returns-in_err-len c = search (handed _ _ c.from_residual.ensures, judge_no, c.in_err-len.ensures)
 
 pub overflow_add-sum : goal.overflow_add-sum
-overflow_add-sum c = search sum_fits
+overflow_add-sum c = search (sum_fits, taken_few, c.in_ok-len.ensures)
 
-pub loop-i-preserved : goal.loop-i-preserved
-loop-i-preserved c = search judge_more
+pub loop-f-preserved : goal.loop-f-preserved
+loop-f-preserved c = search (judge_more, c.in_ok-len.ensures)
 
 pub returns : goal.returns
 returns c = search judge_end

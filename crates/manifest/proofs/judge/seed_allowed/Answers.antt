@@ -2,8 +2,8 @@
 use Rattle.manifest.proofs.Simple.{allowed_null, allowed_bytes}
 use Rattle.manifest.proofs.judge.seed_allowed.Goals as goal
 
-pub returns-in-Null : goal.returns-in-Null
-returns-in-Null c = search allowed_null
+pub returns-in-None : goal.returns-in-None
+returns-in-None c = search allowed_null
 
-pub returns-in-Bytes : goal.returns-in-Bytes
-returns-in-Bytes c = search allowed_bytes
+pub returns-in-Some : goal.returns-in-Some
+returns-in-Some c = search allowed_bytes

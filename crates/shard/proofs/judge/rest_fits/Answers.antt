@@ -4,8 +4,8 @@ use native.Mathlib.Omega.{arith}
 use Rattle.shard.proofs.Allowed.{rest_no, rest_unknown, rest_unfilled, rest_last}
 use Rattle.shard.proofs.judge.rest_fits.Goals as goal
 
-pub returns-then-hash-ne32 : goal.returns-then-hash-ne32
-returns-then-hash-ne32 c = rest_no _ _ _ _ _ (λ a. omega (arith, a.hash_long))
+pub returns-then-r-ne32 : goal.returns-then-r-ne32
+returns-then-r-ne32 c = rest_no _ _ _ _ _ (λ a. omega (arith, a.hash_long))
 
 pub returns-then-not-is_known : goal.returns-then-not-is_known
 returns-then-not-is_known c = search rest_unknown
@@ -13,8 +13,8 @@ returns-then-not-is_known c = search rest_unknown
 pub returns-then-size : goal.returns-then-size
 returns-then-size c = rest_no _ _ _ _ _ (λ a. omega (arith, a.content.most))
 
-pub returns-then-len-lt1 : goal.returns-then-len-lt1
-returns-then-len-lt1 c = rest_no _ _ _ _ _ (λ a. omega (arith, a.content.least))
+pub returns-then-r-lt1 : goal.returns-then-r-lt1
+returns-then-r-lt1 c = rest_no _ _ _ _ _ (λ a. omega (arith, a.content.least))
 
 pub returns-then-not-fills : goal.returns-then-not-fills
 returns-then-not-fills c = search rest_unfilled

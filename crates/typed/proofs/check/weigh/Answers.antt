@@ -1,4 +1,5 @@
 use Prim.Native.Nat.{◌+◌}
+use mathlib.Core.Path.{◌∙◌}
 use native.Mathlib.Omega.{arith}
 use Rattle.typed.proofs.Weighing.{weigh_none, weigh_next, weigh_end, value_most, term_most}
 use Rattle.typed.proofs.check.weigh.Goals as goal
@@ -9,20 +10,19 @@ loop-i-init c = (omega arith, weigh_none _, omega arith)
 pub overflow_mul-sum : goal.overflow_mul-sum
 overflow_mul-sum c =
     let l = c.loop-i in
-    let v = c.zbase32_value in
-    record { fits = omega (arith, term_most (l.i + 1) v.result (omega arith) (value_most _ _ v.ensures)) }
+    record { fits = omega (arith, term_most (l.i + 1) c.from.result (omega arith) (value_most _ _ (c.from.ensures ∙ c.zbase32_value.ensures))) }
 
 pub overflow_add-sum-in-loop-i : goal.overflow_add-sum-in-loop-i
 overflow_add-sum-in-loop-i c =
     let l = c.loop-i in
-    let v = c.zbase32_value in
-    record { fits = omega (arith, l.invariant.2, term_most (l.i + 1) v.result (omega arith) (value_most _ _ v.ensures)) }
+    record { fits = omega (arith, l.invariant.2, term_most (l.i + 1) c.from.result (omega arith) (value_most _ _ (c.from.ensures ∙ c.zbase32_value.ensures))) }
 
 pub loop-i-preserved : goal.loop-i-preserved
 loop-i-preserved c =
-    let v = c.zbase32_value in
+    let v = c.from.result in
+    let e = c.from.ensures ∙ c.zbase32_value.ensures in
     let a = c.args in
-    (omega arith, weigh_next a.contents.now c.loop-i.i c.loop-i.sum v.result (omega arith) c.loop-i.invariant.1 v.ensures, omega (arith, c.loop-i.invariant.2, term_most (c.loop-i.i + 1) v.result (omega arith) (value_most _ _ v.ensures)))
+    (omega arith, weigh_next a.contents.now c.loop-i.i c.loop-i.sum v (omega arith) c.loop-i.invariant.1 e, omega (arith, c.loop-i.invariant.2, term_most (c.loop-i.i + 1) v (omega arith) (value_most _ _ e)))
 
 pub returns : goal.returns
 returns c =

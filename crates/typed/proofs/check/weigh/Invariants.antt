@@ -7,6 +7,3 @@ use Rattle.typed.proofs.check.weigh.Given as goal
 
 abbrev pub invariant-loop-i : goal.invariant-loop-i
 invariant-loop-i l = (l.i ≤ length l.contents) × (weighed 1 l.contents ≡ l.sum + weighed (l.i + 1) (drop l.i l.contents)) × (l.sum ≤ 1280 * l.i)
-
-abbrev pub decreases-loop-i : goal.decreases-loop-i
-decreases-loop-i l = length l.contents - l.i

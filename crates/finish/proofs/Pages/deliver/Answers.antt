@@ -1,6 +1,6 @@
--- `finish::deliver` meets its contract. Assumes nothing.
+-- `finish::Pages::deliver` meets its contract. Assumes nothing.
 use Rattle.finish.proofs.Finishing.{no_room, other_id, delivered}
-use Rattle.finish.proofs.deliver.Goals as goal
+use Rattle.finish.proofs.Pages.deliver.Goals as goal
 
 pub returns-then-out-len : goal.returns-then-out-len
 returns-then-out-len c = search no_room

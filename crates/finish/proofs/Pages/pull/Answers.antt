@@ -1,5 +1,5 @@
 use Rattle.finish.proofs.Pulling.{pulling_start, pulling_inside, pulling_on, pulling_cut, pulling_end}
-use Rattle.finish.proofs.pull.Goals as goal
+use Rattle.finish.proofs.Pages.pull.Goals as goal
 
 pub loop-page-init : goal.loop-page-init
 loop-page-init c = search pulling_start

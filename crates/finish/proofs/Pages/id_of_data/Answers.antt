@@ -1,5 +1,5 @@
 use Rattle.finish.proofs.Pulling.{absorbing_start, absorbing_on, absorbing_end}
-use Rattle.finish.proofs.id_of_data.Goals as goal
+use Rattle.finish.proofs.Pages.id_of_data.Goals as goal
 
 pub loop-end-init : goal.loop-end-init
 loop-end-init c = search absorbing_start

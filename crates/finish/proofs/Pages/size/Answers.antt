@@ -1,6 +1,6 @@
 use native.Mathlib.Omega.{arith}
 use Rattle.finish.proofs.Gathering.{sized_none, sized_on, sized_end}
-use Rattle.finish.proofs.size.Goals as goal
+use Rattle.finish.proofs.Pages.size.Goals as goal
 
 pub loop-page-init : goal.loop-page-init
 loop-page-init c = search sized_none

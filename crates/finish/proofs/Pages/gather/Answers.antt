@@ -1,5 +1,5 @@
 use Rattle.finish.proofs.Gathering.{gathering_none, gathering_on, gathering_end}
-use Rattle.finish.proofs.gather.Goals as goal
+use Rattle.finish.proofs.Pages.gather.Goals as goal
 
 pub loop-page-init : goal.loop-page-init
 loop-page-init c = search gathering_none
