@@ -5,33 +5,9 @@
 use scan::session;
 use scan::session::Session;
 use std::io::{Error, ErrorKind};
-use wire::Wrote;
 
 // How much one read asks for.
 const CHUNK: usize = 65_536;
-
-// What one read brought.
-#[derive(Drop)]
-enum Turned {
-    More { session: Session },
-    End { session: Session },
-}
-
-// Reads once, and takes what came into the session.
-fn turn(
-    rt: HostRuntime,
-    s: Session,
-    input: &mut [u8],
-    line: &mut [u8],
-    c: &mut [u8],
-) -> Result<Turned, Error> {
-    let n = edge::read(rt, input)?;
-    if n < 1 {
-        return Ok(Turned::End { session: s });
-    }
-    let session = session::feed(&input[..n], s, line, c);
-    Ok(Turned::More { session })
-}
 
 // The session at the end of the input; none where the input could not be read to its end (R15.8).
 //
@@ -48,11 +24,9 @@ fn collect(
         len: 0,
     };
     for _ in 0..u64::MAX {
-        match turn(rt, s, input, line, c)? {
-            Turned::More { session } => {
-                s = session;
-            }
-            Turned::End { session } => return Ok(session),
+        match edge::read(rt, input)? {
+            0 => return Ok(s),
+            n => s = session::feed(&input[..n], s, line, c),
         }
     }
     Err(Error::from(ErrorKind::Other))
@@ -73,11 +47,10 @@ fn scanned(rt: HostRuntime, c: &mut [u8]) -> Result<Session, Error> {
 
 fn print(rt: HostRuntime, s: Session, c: &[u8]) {
     let mut out = [0u8; 64];
-    let Wrote::Done { len } = session::report(s, c, &mut out) else {
-        return;
-    };
-    if len <= out.len() {
-        let _written = edge::print(rt, &out[0..len]);
+    if let Ok(len) = session::report(s, c, &mut out)
+        && let Some(status) = out.get(..len)
+    {
+        let _written = edge::print(rt, status);
     }
 }
 
