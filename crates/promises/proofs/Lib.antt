@@ -15,6 +15,7 @@ pub mod Programs
 pub mod Examples
 pub mod Printed
 pub mod Lasts
+mod Manifests
 pub mod Offered
 pub mod OnceBytes
 pub mod OnceItems

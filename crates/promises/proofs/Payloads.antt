@@ -6,10 +6,10 @@ use mathlib.Core.List.{List, []}
 use native.Mathlib.Omega.{arith}
 use native.Mathlib.Nat.{min-le_right}
 use lib.ListN.{length, take, drop, length-take, length-drop}
-use Rattle.wire.specs.Answer.{Answer, done, refused_at, Got, value_of}
+use Rattle.wire.specs.Answer.{Answer, done, refused_at, refused, then, Got, value_of}
 use Rattle.wire.specs.Over.{over}
-use Rattle.std.specs.Prelude.{Ok}
-use Rattle.wire.proofs.Cases.{then_done, done_value, value_passed}
+use Rattle.std.specs.Prelude.{Result, Ok, Err}
+use Rattle.wire.proofs.Cases.{not_done, then_done, done_value, got_value, value_passed}
 use Rattle.cover.specs.Cover.{Cover, cover_of}
 use Rattle.envelope.specs.Envelope.{judged, envelope_at, verdict}
 use Rattle.envelope.specs.Answer.{read_told}
@@ -18,7 +18,10 @@ use Rattle.manifest.specs.Manifest.{Listing, manifest_at}
 use Rattle.manifest.specs.Answer.{answer_for, padded}
 use Rattle.manifest.specs.Writing.{Said, said_in, said_of, listed, manifest_of, manifest_verdict, Typed}
 use Rattle.manifest.specs.declared.Manifest.{Manifest}
-use Rattle.manifest.specs.declared.ManifestRead.{ManifestRead}
+use Rattle.wire.specs.Reading.{told}
+use Rattle.wire.specs.declared.Refusal.{Refusal}
+use Rattle.wire.proofs.Placeless.{placeless_done, placeless_then}
+use Rattle.promises.proofs.Manifests.{manifest_placeless}
 use Rattle.manifest.proofs.Rounds.{manifest_back, manifest_only, manifest_within, manifest_steps, listed_value}
 use Rattle.manifest.proofs.Answers.{padded_long}
 use Rattle.manifest.proofs.Parts.{created_only}
@@ -40,7 +43,7 @@ use Rattle.promises.specs.Formats.{Slice, Exact, Enclosed, envelopes, manifest_t
 use Rattle.promises.proofs.Writers.{slice, lent, wrote_done, can_write}
 use Rattle.auth.specs.Answer.{claim_told}
 use Rattle.shard.specs.Answer.{shard_told}
-use Rattle.promises.proofs.Answered.{claim_answer, shard_answer, envelope_answer}
+use Rattle.promises.proofs.Answered.{can_tell, claim_answer, shard_answer}
 use Rattle.promises.proofs.Formats.{Ruled, exact}
 use Rattle.promises.proofs.Links.Auth.{auth_read_link, auth_write_link}
 use Rattle.promises.proofs.Links.Envelope.{envelope_read_link, envelope_write_link}
@@ -115,7 +118,7 @@ listed_only s p y e =
     let w = manifest_within s g.1 in
     let d = created_only y.0 (manifest_steps s g.1).ended.created_read in
     let typed : Typed (value p) = record { array = padded_long p.files w.1; bits = d.2 } in
-    (s, value p, typed, ap (said_in s) (listed_value p), sym (ap (λ (m : Manifest). manifest_verdict s m) (ap (λ r. (answer_for r).value) g.1)) ∙ (manifest_only y.0 g.1).2)
+    (s, value p, typed, ap (said_in s) (listed_value p), sym (ap (λ (r : Got Listing). then (answer_for r) (λ (m, p). manifest_verdict s m)) g.1) ∙ (manifest_only y.0 g.1).2)
   where
     value : Listing → Manifest
     value p = record { seed = p.seed; files = padded p.files; count = length p.files; sealed = p.sealed; created = p.created }
@@ -126,9 +129,15 @@ unfolding manifest_of
 listed_form v s (pool, m, typed, says, e) = ap said_of (sym says) ∙ sym (verdict_fit pool m e).1
 
 -- the reader's answer says what was read
-listed_said : (g : Got Listing) → manifest_told (answer_for g).answer (answer_for g).value ≡ value_of g
-listed_said (done (p, next)) = ap done (listed_value p)
-listed_said (refused_at e place) = refl
+listed_said : (g : Got Listing) (r : Result (Manifest × ℕ) Refusal) → told r ≡ answer_for g → manifest_told r ≡ value_of g
+listed_said (done (p, n)) (Ok (m, next)) e = ap (λ (x : Manifest). done (listed x)) (got_value e) ∙ ap done (listed_value p)
+listed_said (done (p, n)) (Err w) e = not_done e
+listed_said (refused_at k place) (Ok x) e = not_done (sym e)
+listed_said (refused_at k place) (Err w) e = ap refused cc
+
+-- some answer says it
+manifest_answer : (s : List ℕ) → (r : Result (Manifest × ℕ) Refusal) × (told r ≡ answer_for (manifest_at s))
+manifest_answer s = can_tell (answer_for (manifest_at s)) (placeless_then (manifest_at s) _ (manifest_placeless s) (λ v. placeless_done _))
 
 module _ (pool : List ℕ) (m : Manifest) (s out : List ℕ) (e : manifest_verdict pool m ≡ done s) (h : length s ≤ length out) where
   abbrev listing : Call manifest-write.Kinds.ps manifest-write.Kinds.r manifest-write.Reads.Learnt
@@ -141,18 +150,16 @@ module _ (pool : List ℕ) (m : Manifest) (s out : List ℕ) (e : manifest_verdi
   }
 
 abbrev manifest_reading : List ℕ → Call manifest-read.Kinds.ps manifest-read.Kinds.r manifest-read.Reads.Learnt
-manifest_reading s = record { lifetimes = ([], tt); args = (slice s, tt); answer = answer_for (manifest_at s); left = (tt, tt); kept = refl }
+manifest_reading s = record { lifetimes = ([], tt); args = (slice s, tt); answer = (manifest_answer s).0; left = (tt, tt); kept = (manifest_answer s).1 }
 
 manifests_ruled : Ruled manifests ManifestForm
 manifests_ruled = record {
   back = listed_back;
   only = listed_only;
   form = λ v s t a b. sym (listed_form v s a) ∙ listed_form v t b;
-  can_read = λ s. (manifest_told (answer_for (manifest_at s)).answer (answer_for (manifest_at s)).value, (manifest_reading s, refl, refl));
+  can_read = λ s. (manifest_told (manifest_answer s).0, (manifest_reading s, refl, refl));
   reads = λ s a (k, i, e).
-      sym e
-      ∙ ap (λ (r : ManifestRead). manifest_told r.answer r.value) (manifest_read_link k ∙ ap (λ (x : List ℕ). answer_for (manifest_at x)) i)
-      ∙ listed_said (manifest_at s);
+      sym e ∙ listed_said (manifest_at s) k.answer (manifest_read_link k ∙ ap (λ (x : List ℕ). answer_for (manifest_at x)) i);
   writes = λ v out x n (k, t, i, o, p, e).
       let u = wrote_done (manifest_verdict k.args.0.now k.args.1.0) out x n (rw (o, p, e) at (manifest_write_link k)) in
       (u.0, (k.args.0.now, k.args.1.0, t, i, u.1), u.2);

@@ -2,7 +2,7 @@
 -- public functions whose contracts held (Calls.antt), so what is said of a format is said of the
 -- contracts in the sources. Of a call's parameters `.0` is the first, `.1 .0` the second, and so
 -- on.
-use Rattle.std.specs.Prelude.{ℕ, ◌≤◌, ◌<◌, ◌^◌, ◌≡◌, List, length, take, drop}
+use Rattle.std.specs.Prelude.{ℕ, ◌≤◌, ◌<◌, ◌^◌, ◌≡◌, List, length, take, drop, Result, Ok, Err}
 use borrow.Fn.Kinds.{Out}
 use Rattle.wire.specs.Answer.{Answer, done, refused_at, refused, then, value_of}
 use Rattle.wire.specs.Number.{Bytes}
@@ -11,15 +11,15 @@ use Rattle.wire.specs.Writing.{told}
 use Rattle.wire.specs.Span.{part_at}
 use Rattle.text.specs.Text.{Form, base64, zbase32, read_text, kept}
 use Rattle.typed.specs.Typed.{plain, read_typed, most_typed}
-use Rattle.typed.specs.Typed as lines
 use Rattle.frame.specs.Frame as F
 use Rattle.frame.specs.Allowed.{Allowed}
 use Rattle.frame.specs.Answer as frame
 use Rattle.cover.specs.Cover.{Cover}
 use Rattle.envelope.specs.Envelope.{envelope_at}
 use Rattle.envelope.specs.Answer as envelope
-use Rattle.wire.specs.declared.StepRead.{StepRead}
-use Rattle.wire.specs.declared.StepRead.TheVariants as step
+use Rattle.wire.specs.Refusal.{number}
+use Rattle.wire.specs.Reading.{told_at}
+use Rattle.wire.specs.declared.Refusal.{Refusal}
 use Rattle.manifest.specs.Manifest.{Listing, manifest_at}
 use Rattle.manifest.specs.Writing.{Said, said_in, listed, Typed}
 use Rattle.manifest.specs.declared.Manifest.{Manifest}
@@ -148,7 +148,7 @@ typing = texts zbase32 (TextCall text-zbase32-read.Reads.Learnt) (TextCall text-
 abbrev pub LinesCall : (s out x : List ℕ) (a : Answer ℕ) → Type 0
 LinesCall s out x a =
     (k : Call typed-read.Kinds.ps typed-read.Kinds.r typed-read.Reads.Learnt)
-    × (k.args.0.now ≡ s) × (k.args.1.0.now ≡ out) × (k.left.1.0 ≡ x) × (lines.told k.answer ≡ a)
+    × (k.args.0.now ≡ s) × (k.args.1.0.now ≡ out) × (k.left.1.0 ≡ x) × (told_at k.answer ≡ a)
 
 -- the reader is lent as many bytes as typed lines can have
 abbrev pub typed_lines : Format (List ℕ) (List ℕ)
@@ -178,15 +178,15 @@ envelopes = whole (λ s c. record { manifest = part_at s c.manifest; payload = p
 
 -- ---- the manifest: the writer's value names its bytes by places in a pool
 
-abbrev pub manifest_told : StepRead → Manifest → Answer Listing
-manifest_told (step.Past next) m = done (listed m)
-manifest_told (step.Refused e) m = refused e
+abbrev pub manifest_told : Result (Manifest × ℕ) Refusal → Answer Listing
+manifest_told (Ok (m, next)) = done (listed m)
+manifest_told (Err e) = refused (number e)
 
 abbrev pub manifests : Format Listing Said
 manifests = whole said_in (λ s. value_of (manifest_at s))
     (λ s a.
     (k : Call manifest-read.Kinds.ps manifest-read.Kinds.r manifest-read.Reads.Learnt)
-    × (k.args.0.now ≡ s) × (manifest_told k.answer.answer k.answer.value ≡ a))
+    × (k.args.0.now ≡ s) × (manifest_told k.answer ≡ a))
     (λ v out x a.
     (k : Call manifest-write.Kinds.ps manifest-write.Kinds.r manifest-write.Reads.Learnt)
     × Typed k.args.1.0 × (said_in k.args.0.now (listed k.args.1.0) ≡ v) × (k.args.1.1.0.now ≡ out) × (k.left.1.1.0 ≡ x)

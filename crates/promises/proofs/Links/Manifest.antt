@@ -1,6 +1,7 @@
 -- From the contracts of `manifest` in the source to the definitions that the demands cite.
 -- Assumes nothing.
 use mathlib.Core.Path.{◌≡◌}
+use Rattle.wire.specs.Reading.{told}
 use Rattle.wire.specs.Writing.{Written}
 use Rattle.promises.specs.Calls.{Call}
 use Rattle.manifest.specs.Manifest.{manifest_at}
@@ -9,7 +10,7 @@ use Rattle.manifest.specs.Writing.{manifest_verdict}
 use Rattle.manifest.proofs.read as manifest-read
 use Rattle.manifest.proofs.write as manifest-write
 
-pub manifest_read_link : (k : Call manifest-read.Kinds.ps manifest-read.Kinds.r manifest-read.Reads.Learnt) → k.answer ≡ answer_for (manifest_at k.args.0.now)
+pub manifest_read_link : (k : Call manifest-read.Kinds.ps manifest-read.Kinds.r manifest-read.Reads.Learnt) → told k.answer ≡ answer_for (manifest_at k.args.0.now)
 manifest_read_link k = k.kept
 
 pub manifest_write_link : (k : Call manifest-write.Kinds.ps manifest-write.Kinds.r manifest-write.Reads.Learnt)
