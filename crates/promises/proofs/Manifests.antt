@@ -1,24 +1,32 @@
--- What the reader of a manifest refuses has no place and a name, so that it can answer. Assumes
--- nothing.
-use Prim.Native.Nat.{ℕ, zero, suc, ◌/◌, ◌%◌}
+-- What the readers of a manifest and of an envelope refuse has a name, and of a manifest no place:
+-- so they can answer. Assumes nothing.
+use Prim.Native.Nat.{ℕ, zero, suc, ◌+◌, ◌/◌, ◌%◌}
 use mathlib.Core.Path.{◌≡◌, refl}
-use mathlib.Core.List.{List, []}
+use mathlib.Core.List.{List, [], ◌∷◌}
 use lib.Dec.{eqb, leb}
-use lib.ListN.{length}
+use lib.ListN.{length, take, drop}
 use Rattle.std.specs.Prelude.{Option, None, Some, Result}
 use Rattle.wire.specs.Ascii.{ascii}
-use Rattle.wire.specs.Answer.{Answer, done, refused_at, then, choose, Got, got}
+use Rattle.wire.specs.Answer.{Answer, done, refused_at, then, choose, Got, got, value_of}
 use Rattle.wire.specs.Span.{part_at}
 use Rattle.wire.specs.declared.Span.{Span}
 use Rattle.wire.specs.declared.Refusal.TheVariants.{OutOfRange, BadPath}
 use Rattle.wire.specs.Sizes.{most_files, most_file_size, most_manifest}
-use Rattle.wire.proofs.Placeless.{Placeless, placeless, placeless_done, placeless_choose, placeless_demand, placeless_then, no_place_9, no_place_18}
+use Rattle.wire.proofs.Placeless.{Placeless, HasName, name_placeless, name_choose, name_then, names, placeless, placeless_done, placeless_choose, placeless_demand, placeless_then, no_place_9, no_place_18}
 use Rattle.cbor.specs.Item.{byte_at, big_endian_at, argument_at, kind_of, head_at, number_at, contents_at, string_at, body_at, float_at, is_float, width_by, any_field_at, string_field_at, number_field_at, key_at, one_at}
 use Rattle.cbor.specs.declared.Width.{Width}
 use Rattle.cbor.proofs.Placeless.{one_placeless, key_placeless, number_placeless, contents_placeless, string_field_placeless, number_field_placeless}
 use Rattle.entry.specs.File.{integer_at, mtime_at, path_at, file_at}
 use Rattle.path.specs.Path.{path_least, path_most}
 use Rattle.entry.specs.declared.File.{File}
+use Rattle.lend.specs.Same.{same}
+use Rattle.varint.specs.Varint.{varint_at}
+use Rattle.varint.proofs.Placeless.{varint_placeless}
+use Rattle.mark.specs.Mark.{mark_of}
+use Rattle.mark.proofs.Placeless.{mark_placeless}
+use Rattle.sha256.specs.Sha.{sha256}
+use Rattle.cover.specs.Cover.{magic, chunk_at, cover_at}
+use Rattle.envelope.specs.Envelope.{total, digests, contents, judged, envelope_at}
 use Rattle.manifest.specs.Manifest.{Listing, seed_at, files_at, list_at, sealed_at, created_at, end_at, manifest_at}
 
 module _ (s : List ℕ) where
@@ -124,3 +132,38 @@ module _ (s : List ℕ) where
       placeless_then (seed_at s a) _ (seed_placeless a) (λ (key, b).
       placeless_then (list_at s b) _ (list_placeless b) (λ (files, c).
       placeless_then (end_at s c key) _ (end_placeless c key) (λ v. placeless_done _)))))
+
+-- ---- the envelope
+
+value_placeless : {A : Type 0} (g : Got A) → Placeless g → Placeless (value_of g)
+value_placeless (done (a, next)) p = placeless_done a
+value_placeless (refused_at e place) p = record { none = refl; named = p.named }
+
+chunk_placeless : (s : List ℕ) (at : ℕ) → Placeless (chunk_at s at)
+unfolding chunk_at
+chunk_placeless s at = placeless_then (varint_at s at) _ (varint_placeless s at) (λ v. search placeless)
+
+cover_placeless : (s : List ℕ) → Placeless (cover_at s)
+unfolding cover_at
+cover_placeless s =
+    placeless_then (mark_of magic s) _ (mark_placeless magic s) (λ (_, a).
+    placeless_then (chunk_at s a) _ (chunk_placeless s a) (λ (manifest, b).
+    placeless_then (chunk_at s b) _ (chunk_placeless s b) (λ v. search placeless)))
+
+digests_named : (manifest : List ℕ) (fs : List File) (i : ℕ) (rest : List ℕ) → HasName (digests manifest fs i rest)
+unfolding digests
+digests_named manifest [] i rest = search names
+digests_named manifest (f ∷ fs) i rest =
+    name_choose (same (sha256 (take f.size rest)) (part_at manifest f.hash)) _ _ (digests_named manifest fs (i + 1) (drop f.size rest)) (search names)
+
+judged_named : (m p : List ℕ) → HasName (judged m p)
+unfolding judged contents
+judged_named m p =
+    name_then (value_of (manifest_at m)) _ (name_placeless _ (value_placeless (manifest_at m) (manifest_placeless m)))
+    (λ v. name_choose (eqb (total v.files) (length p)) _ _ (digests_named m v.files 0 p) (search names))
+
+pub envelope_named : (s : List ℕ) → HasName (envelope_at s)
+unfolding envelope_at
+envelope_named s =
+    name_then (value_of (cover_at s)) _ (name_placeless _ (value_placeless (cover_at s) (cover_placeless s)))
+    (λ c. name_then (judged (part_at s c.manifest) (part_at s c.payload)) _ (judged_named (part_at s c.manifest) (part_at s c.payload)) (λ v. search names))

@@ -2,7 +2,7 @@
 use mathlib.Core.Path.{refl, sym, ◌∙◌}
 use Rattle.promises.specs.Once.{Once}
 use Rattle.promises.proofs.Lasts.{here, past, past3}
-use Rattle.wire.proofs.Answers.{told_injective}
+use Rattle.wire.proofs.Answers.{told_injective, told_at_injective}
 use Rattle.wire.proofs.Writes.{written_once}
 use Rattle.cbor.proofs.Runs.{put_once}
 use Rattle.auth.proofs.Answers.{claim_injective}
@@ -69,7 +69,7 @@ pub entry_write_file_once : Once entry-write-file.Kinds.ps entry-write-file.Kind
 entry_write_file_once κs args x y u v p q = let e = put_once p q in (e.0, past3 (here e.1))
 
 pub manifest_read_once : Once manifest-read.Kinds.ps manifest-read.Kinds.r manifest-read.Reads.Learnt
-manifest_read_once κs args x y u v p q = (p ∙ sym q, refl)
+manifest_read_once κs args x y u v p q = (told_injective x y (p ∙ sym q), refl)
 
 pub manifest_write_once : Once manifest-write.Kinds.ps manifest-write.Kinds.r manifest-write.Reads.Learnt
 manifest_write_once κs args x y u v p q = let e = written_once x y p q in (e.0, past (past (here e.1)))
@@ -81,7 +81,7 @@ pub cover_lay_once : Once cover-lay.Kinds.ps cover-lay.Kinds.r cover-lay.Reads.L
 cover_lay_once κs args x y u v p q = let e = written_once x y p q in (e.0, past (past (here e.1)))
 
 pub envelope_read_once : Once envelope-read.Kinds.ps envelope-read.Kinds.r envelope-read.Reads.Learnt
-envelope_read_once κs args x y u v p q = (envelope.read_injective x y (p ∙ sym q), refl)
+envelope_read_once κs args x y u v p q = (told_at_injective x y (p ∙ sym q), refl)
 
 pub envelope_write_once : Once envelope-write.Kinds.ps envelope-write.Kinds.r envelope-write.Reads.Learnt
 envelope_write_once κs args x y u v p q = let e = envelope.written_once x y p q in (e.0, past (past (here e.1)))

@@ -12,16 +12,16 @@ use Rattle.std.specs.Prelude.{Result, Ok, Err}
 use Rattle.wire.proofs.Cases.{not_done, then_done, done_value, got_value, value_passed}
 use Rattle.cover.specs.Cover.{Cover, cover_of}
 use Rattle.envelope.specs.Envelope.{judged, envelope_at, verdict}
-use Rattle.envelope.specs.Answer.{read_told}
 use Rattle.envelope.proofs.Rounds.{Accepted, envelope_back, envelope_only}
 use Rattle.manifest.specs.Manifest.{Listing, manifest_at}
 use Rattle.manifest.specs.Answer.{answer_for, padded}
 use Rattle.manifest.specs.Writing.{Said, said_in, said_of, listed, manifest_of, manifest_verdict, Typed}
 use Rattle.manifest.specs.declared.Manifest.{Manifest}
-use Rattle.wire.specs.Reading.{told}
+use Rattle.wire.specs.Reading.{told, told_at}
+use Rattle.wire.specs.declared.RefusedAt.{RefusedAt}
 use Rattle.wire.specs.declared.Refusal.{Refusal}
 use Rattle.wire.proofs.Placeless.{placeless_done, placeless_then}
-use Rattle.promises.proofs.Manifests.{manifest_placeless}
+use Rattle.promises.proofs.Manifests.{manifest_placeless, envelope_named}
 use Rattle.manifest.proofs.Rounds.{manifest_back, manifest_only, manifest_within, manifest_steps, listed_value}
 use Rattle.manifest.proofs.Answers.{padded_long}
 use Rattle.manifest.proofs.Parts.{created_only}
@@ -43,7 +43,7 @@ use Rattle.promises.specs.Formats.{Slice, Exact, Enclosed, envelopes, manifest_t
 use Rattle.promises.proofs.Writers.{slice, lent, wrote_done, can_write}
 use Rattle.auth.specs.Answer.{claim_told}
 use Rattle.shard.specs.Answer.{shard_told}
-use Rattle.promises.proofs.Answered.{can_tell, claim_answer, shard_answer}
+use Rattle.promises.proofs.Answered.{can_tell, can_tell_at, claim_answer, shard_answer}
 use Rattle.promises.proofs.Formats.{Ruled, exact}
 use Rattle.promises.proofs.Links.Auth.{auth_read_link, auth_write_link}
 use Rattle.promises.proofs.Links.Envelope.{envelope_read_link, envelope_write_link}
@@ -84,15 +84,18 @@ module _ (v : Enclosed) (s out : List ℕ) (e : verdict v.manifest v.payload ≡
     kept = can_write (verdict v.manifest v.payload) s out e h;
   }
 
+envelope_answer : (s : List ℕ) → (r : Result Cover RefusedAt) × (told_at r ≡ envelope_at s)
+envelope_answer s = can_tell_at (envelope_at s) (envelope_named s)
+
 abbrev envelope_reading : List ℕ → Call envelope-read.Kinds.ps envelope-read.Kinds.r envelope-read.Reads.Learnt
-envelope_reading s = record { lifetimes = ([], tt); args = (slice s, tt); answer = (envelope_answer (envelope_at s)).0; left = (tt, tt); kept = (envelope_answer (envelope_at s)).1 }
+envelope_reading s = record { lifetimes = ([], tt); args = (slice s, tt); answer = (envelope_answer s).0; left = (tt, tt); kept = (envelope_answer s).1 }
 
 envelopes_ruled : Ruled envelopes EnvelopeForm
 envelopes_ruled = record {
   back = enclosed_back;
   only = enclosed_only;
   form = λ v s t a b. done_value (sym a.1 ∙ b.1);
-  can_read = λ s. (read_told (envelope_answer (envelope_at s)).0, (envelope_reading s, refl, refl));
+  can_read = λ s. (told_at (envelope_answer s).0, (envelope_reading s, refl, refl));
   reads = λ s a (k, i, e). sym e ∙ envelope_read_link k ∙ ap envelope_at i;
   writes = λ v out x n (l, (k, i, j, o, p, e)).
       let t = wrote_done (verdict v.manifest v.payload) out x n (rw (i, j, o, p, e) at (envelope_write_link k)) in

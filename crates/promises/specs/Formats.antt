@@ -16,7 +16,6 @@ use Rattle.frame.specs.Allowed.{Allowed}
 use Rattle.frame.specs.Answer as frame
 use Rattle.cover.specs.Cover.{Cover}
 use Rattle.envelope.specs.Envelope.{envelope_at}
-use Rattle.envelope.specs.Answer as envelope
 use Rattle.wire.specs.Refusal.{number}
 use Rattle.wire.specs.Reading.{told_at}
 use Rattle.wire.specs.declared.Refusal.{Refusal}
@@ -169,12 +168,12 @@ pub record Enclosed : Type 0 where
 abbrev pub envelopes : Format Cover Enclosed
 envelopes = whole (λ s c. record { manifest = part_at s c.manifest; payload = part_at s c.payload }) envelope_at
     (λ s a.
-    (k : Call envelope-read.Kinds.ps envelope-read.Kinds.r envelope-read.Reads.Learnt) × (k.args.0.now ≡ s) × (envelope.read_told k.answer ≡ a))
+    (k : Call envelope-read.Kinds.ps envelope-read.Kinds.r envelope-read.Reads.Learnt) × (k.args.0.now ≡ s) × (told_at k.answer ≡ a))
     (λ v out x a.
     (length v.payload < 2 ^ 64)
     × ((k : Call envelope-write.Kinds.ps envelope-write.Kinds.r envelope-write.Reads.Learnt)
     × (k.args.0.now ≡ v.manifest) × (k.args.1.0.now ≡ v.payload) × (k.args.1.1.0.now ≡ out) × (k.left.1.1.0 ≡ x)
-    × (envelope.wrote_told k.answer ≡ a)))
+    × (told_at k.answer ≡ a)))
 
 -- ---- the manifest: the writer's value names its bytes by places in a pool
 
