@@ -1,5 +1,6 @@
 -- The notes of a session, step by step. Assumes nothing.
-use Prim.Native.Nat.{ℕ, zero, suc, ◌+◌, ◌-◌, ◌^◌, ◌≤◌, ◌<◌}
+use mathlib.Core.Logic.{◌⊎◌, inl, inr}
+use Prim.Native.Nat.{ℕ, zero, suc, min, ◌+◌, ◌-◌, ◌^◌, ◌≤◌, ◌<◌}
 use mathlib.Core.Path.{◌≡◌, refl, sym, ap, ◌∙◌}
 use mathlib.Core.Bool.{Bool, true, false}
 use mathlib.Core.List.{List, [], ◌∷◌}
@@ -7,12 +8,15 @@ use native.Mathlib.Numerals.{add-one}
 use native.Mathlib.Omega.{arith}
 use borrow.Author.Tests.{eq-eqb, ne_eqb, lt-ltb, le-ltb}
 use lib.Dec.{ltb}
-use lib.ListN.{length, take, drop, get_or, set, drop_of_length-le}
-use lib.Seq.{drop-cons}
+use lib.ListN.{length, drop, get_or, set, drop_of_length-le}
+use lib.Seq.{drop-cons, set-get_or}
+use Rattle.wire.proofs.Cases.{lt_or_le}
 use Rattle.wire.specs.Answer.{choose}
-use Rattle.scan.specs.Session.{line_of, next, fed, at}
+use Rattle.scan.specs.Session.{line_of, fed, at}
 use Rattle.scan.specs.declared.session.Session.{Session}
-use Rattle.notes.specs.Line.{line_kind, id_fault}
+use Rattle.notes.specs.Line.{kind_number, flaw_number, line_kind, id_fault}
+use Rattle.notes.specs.declared.Kind.{Kind}
+use Rattle.notes.specs.declared.line.Flaw.{Flaw}
 use Rattle.notes.specs.Notes.{raised, noted, noted_next, noted_all, noted_last}
 
 set_past : (n : List ℕ) (k v : ℕ) → length n ≤ k → set n k v ≡ n
@@ -31,30 +35,31 @@ module _ (n : List ℕ) (k : ℕ) where
       go true = sym (set_past n k (get_or n k 0 + 1) h)
       go false = refl
 
-  pub raise_one : get_or n k 0 < 18446744073709551615 → set n k (get_or n k 0 + 1) ≡ raised n k
+  -- a number that is full stays
+  pub raise_one : (m : ℕ) → m ≡ min (get_or n k 0 + 1) 18446744073709551615 → get_or n k 0 < 18446744073709551616 → set n k m ≡ raised n k
   unfolding raised
-  raise_one h = rw (lt-ltb (get_or n k 0) 18446744073709551615 h)
-
-  pub raise_full : 18446744073709551615 ≤ get_or n k 0 → n ≡ raised n k
-  unfolding raised
-  raise_full h = rw (le-ltb (get_or n k 0) 18446744073709551615 h)
+  raise_one m e f = go (lt_or_le (get_or n k 0) 18446744073709551615)
+    where
+      go : (get_or n k 0 < 18446744073709551615) ⊎ (18446744073709551615 ≤ get_or n k 0) → set n k m ≡ choose (ltb (get_or n k 0) 18446744073709551615) (set n k (get_or n k 0 + 1)) n
+      go (inl h) = let q : m ≡ get_or n k 0 + 1 = omega (arith, e) in rw (lt-ltb (get_or n k 0) 18446744073709551615 h, q)
+      go (inr h) = let q : m ≡ get_or n k 0 = omega (arith, e) in rw (le-ltb (get_or n k 0) 18446744073709551615 h, q) (set-get_or n k 0)
 
 -- ---- a line ends
 
 module _ (s : Session) (line c n : List ℕ) where
-  pub note_first : s.phase ≡ 0 → (l : List ℕ) (f : ℕ) → l ≡ line_of (at s line []) → f ≡ id_fault l → set n 5 f ≡ noted (at s line c) n
+  pub note_first : s.phase ≡ 0 → (l : List ℕ) (f : Flaw) (x : ℕ) → l ≡ line_of (at s line []) → flaw_number f ≡ id_fault l → x ≡ flaw_number f → set n 5 x ≡ noted (at s line c) n
   unfolding noted line_of
-  note_first p l f e q = rw (eq-eqb s.phase 0 p) (ap (set n 5) (q ∙ ap id_fault e))
+  note_first p l f x e q h = rw (eq-eqb s.phase 0 p) (ap (set n 5) (h ∙ q ∙ ap id_fault e))
 
   pub note_nowhere : s.phase ≡ 0 → length n ≤ 5 → n ≡ noted (at s line c) n
   unfolding noted
   note_nowhere p h = rw (eq-eqb s.phase 0 p) (sym (set_past n 5 (id_fault (line_of (at s line c))) h))
 
-  pub note_scan : (s.phase ≡ 0 → ⊥) → s.phase ≡ 1 → (l : List ℕ) (k : ℕ) (x : List ℕ) → l ≡ line_of (at s line []) → k ≡ line_kind c l → x ≡ raised n k
+  pub note_scan : (s.phase ≡ 0 → ⊥) → s.phase ≡ 1 → (l : List ℕ) (j : Kind) (k : ℕ) (x : List ℕ) → l ≡ line_of (at s line []) → kind_number j ≡ line_kind c l → k ≡ kind_number j → x ≡ raised n k
       → x ≡ noted (at s line c) n
   unfolding noted line_of
-  note_scan z p l k x e q h =
-      rw (ne_eqb s.phase 0 z, eq-eqb s.phase 1 p) (h ∙ ap (raised n) (q ∙ ap (line_kind c) e))
+  note_scan z p l j k x e q g h =
+      rw (ne_eqb s.phase 0 z, eq-eqb s.phase 1 p) (h ∙ ap (raised n) (g ∙ q ∙ ap (line_kind c) e))
 
   pub note_over : (s.phase ≡ 0 → ⊥) → (s.phase ≡ 1 → ⊥) → n ≡ noted (at s line c) n
   unfolding noted
@@ -92,14 +97,11 @@ noting_none part line c n s = record { most = omega arith; same_line = refl; sam
 
 module _ (part line₀ c₀ n₀ : List ℕ) (s : Session) (line c n : List ℕ) (r : Session) (i : ℕ) (f : Noting part line₀ c₀ n₀ s line c n r i) where
   -- one byte, which is fed as a part of its own
-  pub noting_on : i < length part → (m x z : List ℕ) (q : Session) (one : List ℕ) → length m ≡ length n → length x ≡ length line → length z ≡ length c
-      → m ≡ noted_next (at r line c) n (get_or part i 0) → one ≡ take (i + 1 - i) (drop i part) → at q x z ≡ fed (at r line c) one
+  pub noting_on : i < length part → (m x z : List ℕ) (q : Session) → length m ≡ length n → length x ≡ length line → length z ≡ length c
+      → m ≡ noted_next (at r line c) n (get_or part i 0) → at q x z ≡ fed (at r line c) (get_or part i 0 ∷ [])
       → Noting part line₀ c₀ n₀ s x z m q (i + 1)
   unfolding fed noted_all
-  noting_on h m x z q one j k l e o g =
-      let u : i + 1 - i ≡ 1 = omega arith in
-      let v : one ≡ get_or part i 0 ∷ [] = o ∙ rw (u, drop-cons part i 0 h) in
-      let w : at q x z ≡ next (at r line c) (get_or part i 0) = g ∙ rw v in
+  noting_on h m x z q j k l e w =
       record {
         most = omega arith;
         same_line = k ∙ f.same_line;

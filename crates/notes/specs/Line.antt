@@ -6,6 +6,30 @@ use Rattle.lend.specs.Same.{same}
 use Rattle.digits.specs.Hex.{hex_value}
 use Rattle.text.specs.Text.{base64, read_text}
 use Rattle.collection.specs.Collection.{offering}
+use Rattle.notes.specs.declared.Kind.{Kind}
+use Rattle.notes.specs.declared.Kind.TheVariants as kind
+use Rattle.notes.specs.declared.line.Flaw.{Flaw}
+use Rattle.notes.specs.declared.line.Flaw.TheVariants as flaw
+
+-- ---- the numbers of the notes
+
+-- what a line came to
+abbrev pub kind_number : Kind → ℕ
+kind_number kind.Taken = 0
+kind_number kind.Seen = 1
+kind_number kind.Other = 2
+kind_number kind.Unreadable = 3
+kind_number kind.Long = 4
+
+-- what is wrong with a first line
+abbrev pub flaw_number : Flaw → ℕ
+flaw_number flaw.Nothing = 0
+flaw_number flaw.Length = 1
+flaw_number flaw.Return = 2
+flaw_number flaw.Blank = 3
+flaw_number flaw.Capital = 4
+flaw_number flaw.Beyond = 5
+flaw_number flaw.Strange = 6
 
 -- ---- a scan
 

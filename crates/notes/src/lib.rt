@@ -5,6 +5,7 @@
 
 ghost use Rattle.std.specs.Prelude.{◌≡◌};
 ghost use Rattle.scan.specs.Session.{fed, closed, at};
+ghost use Rattle.notes.specs.Line.{kind_number};
 ghost use Rattle.notes.specs.Notes.{raised, noted, noted_next, noted_all, noted_last};
 
 mod line;
@@ -12,16 +13,29 @@ mod line;
 use scan::session;
 use scan::session::Session;
 
-// What a line came to is the index of its number among the notes.
-pub const TAKEN: u8 = 0;
+// What a line came to. Its number is its index among the notes.
+#[derive(Clone, Copy, Debug, PartialEq, Eq)]
+pub enum Kind {
+    Taken,
+    Seen,
+    Other,
+    Unreadable,
+    Long,
+}
 
-pub const SEEN: u8 = 1;
+impl From<Kind> for usize {
+    ghost from_gives = { λ kind n. n ≡ kind_number kind };
 
-pub const OTHER: u8 = 2;
-
-pub const UNREADABLE: u8 = 3;
-
-pub const LONG: u8 = 4;
+    fn from(kind: Kind) -> usize {
+        match kind {
+            Kind::Taken => 0,
+            Kind::Seen => 1,
+            Kind::Other => 2,
+            Kind::Unreadable => 3,
+            Kind::Long => 4,
+        }
+    }
+}
 
 // The index of the fault of the first line.
 pub const FAULT: usize = 5;
@@ -30,16 +44,11 @@ pub const FAULT: usize = 5;
 pub const SIZE: usize = 6;
 
 // A number that is full stays as it is.
-fn raise(notes: &mut [u64], k: u8)
+fn raise(notes: &mut [u64], k: usize)
     ensures { notes.new ≡ raised notes.old k }
 {
-    let at = k as usize;
-    if notes.len() <= at {
-        return;
-    }
-    let n = notes[at];
-    if n < u64::MAX {
-        notes[at] = n + 1;
+    if k < notes.len() {
+        notes[k] = notes[k].saturating_add(1);
     }
 }
 
@@ -51,13 +60,13 @@ fn note(s: Session, line: &[u8], c: &[u8], notes: &mut [u64])
     if phase == session::WAITING {
         let fault = line::fault(session::line_of(s, line));
         if FAULT < notes.len() {
-            notes[FAULT] = fault as u64;
+            notes[FAULT] = u64::from(fault);
         }
         return;
     }
     if phase == session::COLLECTING {
         let kind = line::kind(session::line_of(s, line), c);
-        raise(notes, kind);
+        raise(notes, usize::from(kind));
     }
 }
 
@@ -87,12 +96,9 @@ pub fn feed(part: &[u8], s: Session, line: &mut [u8], c: &mut [u8], notes: &mut 
     ensures { (at result line.new c.new ≡ fed (at s line.old c.old) part.now) × (notes.new ≡ noted_all (at s line.old c.old) notes.old part.now) }
 {
     let mut now = s;
-    let mut i = 0;
-    while i < part.len() {
-        let next = i + 1;
-        note_byte(part[i], now, &line[..], &c[..], notes);
-        now = session::feed(&part[i..next], now, line, c);
-        i = next;
+    for b in part {
+        note_byte(*b, now, &line[..], &c[..], notes);
+        now = session::feed(&[*b], now, line, c);
     }
     now
 }

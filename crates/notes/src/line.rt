@@ -3,77 +3,89 @@ ghost use Rattle.std.specs.Prelude.{◌≡◌, eqb};
 ghost use Rattle.wire.specs.Answer.{choose};
 ghost use Rattle.lend.specs.Same.{same};
 ghost use Rattle.collection.specs.Collection.{offering};
-ghost use Rattle.notes.specs.Line.{offered_kind, line_kind, byte_fault, id_fault};
+ghost use Rattle.wire.specs.Refusal.{number};
+ghost use Rattle.notes.specs.Line.{kind_number, flaw_number, offered_kind, line_kind, byte_fault, id_fault};
 ghost use Rattle.notes.specs.Line.{strange as strange_in};
 
-use collection::Offered;
-use wire::Wrote;
+use crate::Kind;
+use wire::Refusal;
 
 // A longer line is passed over (R15.2).
 const LINE_MOST: usize = 1024;
 
-// What is wrong with a first line, beside NOTHING: it is not 16 digits long, or has a byte that is
-// no digit.
-pub const NOTHING: u8 = 0;
-
-pub const LENGTH: u8 = 1;
-
-pub const RETURN: u8 = 2;
-
-pub const BLANK: u8 = 3;
-
-pub const CAPITAL: u8 = 4;
-
-pub const BEYOND: u8 = 5;
-
-pub const STRANGE: u8 = 6;
-
-// The same bytes: the page was there before.
-fn seen(after: &[u8], c: &[u8]) -> u8
-    ensures { result ≡ choose (same after.now c.now) 1 0 }
-{
-    if lend::equal(after, c) {
-        return super::SEEN;
-    }
-    super::TAKEN
+// What is wrong with a first line: it is not 16 digits long, or has a byte that is no digit.
+#[derive(Clone, Copy, Debug, PartialEq, Eq)]
+pub(super) enum Flaw {
+    Nothing,
+    Length,
+    Return,
+    Blank,
+    Capital,
+    Beyond,
+    Strange,
 }
 
-fn refused(no: u8) -> u8
-    ensures { result ≡ choose (eqb no 12) 2 3 }
-{
-    if no == wire::OTHER_DOCUMENT {
-        return super::OTHER;
+impl From<Flaw> for u64 {
+    ghost from_gives = { λ flaw n. n ≡ flaw_number flaw };
+
+    fn from(flaw: Flaw) -> u64 {
+        match flaw {
+            Flaw::Nothing => 0,
+            Flaw::Length => 1,
+            Flaw::Return => 2,
+            Flaw::Blank => 3,
+            Flaw::Capital => 4,
+            Flaw::Beyond => 5,
+            Flaw::Strange => 6,
+        }
     }
-    super::UNREADABLE
+}
+
+// The same bytes: the page was there before.
+fn seen(after: &[u8], c: &[u8]) -> Kind
+    ensures { kind_number result ≡ choose (same after.now c.now) 1 0 }
+{
+    if lend::equal(after, c) {
+        return Kind::Seen;
+    }
+    Kind::Taken
+}
+
+fn refused(why: Refusal) -> Kind
+    ensures { kind_number result ≡ choose (eqb (number why) 12) 2 3 }
+{
+    match why {
+        Refusal::OtherDocument => Kind::Other,
+        _ => Kind::Unreadable,
+    }
 }
 
 // What a collection makes of a frame, which is offered to a copy of it.
-fn offered(raw: &[u8], c: &[u8]) -> u8
-    ensures { result ≡ offered_kind c.now (offering c.now raw.now) }
+fn offered(raw: &[u8], c: &[u8]) -> Kind
+    ensures { kind_number result ≡ offered_kind c.now (offering c.now raw.now) }
 {
     if c.len() != wire::COLLECTION_SIZE {
-        return super::UNREADABLE;
+        return Kind::Unreadable;
     }
     let mut aside = [0u8; wire::COLLECTION_SIZE];
     lend::copy(&mut aside, 0, c);
-    let r = collection::offer(&mut aside, raw);
-    match r {
-        Offered::Done { kind: _ } => seen(&aside, c),
-        Offered::Refused { no } => refused(no),
+    match collection::offer(&mut aside, raw) {
+        Ok(_) => seen(&aside, c),
+        Err(why) => refused(why),
     }
 }
 
 // A line behind the first, to the collection c.
-pub(super) fn kind(line: &[u8], c: &[u8]) -> u8
-    ensures { result ≡ line_kind c.now line.now }
+pub(super) fn kind(line: &[u8], c: &[u8]) -> Kind
+    ensures { kind_number result ≡ line_kind c.now line.now }
 {
     if LINE_MOST < line.len() {
-        return super::LONG;
+        return Kind::Long;
     }
     let mut raw = [0u8; LINE_MOST];
     let read = text::base64_read(line, &mut raw);
-    let Wrote::Done { len } = read else {
-        return super::UNREADABLE;
+    let Ok(len) = read else {
+        return Kind::Unreadable;
     };
     offered(&raw[0..len], c)
 }
@@ -82,51 +94,36 @@ pub(super) fn kind(line: &[u8], c: &[u8]) -> u8
 fn strange(line: &[u8]) -> u8
     ensures { result ≡ strange_in line.now }
 {
-    let mut i = 0;
-    while i < line.len() {
-        let b = line[i];
-        if 15 < digits::hex_value(b) {
-            return b;
+    for b in line {
+        if 15 < digits::hex_value(*b) {
+            return *b;
         }
-        i += 1;
     }
     b'0'
 }
 
-fn byte_fault(b: u8) -> u8
-    ensures { result ≡ byte_fault b }
+fn byte_fault(b: u8) -> Flaw
+    ensures { flaw_number result ≡ byte_fault b }
 {
-    if b == b'\r' {
-        return RETURN;
+    match b {
+        b'\r' => Flaw::Return,
+        b'\t'..=b' ' => Flaw::Blank,
+        b'A'..=b'F' => Flaw::Capital,
+        0x80.. => Flaw::Beyond,
+        _ => Flaw::Strange,
     }
-    if b < b'\t' {
-        return STRANGE;
-    }
-    if b <= b' ' {
-        return BLANK;
-    }
-    if b < b'A' {
-        return STRANGE;
-    }
-    if b <= b'F' {
-        return CAPITAL;
-    }
-    if b < 0x80 {
-        return STRANGE;
-    }
-    BEYOND
 }
 
 // The first line, where the document's id is due.
-pub(super) fn fault(line: &[u8]) -> u8
-    ensures { result ≡ id_fault line.now }
+pub(super) fn fault(line: &[u8]) -> Flaw
+    ensures { flaw_number result ≡ id_fault line.now }
 {
     let b = strange(line);
     if 15 < digits::hex_value(b) {
         return byte_fault(b);
     }
     if line.len() == 16 {
-        return NOTHING;
+        return Flaw::Nothing;
     }
-    LENGTH
+    Flaw::Length
 }

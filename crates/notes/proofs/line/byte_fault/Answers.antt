@@ -1,32 +1,25 @@
 -- `notes::line::byte_fault` meets its contract. Assumes nothing.
-use Rattle.wire.proofs.Branch.{branch, tests}
-use Rattle.notes.specs.Line.{byte_fault}
+use native.Mathlib.Omega.{arith}
+use Rattle.notes.proofs.Firsts.{a_return, a_control, a_blank, a_sign, a_capital, a_letter, a_beyond}
 use Rattle.notes.proofs.line.byte_fault.Goals as goal
 
-pub returns-then-b-eq13 : goal.returns-then-b-eq13
-unfolding byte_fault
-returns-then-b-eq13 c = search (branch, tests) depth 12
+pub returns-in-13 : goal.returns-in-13
+returns-in-13 c = a_return _ (omega arith)
 
-pub returns-then-b-lt9 : goal.returns-then-b-lt9
-unfolding byte_fault
-returns-then-b-lt9 c = search (branch, tests) depth 12
+pub returns-in-9-to-32 : goal.returns-in-9-to-32
+returns-in-9-to-32 c = a_blank _ (λ e. omega arith) (omega arith) (omega arith)
 
-pub returns-then-b-le32 : goal.returns-then-b-le32
-unfolding byte_fault
-returns-then-b-le32 c = search (branch, tests) depth 12
+pub returns-in-65-to-70 : goal.returns-in-65-to-70
+returns-in-65-to-70 c = a_capital _ (omega arith) (omega arith)
 
-pub returns-then-b-lt65 : goal.returns-then-b-lt65
-unfolding byte_fault
-returns-then-b-lt65 c = search (branch, tests) depth 12
+pub returns-in-128-to-255 : goal.returns-in-128-to-255
+returns-in-128-to-255 c = a_beyond _ (omega arith)
 
-pub returns-then-b-le70 : goal.returns-then-b-le70
-unfolding byte_fault
-returns-then-b-le70 c = search (branch, tests) depth 12
+pub returns-in_default : goal.returns-in_default
+returns-in_default c = a_control _ (omega arith)
 
-pub returns-then-b-lt128 : goal.returns-then-b-lt128
-unfolding byte_fault
-returns-then-b-lt128 c = search (branch, tests) depth 12
+pub returns-in_default-2 : goal.returns-in_default-2
+returns-in_default-2 c = a_sign _ (omega arith) (omega arith)
 
-pub returns : goal.returns
-unfolding byte_fault
-returns c = search (branch, tests) depth 12
+pub returns-in_default-3 : goal.returns-in_default-3
+returns-in_default-3 c = a_letter _ (omega arith) (omega arith)
