@@ -1,89 +1,61 @@
--- How the cover's and the judge's answers give those of `read` and `write`, and that these are
--- fixed by their contracts. Assumes nothing.
+-- How the cover's and the judge's answers give those of `read` and `write`. Assumes nothing.
 use Prim.Native.Nat.{ℕ}
-use mathlib.Core.Path.{◌≡◌, refl, sym, ap, ◌∙◌}
+use mathlib.Core.Path.{◌≡◌, refl}
 use mathlib.Core.List.{List}
-use Rattle.wire.specs.Answer.{done, refused_at, number_of, Change, Kept}
-use Rattle.wire.specs.Writing.{told, writing, Written}
+use Rattle.std.specs.Prelude.{Result, Ok, Err}
+use Rattle.std.specs.Result.{IsErr, IsErrAnd}
+use Rattle.wire.specs.Answer.{Answer, done, refused_at, refused, got, Change, Kept}
+use Rattle.wire.specs.Reading.{told_at}
+use Rattle.wire.specs.Refusal.{number, Placeless}
+use Rattle.wire.specs.Writing.{writing, Written}
 use Rattle.wire.specs.Span.{part_at}
-use Rattle.wire.specs.declared.Span.{Span}
-use Rattle.wire.specs.declared.Wrote.{Wrote}
-use Rattle.wire.specs.declared.Wrote.TheVariants as O
-use Rattle.wire.proofs.Cases.{done_value}
+use Rattle.wire.specs.declared.Refusal.{Refusal}
+use Rattle.wire.specs.declared.RefusedAt.{RefusedAt}
+use Rattle.wire.proofs.Answers.{err_is, handed_at, told_at_injective}
 use Rattle.wire.proofs.Writes.{kept_once}
-use Rattle.cover.specs.Cover.{Cover, cover_at, cover_of}
-use Rattle.cover.specs.Answer as C
-use Rattle.cover.specs.declared.CoverRead.{CoverRead}
-use Rattle.cover.specs.declared.CoverRead.TheVariants as K
+use Rattle.cover.specs.declared.Cover.{Cover}
+use Rattle.cover.specs.Cover.{cover_at, cover_of}
 use Rattle.envelope.specs.Envelope.{judged, envelope_at, verdict}
-use Rattle.envelope.specs.Answer.{read_told, wrote_told, EnvelopeWritten}
-use Rattle.envelope.specs.Private.{judge_told, wrote_as}
-use Rattle.envelope.specs.declared.judge.Judge.{Judge}
-use Rattle.envelope.specs.declared.judge.Judge.TheVariants as J
-use Rattle.envelope.specs.declared.EnvelopeRead.{EnvelopeRead}
-use Rattle.envelope.specs.declared.EnvelopeRead.TheVariants as R
-use Rattle.envelope.specs.declared.EnvelopeWrote.{EnvelopeWrote}
-use Rattle.envelope.specs.declared.EnvelopeWrote.TheVariants as W
+use Rattle.envelope.specs.Answer.{EnvelopeWritten}
+
+-- what `?` hands out of its own kind
+pub handed_own : {A : Type 0} (r : Result A RefusedAt) (e : RefusedAt) → IsErr r × IsErrAnd r (λ x. x ≡ e) → (y : Answer A) → refused_at (number e.why) e.place ≡ y → told_at r ≡ y
+handed_own r e h y q = rw (err_is r e h) q
 
 -- ---- reading
 
 -- the cover was refused
-pub read_cover : (s : List ℕ) (r : CoverRead) (e n : ℕ) → C.told r ≡ cover_at s → r ≡ K.Refused e → n ≡ number_of (C.told r) → refused_at n 0 ≡ envelope_at s
+pub read_cover : (s : List ℕ) (e : ℕ) → refused e ≡ cover_at s → refused e ≡ envelope_at s
 unfolding envelope_at
-read_cover s r e n h k w = rw (w, ← h, k)
+read_cover s e h = rw (← h)
 
--- it was read, and j is what the judge said of its two parts, a and b
-module _ (s : List ℕ) (r : CoverRead) (m p : Span) (e : C.told r ≡ cover_at s) (k : r ≡ K.Cover m p) (j : Judge) (a b : List ℕ) (h : judge_told j ≡ judged a b)
-    (f : a ≡ part_at s m) (g : b ≡ part_at s p) where
-  judge_said : judge_told j ≡ judged (part_at s m) (part_at s p)
-  judge_said = h ∙ rw (f, g)
-
-  pub read_faulty : (n place : ℕ) → j ≡ J.Faulty n place → refused_at n place ≡ envelope_at s
+-- it was read, and its two parts, a and b, were judged
+module _ (s : List ℕ) (c : Cover) (next : ℕ) (e : got c next ≡ cover_at s) (a b : List ℕ) (f : a ≡ part_at s c.manifest) (g : b ≡ part_at s c.payload) where
+  pub read_faulty : (n place : ℕ) → refused_at n place ≡ judged a b → refused_at n place ≡ envelope_at s
   unfolding envelope_at
-  read_faulty n place w = rw (← e, k, ← judge_said, w)
+  read_faulty n place h = rw (← e, ← f, ← g, ← h)
 
-  pub read_fine : j ≡ J.Fine → done (record { manifest = m; payload = p }) ≡ envelope_at s
+  pub read_fine : done tt ≡ judged a b → done c ≡ envelope_at s
   unfolding envelope_at
-  read_fine w = rw (← e, k, ← judge_said, w)
+  read_fine h = rw (← e, ← f, ← g, ← h)
 
 -- ---- writing
 
--- the cover's writer has no place to tell
-wrote_as_lem : (w : Wrote) → wrote_told (wrote_as w) ≡ told w
-wrote_as_lem (O.Done n) = refl
-wrote_as_lem (O.Refused n) = refl
-
-module _ (m p out : List ℕ) (j : Judge) (h : judge_told j ≡ judged m p) where
-  pub write_faulty : (n place : ℕ) → j ≡ J.Faulty n place → EnvelopeWritten (verdict m p) out out (W.Refused n place)
+module _ (m p out : List ℕ) where
+  pub write_faulty : (r : Result ℕ RefusedAt) (e : RefusedAt) → IsErr r × IsErrAnd r (λ x. x ≡ e) → refused_at (number e.why) e.place ≡ judged m p → EnvelopeWritten (verdict m p) out out r
   unfolding verdict writing
-  write_faulty n place w =
-      let v : judged m p ≡ refused_at n place = sym h ∙ ap judge_told w in
-      record { answer = rw v; bytes = rw v }
+  write_faulty r e h k = rw (err_is r e h, ← k) (record { answer = refl; bytes = refl })
 
-  -- the cover's writer kept its promise
-  pub write_fine : j ≡ J.Fine → (out' : List ℕ) (w : Wrote) (r : EnvelopeWrote) → Written 0 (done (cover_of m p)) out out' w → r ≡ wrote_as w
-      → EnvelopeWritten (verdict m p) out out' r
-  unfolding verdict
-  write_fine f out' w r k e =
-      let v : judged m p ≡ done tt = sym h ∙ ap judge_told f in
-      rw v (record { answer = ap wrote_told e ∙ wrote_as_lem w ∙ k.answer; bytes = k.bytes })
+  -- the cover's writer kept its promise, and has no place to tell
+  module _ (h : done tt ≡ judged m p) (out' : List ℕ) where
+    pub write_short : (r : Result ℕ RefusedAt) (e : Refusal) → IsErr r × IsErrAnd r (Placeless e) → Written 0 (done (cover_of m p)) out out' (Err e) → EnvelopeWritten (verdict m p) out out' r
+    unfolding verdict
+    write_short r e x k = rw (← h) (record { answer = handed_at r e x _ k.answer; bytes = k.bytes })
 
--- ---- an enum says no more than its number and values do
-
-pub read_injective : (r q : EnvelopeRead) → read_told r ≡ read_told q → r ≡ q
-read_injective (R.Envelope m p) (R.Envelope n q) e =
-    let v = done_value e in
-    cc (ap (λ (c : Cover). c.manifest) v, ap (λ (c : Cover). c.payload) v)
-read_injective (R.Envelope m p) (R.Refused n k) e = cc
-read_injective (R.Refused n k) (R.Envelope m p) e = cc
-read_injective (R.Refused m j) (R.Refused n k) e = cc
-
-pub wrote_injective : (r q : EnvelopeWrote) → wrote_told r ≡ wrote_told q → r ≡ q
-wrote_injective (W.Done m) (W.Done n) e = cc
-wrote_injective (W.Done m) (W.Refused n k) e = cc
-wrote_injective (W.Refused n k) (W.Done m) e = cc
-wrote_injective (W.Refused m j) (W.Refused n k) e = cc
+    pub write_fine : (n : ℕ) → Written 0 (done (cover_of m p)) out out' (Ok n) → EnvelopeWritten (verdict m p) out out' (Ok n)
+    unfolding verdict
+    write_fine n k = rw (← h) (record { answer = k.answer; bytes = k.bytes })
 
 -- the writer's promise fixes its answer and every byte of its output
-pub written_once : {d : Change ℕ} {out x y : List ℕ} (r q : EnvelopeWrote) → Kept d out x (wrote_told r) → Kept d out y (wrote_told q) → (r ≡ q) × (x ≡ y)
-written_once r q a b = let (e, f) = kept_once a b in (wrote_injective r q e, f)
+pub written_once : {d : Change ℕ} {out x y : List ℕ} (r q : Result ℕ RefusedAt) → Kept d out x (told_at r) → Kept d out y (told_at q) → (r ≡ q) × (x ≡ y)
+written_once r q a b = let (e, f) = kept_once a b in (told_at_injective r q e, f)

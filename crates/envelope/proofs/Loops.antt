@@ -11,12 +11,11 @@ use lib.Dec.{eqb}
 use mir.Syntax.{w64}
 use mir.Val.{Fits}
 use lib.ListN.{length, take, drop, get_or, drop_of_length-le}
-use lib.Seq.{drop-drop, length-take-le}
+use lib.Seq.{drop-drop}
 use Rattle.wire.proofs.Cases.{eq_or_ne}
 use Rattle.lend.specs.Same.{same}
 use Rattle.sha256.specs.Sha.{sha256}
 use Rattle.entry.specs.declared.File.{File}
-use Rattle.entry.specs.declared.Mtime.TheVariants.{Null}
 use Rattle.manifest.proofs.Judging.{file_next}
 use Rattle.wire.specs.Answer.{done, refused_at}
 use Rattle.wire.specs.Span.{part_at}
@@ -32,10 +31,6 @@ pub record Digesting (m p : List ℕ) (fs : List File) (at i : ℕ) : Type 0 whe
   pub rest : digests m fs 0 p ≡ digests m (drop i fs) i (drop at p)
   pub left : at + total (drop i fs) ≡ length p
 
--- what an array's element is past its end, as the code's proofs write it
-abbrev pub past_end : File
-past_end = record { hash = record { start = 0; len = 0 }; path = record { start = 0; len = 0 }; size = 0; mtime = Null }
-
 -- two tests that hold of each other
 same_test : (a b x y : ℕ) → (a ≡ b → x ≡ y) → (x ≡ y → a ≡ b) → eqb a b ≡ eqb x y
 same_test a b x y to fro = go (eq_or_ne a b)
@@ -50,17 +45,14 @@ summing_none fs n = record { rest = refl }
 pub digesting_none : (m p : List ℕ) (fs : List File) → total fs ≡ length p → Digesting m p fs 0 0
 digesting_none m p fs e = record { rest = refl; left = omega arith }
 
--- file k of the first count of fs
-module _ (files : List File) (count k : ℕ) (d : File) (known : count ≤ length files) (here : k < count) where
-  abbrev fs : List File
-  fs = take count files
-
+-- file k of fs
+module _ (fs : List File) (k : ℕ) (d : File) (here : k < length fs) where
   abbrev f : File
-  f = get_or files k d
+  f = get_or fs k d
 
   total_next : total (drop k fs) ≡ f.size + total (drop (k + 1) fs)
   unfolding total
-  total_next = ap total (file_next files count k d known here)
+  total_next = ap total (file_next fs k d here)
 
   module _ (n left : ℕ) (s : Summing fs n left k) where
     -- it is larger than what is left
@@ -92,25 +84,25 @@ module _ (files : List File) (count k : ℕ) (d : File) (known : count ≤ lengt
 
       pub digesting_stop : b ≡ false → refused_at 21 k ≡ digests m fs 0 p
       unfolding digests
-      digesting_stop w = sym (s.rest ∙ rw (file_next files count k d known here, compared, w))
+      digesting_stop w = sym (s.rest ∙ rw (file_next fs k d here, compared, w))
 
       pub digesting_on : b ≡ true → Digesting m p fs (at + f.size) (k + 1)
       unfolding digests
       digesting_on w =
           record {
-            rest = s.rest ∙ rw (file_next files count k d known here, compared, w) (ap (digests m (drop (k + 1) fs) (k + 1)) (drop-drop f.size at p));
+            rest = s.rest ∙ rw (file_next fs k d here, compared, w) (ap (digests m (drop (k + 1) fs) (k + 1)) (drop-drop f.size at p));
             left = omega (arith, total_next, s.left);
           }
 
 -- all files are passed
-module _ (files : List File) (count k : ℕ) (known : count ≤ length files) (past : count ≤ k) where
-  none_left : drop k (take count files) ≡ []
-  none_left = drop_of_length-le (take count files) {i = k} (rw (length-take-le count files known) past)
+module _ (fs : List File) (k : ℕ) (past : length fs ≤ k) where
+  none_left : drop k fs ≡ []
+  none_left = drop_of_length-le fs {i = k} past
 
-  pub summing_end : (n left : ℕ) → Summing (take count files) n left k → eqb left 0 ≡ eqb (total (take count files)) n
+  pub summing_end : (n left : ℕ) → Summing fs n left k → eqb left 0 ≡ eqb (total fs) n
   unfolding total
   summing_end n left s = sym (s.rest ∙ rw none_left (same_test 0 left left 0 sym sym))
 
-  pub digesting_end : (m p : List ℕ) (at : ℕ) → Digesting m p (take count files) at k → done tt ≡ digests m (take count files) 0 p
+  pub digesting_end : (m p : List ℕ) (at : ℕ) → Digesting m p fs at k → done tt ≡ digests m fs 0 p
   unfolding digests
   digesting_end m p at s = sym (s.rest ∙ rw none_left)

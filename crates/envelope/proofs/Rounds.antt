@@ -9,7 +9,8 @@ use Rattle.wire.specs.Answer.{done, then, value_of}
 use Rattle.wire.specs.Number.{Bytes}
 use Rattle.wire.specs.Span.{part_at}
 use Rattle.wire.proofs.Cases.{then_done, done_value, value_passed}
-use Rattle.cover.specs.Cover.{Cover, cover_at, cover_of}
+use Rattle.cover.specs.declared.Cover.{Cover}
+use Rattle.cover.specs.Cover.{cover_at, cover_of}
 use Rattle.cover.proofs.ReadsBack.{cover_back}
 use Rattle.cover.proofs.OnlyLayouts.{cover_only}
 use Rattle.manifest.specs.Manifest.{manifest_at}

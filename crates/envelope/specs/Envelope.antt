@@ -4,7 +4,8 @@ use Rattle.wire.specs.Answer.{Answer, done, then, demand_at, value_of}
 use Rattle.wire.specs.Span.{part_at}
 use Rattle.lend.specs.Same.{same}
 use Rattle.sha256.specs.Sha.{sha256}
-use Rattle.cover.specs.Cover.{Cover, cover_at, cover_of}
+use Rattle.cover.specs.declared.Cover.{Cover}
+use Rattle.cover.specs.Cover.{cover_at, cover_of}
 use Rattle.entry.specs.declared.File.{File}
 use Rattle.manifest.specs.Manifest.{manifest_at}
 

@@ -1,3 +1,2 @@
 pub mod Envelope
 pub mod Answer
-pub mod Private

@@ -8,67 +8,29 @@
 mod judge;
 
 ghost use Rattle.std.specs.Prelude.{◌≡◌};
+ghost use Rattle.wire.specs.Reading.{told_at};
 ghost use Rattle.envelope.specs.Envelope.{envelope_at, verdict};
-ghost use Rattle.envelope.specs.Answer.{read_told, EnvelopeWritten};
-ghost use Rattle.envelope.specs.Private.{wrote_as};
+ghost use Rattle.envelope.specs.Answer.{EnvelopeWritten};
 
-use cover::CoverRead;
-use judge::Judge;
-use wire::{Span, Wrote};
-
-#[derive(Drop)]
-pub enum EnvelopeRead {
-    // Where the manifest and the payload stand in the input.
-    Envelope { manifest: Span, payload: Span },
-    // The number of the refusal (R2.2), and the place that comes with it (R2.3).
-    Refused { no: u8, place: usize },
-}
-
-#[derive(Drop)]
-pub enum EnvelopeWrote {
-    // How many bytes were written.
-    Done { len: usize },
-    // The number of the refusal (R2.2), and the place that comes with it (R2.3).
-    Refused { no: u8, place: usize },
-}
+use cover::Cover;
+use wire::RefusedAt;
 
 // Where the manifest and the payload stand in the envelope that s is, once both agree; or the
 // refusal and its place.
-pub fn read(s: &[u8]) -> EnvelopeRead
-    ensures { read_told result ≡ envelope_at s.now }
+pub fn read(s: &[u8]) -> Result<Cover, RefusedAt>
+    ensures { told_at result ≡ envelope_at s.now }
 {
-    let r = cover::read(s);
-    let CoverRead::Cover { manifest, payload } = r else {
-        return EnvelopeRead::Refused {
-            no: r.no(),
-            place: 0,
-        };
-    };
-    let j = judge::parts(lend::part(s, manifest), lend::part(s, payload));
-    if let Judge::Faulty { no, place } = j {
-        return EnvelopeRead::Refused { no, place };
-    }
-    EnvelopeRead::Envelope { manifest, payload }
-}
-
-// An answer whose refusal has no place of its own (R2.3).
-fn unplaced(w: Wrote) -> EnvelopeWrote
-    ensures { result ≡ wrote_as w }
-{
-    match w {
-        Wrote::Done { len } => EnvelopeWrote::Done { len },
-        Wrote::Refused { no } => EnvelopeWrote::Refused { no, place: 0 },
-    }
+    let c = cover::read(s)?;
+    judge::parts(lend::part(s, c.manifest), lend::part(s, c.payload))?;
+    Ok(c)
 }
 
 // The envelope of a manifest's bytes and its payload at the front of out; or 9, the manifest's
 // refusal, 21 and its place, 11, and nothing changed.
-pub fn write(manifest: &[u8], payload: &[u8], out: &mut [u8]) -> EnvelopeWrote
+pub fn write(manifest: &[u8], payload: &[u8], out: &mut [u8]) -> Result<usize, RefusedAt>
     ensures { EnvelopeWritten (verdict manifest.now payload.now) out.old out.new result }
 {
-    let j = judge::parts(manifest, payload);
-    if let Judge::Faulty { no, place } = j {
-        return EnvelopeWrote::Refused { no, place };
-    }
-    unplaced(cover::lay(manifest, payload, out))
+    judge::parts(manifest, payload)?;
+    let len = cover::lay(manifest, payload, out)?;
+    Ok(len)
 }

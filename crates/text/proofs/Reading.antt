@@ -19,8 +19,7 @@ use Rattle.wire.specs.Every.{within}
 use Rattle.text.specs.Text.{skipped, kept, value, values, leftover}
 use Rattle.text.specs.Private.{Narrow, form_of, fed, stepped, emitted, decoded, judged}
 use Rattle.text.specs.declared.read.Seen.{Seen}
-use Rattle.text.specs.declared.read.Step.TheVariants.{On, Bad}
-use Rattle.text.specs.declared.read.Judged.TheVariants as J
+use Rattle.std.specs.Prelude.{Some, None}
 use Rattle.text.proofs.Counts.{narrow_bounds, leftover_is}
 use Rattle.text.proofs.Characters.{within_true, within_stop, values_append, values_skipped, values_one, length_values}
 use Rattle.text.proofs.Flow.{Flow, flow_none, flow_in, flow_out, flow_digits, flow_held}
@@ -33,7 +32,7 @@ pub record Reading (w : ℕ) (cs : List ℕ) (i : ℕ) (s : Seen) (ys : List ℕ
   pub made : s.made ≡ length ys
   pub short : s.count < 8
 
-pub reading_none : (w : ℕ) (cs : List ℕ) → Reading w cs 0 (record { bits = 0; count = 0; made = 0; full = false; byte = 0 }) []
+pub reading_none : (w : ℕ) (cs : List ℕ) → Reading w cs 0 (record { bits = 0; count = 0; made = 0; byte = None }) []
 unfolding values kept
 reading_none w cs = record { small = λ i. pow_pos w; flow = flow_none w 8; made = refl; short = omega arith }
 
@@ -46,14 +45,14 @@ module _ (w : ℕ) (narrow : Narrow w) (cs : List ℕ) (i : ℕ) (more : i < len
 
   -- a skipped character
   skip_on : (s : Seen) (ys : List ℕ) → Reading w cs i s ys → skipped (form_of w) c ≡ true
-      → Reading w cs (i + 1) (record { bits = s.bits; count = s.count; made = s.made; full = false; byte = 0 }) (ys ++ [])
+      → Reading w cs (i + 1) (record { bits = s.bits; count = s.count; made = s.made; byte = None }) (ys ++ [])
   skip_on s ys r e =
       let v : values (form_of w) (take (i + 1) cs) ≡ values (form_of w) (take i cs) = next_values ∙ ap (λ (l : List ℕ). values (form_of w) (take i cs) ++ l) (values_skipped (form_of w) c e) ∙ append-nil _ in
       record { small = rw v r.small; flow = rw (v, append-nil ys) r.flow; made = rw (append-nil ys) r.made; short = r.short }
 
   -- a character with the value v
   value_on : (s : Seen) (ys : List ℕ) → Reading w cs i s ys → skipped (form_of w) c ≡ false → value (form_of w) c < 2 ^ w
-      → Reading w cs (i + 1) (fed w s (value (form_of w) c)) (ys ++ emitted (fed w s (value (form_of w) c)).full (fed w s (value (form_of w) c)).byte)
+      → Reading w cs (i + 1) (fed w s (value (form_of w) c)) (ys ++ emitted (fed w s (value (form_of w) c)).byte)
   unfolding fed
   value_on s ys r e l = go (ltb (s.count + w) 8) refl
     where
@@ -64,7 +63,7 @@ module _ (w : ℕ) (narrow : Narrow w) (cs : List ℕ) (i : ℕ) (more : i < len
       small = rw vs (small_snoc (2 ^ w) (values (form_of w) (take i cs)) (value (form_of w) c) r.small l)
 
       go : (t : Bool) → ltb (s.count + w) 8 ≡ t
-          → Reading w cs (i + 1) (fed w s (value (form_of w) c)) (ys ++ emitted (fed w s (value (form_of w) c)).full (fed w s (value (form_of w) c)).byte)
+          → Reading w cs (i + 1) (fed w s (value (form_of w) c)) (ys ++ emitted (fed w s (value (form_of w) c)).byte)
       go true q = rw (q, append-nil ys)
           (record { small = small; flow = rw vs (flow_in r.flow (value (form_of w) c) l); made = r.made; short = ltb-true (s.count + w) 8 q })
       go false q = rw q
@@ -75,15 +74,15 @@ module _ (w : ℕ) (narrow : Narrow w) (cs : List ℕ) (i : ℕ) (more : i < len
             short = omega (arith, r.short, narrow_bounds w narrow);
           })
 
-  pub reading_on : (s t : Seen) (ys : List ℕ) → Reading w cs i s ys → On t ≡ stepped w s c → Reading w cs (i + 1) t (ys ++ emitted t.full t.byte)
+  pub reading_on : (s t : Seen) (ys : List ℕ) → Reading w cs i s ys → Some t ≡ stepped w s c → Reading w cs (i + 1) t (ys ++ emitted t.byte)
   unfolding stepped
   reading_on s t ys r e = go (skipped (form_of w) c) (ltb (value (form_of w) c) (2 ^ w)) refl refl e
     where
       go : (a b : Bool) → skipped (form_of w) c ≡ a → ltb (value (form_of w) c) (2 ^ w) ≡ b
-          → On t ≡ choose a (On (record { bits = s.bits; count = s.count; made = s.made; full = false; byte = 0 })) (choose b (On (fed w s (value (form_of w) c))) Bad)
-          → Reading w cs (i + 1) t (ys ++ emitted t.full t.byte)
+          → Some t ≡ choose a (Some (record { bits = s.bits; count = s.count; made = s.made; byte = None })) (choose b (Some (fed w s (value (form_of w) c))) None)
+          → Reading w cs (i + 1) t (ys ++ emitted t.byte)
       go true b p q h =
-          let z : t ≡ record { bits = s.bits; count = s.count; made = s.made; full = false; byte = 0 } = cc in
+          let z : t ≡ record { bits = s.bits; count = s.count; made = s.made; byte = None } = cc in
           rw z (skip_on s ys r p)
       go false true p q h =
           let z : t ≡ fed w s (value (form_of w) c) = cc in
@@ -91,7 +90,7 @@ module _ (w : ℕ) (narrow : Narrow w) (cs : List ℕ) (i : ℕ) (more : i < len
       go false false p q h = let z : ◌≡◌ {A = ℕ} 0 1 = cc in absurd (omega arith)
 
   -- a character that is not allowed decides the whole text
-  pub reading_bad : (s : Seen) → Bad ≡ stepped w s c → within (2 ^ w) (values (form_of w) cs) ≡ false
+  pub reading_bad : (s : Seen) → None ≡ stepped w s c → within (2 ^ w) (values (form_of w) cs) ≡ false
   unfolding stepped
   reading_bad s e = go (skipped (form_of w) c) (ltb (value (form_of w) c) (2 ^ w)) refl refl e
     where
@@ -102,7 +101,7 @@ module _ (w : ℕ) (narrow : Narrow w) (cs : List ℕ) (i : ℕ) (more : i < len
           ∙ ap (λ (l : List ℕ). values (form_of w) (take i cs) ++ l) (values_append (form_of w) (c ∷ []) (drop (suc i) cs) ∙ ap (λ (l : List ℕ). l ++ values (form_of w) (drop (suc i) cs)) (values_one (form_of w) c p))
 
       go : (a b : Bool) → skipped (form_of w) c ≡ a → ltb (value (form_of w) c) (2 ^ w) ≡ b
-          → Bad ≡ choose a (On (record { bits = s.bits; count = s.count; made = s.made; full = false; byte = 0 })) (choose b (On (fed w s (value (form_of w) c))) Bad)
+          → None ≡ choose a (Some (record { bits = s.bits; count = s.count; made = s.made; byte = None })) (choose b (Some (fed w s (value (form_of w) c))) None)
           → within (2 ^ w) (values (form_of w) cs) ≡ false
       go true b p q h = let z : ◌≡◌ {A = ℕ} 0 1 = cc in absurd (omega arith)
       go false true p q h = let z : ◌≡◌ {A = ℕ} 0 1 = cc in absurd (omega arith)
@@ -151,13 +150,13 @@ module _ (w : ℕ) (narrow : Narrow w) (cs : List ℕ) (i : ℕ) (s : Seen) (ys 
     unfolding decoded vs
     reading_bytes = rw (counts.0, counts.1) (flow_digits flow_all)
 
-    pub reading_judged : J.Good s.bits s.count s.made ≡ judged w cs
+    pub reading_judged : Some (record { bits = s.bits; count = s.count; made = s.made }) ≡ judged w cs
     unfolding judged vs
     reading_judged = rw (reading_below, counts.0, counts.1, r.made, ← flow_held flow_all)
 
 -- ---- what was judged of the whole text
 
 module _ (w : ℕ) (cs : List ℕ) where
-  pub judged_bad : within (2 ^ w) (values (form_of w) cs) ≡ false → J.Bad ≡ judged w cs
+  pub judged_bad : within (2 ^ w) (values (form_of w) cs) ≡ false → None ≡ judged w cs
   unfolding judged
   judged_bad e = rw e

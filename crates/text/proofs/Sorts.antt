@@ -10,7 +10,7 @@ use Rattle.wire.specs.Answer.{choose}
 use Rattle.text.specs.Text.{base64, zbase32, skipped, value}
 use Rattle.text.specs.Private.{Narrow, form_of, sort, fed, stepped}
 use Rattle.text.specs.declared.read.Seen.{Seen}
-use Rattle.text.specs.declared.read.Step.TheVariants.{On, Bad}
+use Rattle.std.specs.Prelude.{Some, None}
 use Rattle.text.proofs.Forms.{Lawful, base64_lawful, zbase32_lawful}
 
 pub form_width : (w : ℕ) → Narrow w → (form_of w).width ≡ w
@@ -69,15 +69,15 @@ module _ (w : ℕ) (narrow : Narrow w) (s : Seen) (c v : ℕ) (entry : v ≡ sor
   unfolding sort skip? allowed?
   chosen = entry ∙ rw (form_width w narrow)
 
-  pub take_skipped : v ≡ 255 → On (record { bits = s.bits; count = s.count; made = s.made; full = false; byte = 0 }) ≡ stepped w s c
+  pub take_skipped : v ≡ 255 → Some (record { bits = s.bits; count = s.count; made = s.made; byte = None }) ≡ stepped w s c
   unfolding stepped skip?
   take_skipped e = rw (entry_skipped skip? allowed? (value (form_of w) c) v small chosen e)
 
-  pub take_bad : v ≡ 254 → Bad ≡ stepped w s c
+  pub take_bad : v ≡ 254 → None ≡ stepped w s c
   unfolding stepped skip? allowed?
   take_bad e = let b = entry_bad skip? allowed? (value (form_of w) c) v small chosen e in rw (b.0, b.1)
 
-  pub take_value : (v ≡ 255 → ⊥) → (v ≡ 254 → ⊥) → (v < 2 ^ w) × (On (fed w s v) ≡ stepped w s c)
+  pub take_value : (v ≡ 255 → ⊥) → (v ≡ 254 → ⊥) → (v < 2 ^ w) × (Some (fed w s v) ≡ stepped w s c)
   unfolding stepped skip? allowed?
   take_value a b =
       let e = entry_value skip? allowed? (value (form_of w) c) v small chosen a b in

@@ -19,8 +19,15 @@ use Rattle.wire.specs.Every.{within}
 use Rattle.text.specs.Text.{values, leftover, read_values, read_text}
 use Rattle.text.specs.Private.{Narrow, form_of, decoded, judged}
 use Rattle.text.specs.declared.read.Judged.{Judged}
-use Rattle.text.specs.declared.read.Judged.TheVariants.{Good, Bad}
+use Rattle.std.specs.Prelude.{Option, Some, None}
 use Rattle.text.proofs.Sorts.{form_width, form_lawful}
+
+abbrev left : (bits count made : ℕ) → Judged
+left b c m = record { bits = b; count = c; made = m }
+
+-- each character may stand there
+abbrev pub Good : (bits count made : ℕ) → Option Judged
+Good b c m = Some (left b c m)
 
 module _ (w : ℕ) (narrow : Narrow w) (cs : List ℕ) where
   n : ℕ
@@ -47,16 +54,16 @@ module _ (w : ℕ) (narrow : Narrow w) (cs : List ℕ) where
   unfolding judged n k v
   good_is b c m e = go (within (2 ^ w) (values (form_of w) cs)) refl e
     where
-      go : (t : Bool) → within (2 ^ w) (values (form_of w) cs) ≡ t → Good b c m ≡ choose t (Good (v % 2 ^ k) k (w * n / 8)) Bad
+      go : (t : Bool) → within (2 ^ w) (values (form_of w) cs) ≡ t → Good b c m ≡ choose t (Good (v % 2 ^ k) k (w * n / 8)) None
           → (within (2 ^ w) (values (form_of w) cs) ≡ true) × (b ≡ v % 2 ^ k) × (c ≡ k) × (m ≡ w * n / 8)
-      go true p h = (p, cc, cc, cc)
+      go true p h = let z : left b c m ≡ left (v % 2 ^ k) k (w * n / 8) = cc in (p, ap (λ (j : Judged). j.bits) z, ap (λ (j : Judged). j.count) z, ap (λ (j : Judged). j.made) z)
       go false p h = let z : ◌≡◌ {A = ℕ} 0 1 = cc in absurd (omega arith)
 
-  verdict_bad : Bad ≡ judged w cs → read_text (form_of w) cs ≡ refused 1
+  verdict_bad : None ≡ judged w cs → read_text (form_of w) cs ≡ refused 1
   unfolding judged
   verdict_bad e = answer ∙ go (within (2 ^ w) (values (form_of w) cs)) e
     where
-      go : (t : Bool) → Bad ≡ choose t (Good (number (2 ^ w) (values (form_of w) cs) % 2 ^ leftover (form_of w) (length (values (form_of w) cs))) (leftover (form_of w) (length (values (form_of w) cs))) (w * length (values (form_of w) cs) / 8)) Bad
+      go : (t : Bool) → None ≡ choose t (Good (number (2 ^ w) (values (form_of w) cs) % 2 ^ leftover (form_of w) (length (values (form_of w) cs))) (leftover (form_of w) (length (values (form_of w) cs))) (w * length (values (form_of w) cs) / 8)) None
           → choose t (choose (leb w k) (refused 2) (choose (eqb (v % 2 ^ k) 0) (done (decoded w cs)) (refused 2))) (refused 1) ≡ refused 1
       go true h = let z : ◌≡◌ {A = ℕ} 0 1 = cc in absurd (omega arith)
       go false h = refl
@@ -83,29 +90,29 @@ module _ (w : ℕ) (narrow : Narrow w) (cs : List ℕ) where
     verdict_length = (good_is b c m e).3 ∙ sym (length_digits 256 _ _)
 
 -- for `search`: what `read` answers, r being what was judged of the text cs
-module _ (w : ℕ) (narrow : Narrow w) (cs out : List ℕ) (r : Judged) (e : r ≡ judged w cs) where
-  pub read_bad : r ≡ Bad → Written 0 (read_text (form_of w) cs) out out (Err BadCharacter)
+module _ (w : ℕ) (narrow : Narrow w) (cs out : List ℕ) (r : Option Judged) (e : r ≡ judged w cs) where
+  pub read_bad : r ≡ None → Written 0 (read_text (form_of w) cs) out out (Err BadCharacter)
   read_bad q = rw (verdict_bad w narrow cs (sym q ∙ e)) (denied 0 out BadCharacter)
 
-  module _ (b c m : ℕ) (q : r ≡ Good b c m) where
-    pub read_count : w ≤ c → Written 0 (read_text (form_of w) cs) out out (Err BadTextLength)
-    read_count h = rw (verdict_count w narrow cs b c m (sym q ∙ e) h) (denied 0 out BadTextLength)
+  module _ (j : Judged) (q : r ≡ Some j) where
+    pub read_count : w ≤ j.count → Written 0 (read_text (form_of w) cs) out out (Err BadTextLength)
+    read_count h = rw (verdict_count w narrow cs j.bits j.count j.made (sym q ∙ e) h) (denied 0 out BadTextLength)
 
     pub read_below : within (2 ^ w) (values (form_of w) cs) ≡ true
-    read_below = verdict_below w narrow cs b c m (sym q ∙ e)
+    read_below = verdict_below w narrow cs j.bits j.count j.made (sym q ∙ e)
 
-    pub read_fits : m ≤ length out → length (decoded w cs) ≤ length out
-    read_fits l = omega (arith, verdict_length w narrow cs b c m (sym q ∙ e))
+    pub read_fits : j.made ≤ length out → length (decoded w cs) ≤ length out
+    read_fits l = omega (arith, verdict_length w narrow cs j.bits j.count j.made (sym q ∙ e))
 
-    module _ (h : c < w) where
-      pub read_bits : (b ≡ 0 → ⊥) → Written 0 (read_text (form_of w) cs) out out (Err BadTextLength)
-      read_bits z = rw (verdict_bits w narrow cs b c m (sym q ∙ e) h z) (denied 0 out BadTextLength)
+    module _ (h : j.count < w) where
+      pub read_bits : (j.bits ≡ 0 → ⊥) → Written 0 (read_text (form_of w) cs) out out (Err BadTextLength)
+      read_bits z = rw (verdict_bits w narrow cs j.bits j.count j.made (sym q ∙ e) h z) (denied 0 out BadTextLength)
 
-      pub read_short : b ≡ 0 → length out < m → Written 0 (read_text (form_of w) cs) out out (Err NoRoom)
+      pub read_short : j.bits ≡ 0 → length out < j.made → Written 0 (read_text (form_of w) cs) out out (Err NoRoom)
       read_short z l =
-          rw (verdict_good w narrow cs b c m (sym q ∙ e) h z) (no_room 0 out (decoded w cs) (omega (arith, verdict_length w narrow cs b c m (sym q ∙ e))))
+          rw (verdict_good w narrow cs j.bits j.count j.made (sym q ∙ e) h z) (no_room 0 out (decoded w cs) (omega (arith, verdict_length w narrow cs j.bits j.count j.made (sym q ∙ e))))
 
-      pub read_done : (out' : List ℕ) → b ≡ 0 → m ≤ length out → out' ≡ over 0 (decoded w cs) out → Written 0 (read_text (form_of w) cs) out out' (Ok m)
+      pub read_done : (out' : List ℕ) → j.bits ≡ 0 → j.made ≤ length out → out' ≡ over 0 (decoded w cs) out → Written 0 (read_text (form_of w) cs) out out' (Ok j.made)
       read_done out' z l o =
-          rw (verdict_good w narrow cs b c m (sym q ∙ e) h z)
-          (written 0 out (decoded w cs) out' m (omega (arith, read_fits l)) (verdict_length w narrow cs b c m (sym q ∙ e)) o)
+          rw (verdict_good w narrow cs j.bits j.count j.made (sym q ∙ e) h z)
+          (written 0 out (decoded w cs) out' j.made (omega (arith, read_fits l)) (verdict_length w narrow cs j.bits j.count j.made (sym q ∙ e)) o)

@@ -10,21 +10,22 @@ use super::{pack, tables};
 use wire::Refusal;
 
 // What has been read so far: the bits that are not yet a byte and their number, how many bytes were
-// made, and whether the last character made one, and which.
+// made, and the one that the last character made, if it made one.
 #[derive(Clone, Copy)]
 pub struct Seen {
     pub bits: u32,
     pub count: u32,
     pub made: usize,
-    pub full: bool,
-    pub byte: u8,
+    pub byte: Option<u8>,
 }
 
-#[derive(Clone, Copy)]
-pub enum Step {
-    On { seen: Seen },
-    Bad,
-}
+// Before the first character.
+const NOTHING: Seen = Seen {
+    bits: 0,
+    count: 0,
+    made: 0,
+    byte: None,
+};
 
 // One value more. Each makes at most one byte, since a character has at most eight bits.
 fn feed(w: u32, s: Seen, v: u8) -> Seen
@@ -38,8 +39,7 @@ fn feed(w: u32, s: Seen, v: u8) -> Seen
             bits,
             count,
             made: s.made,
-            full: false,
-            byte: 0,
+            byte: None,
         };
     }
     let left = count - 8;
@@ -47,77 +47,56 @@ fn feed(w: u32, s: Seen, v: u8) -> Seen
         bits: pack::low(bits, left),
         count: left,
         made: s.made + 1,
-        full: true,
-        byte: pack::top(bits, left),
+        byte: Some(pack::top(bits, left)),
     }
 }
 
-// One character more.
-fn take(table: &[u8; 256], w: u32, s: Seen, c: u8) -> Step
+// One character more; none where it is not allowed.
+fn take(table: &[u8; 256], w: u32, s: Seen, c: u8) -> Option<Seen>
     requires { Narrow w × Sorted w table.now × (s.bits < 2 ^ s.count) × (s.count < 8) × (s.made + 1 < 2 ^ 64) }
     ensures { result ≡ stepped w s c }
 {
     let v = table[c as usize];
     if v == tables::SKIPPED {
-        return Step::On {
-            seen: Seen {
-                bits: s.bits,
-                count: s.count,
-                made: s.made,
-                full: false,
-                byte: 0,
-            },
-        };
+        return Some(Seen { byte: None, ..s });
     }
     if v == tables::NOT_ALLOWED {
-        return Step::Bad;
+        return None;
     }
-    Step::On {
-        seen: feed(w, s, v),
-    }
+    Some(feed(w, s, v))
 }
 
+// Of a whole text, the bits left over, their number, and how many bytes it has.
 #[derive(Clone, Copy)]
-pub enum Judged {
-    // The bits left over, their number, and how many bytes the text has.
-    Good { bits: u32, count: u32, made: usize },
-    // A character is not allowed.
-    Bad,
+pub struct Judged {
+    pub bits: u32,
+    pub count: u32,
+    pub made: usize,
 }
 
-fn judge(table: &[u8; 256], w: u32, text: &[u8]) -> Judged
+// None where a character is not allowed.
+fn judge(table: &[u8; 256], w: u32, text: &[u8]) -> Option<Judged>
     requires { Narrow w × Sorted w table.now }
     ensures { result ≡ judged w text.now }
 {
-    let mut s = Seen {
-        bits: 0,
-        count: 0,
-        made: 0,
-        full: false,
-        byte: 0,
-    };
-    let mut i = 0;
-    while i < text.len() {
-        let Step::On { seen } = take(table, w, s, text[i]) else {
-            return Judged::Bad;
-        };
-        s = seen;
-        i += 1;
+    let mut s = NOTHING;
+    for c in text {
+        s = take(table, w, s, *c)?;
     }
-    Judged::Good {
+    Some(Judged {
         bits: s.bits,
         count: s.count,
         made: s.made,
-    }
+    })
 }
 
 // The byte, where there is one.
-fn emit(out: &mut [u8], at: usize, full: bool, byte: u8)
-    requires { at + length (emitted full byte) ≤ length out.old }
-    ensures { out.new ≡ over at (emitted full byte) out.old }
+fn emit(out: &mut [u8], at: usize, byte: Option<u8>)
+    requires { at + length (emitted byte) ≤ length out.old }
+    ensures { out.new ≡ over at (emitted byte) out.old }
 {
-    if full {
-        out[at] = byte;
+    if let Some(b) = byte {
+        out[at] = b;
     }
 }
 
@@ -125,21 +104,13 @@ fn decode(table: &[u8; 256], w: u32, text: &[u8], out: &mut [u8])
     requires { Narrow w × Sorted w table.now × (within (2 ^ w) (values (form_of w) text.now) ≡ true) × (length (decoded w text.now) ≤ length out.old) }
     ensures { out.new ≡ over 0 (decoded w text.now) out.old }
 {
-    let mut s = Seen {
-        bits: 0,
-        count: 0,
-        made: 0,
-        full: false,
-        byte: 0,
-    };
-    let mut i = 0;
-    while i < text.len() {
-        let Step::On { seen } = take(table, w, s, text[i]) else {
+    let mut s = NOTHING;
+    for c in text {
+        let Some(seen) = take(table, w, s, *c) else {
             return;
         };
-        emit(out, s.made, seen.full, seen.byte);
+        emit(out, s.made, seen.byte);
         s = seen;
-        i += 1;
     }
 }
 
@@ -147,7 +118,7 @@ pub(super) fn read(table: &[u8; 256], w: u32, text: &[u8], out: &mut [u8]) -> Re
     requires { Narrow w × Sorted w table.now }
     ensures { Written 0 (read_text (form_of w) text.now) out.old out.new result }
 {
-    let Judged::Good { bits, count, made } = judge(table, w, text) else {
+    let Some(Judged { bits, count, made }) = judge(table, w, text) else {
         return Err(Refusal::BadCharacter);
     };
     // A whole character left over: no bytes fill so many (R5.6).

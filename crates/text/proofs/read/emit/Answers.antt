@@ -1,30 +1,14 @@
 -- `text::read::emit` meets its contract. Assumes nothing.
-use mathlib.Core.Path.{◌≡◌, sym}
-use mathlib.Core.Bool.{Bool, true, false}
-use mathlib.Core.List.{List}
-use Prim.Native.Nat.{ℕ, ◌+◌, ◌≤◌, ◌<◌}
+use mathlib.Core.Path.{sym}
 use native.Mathlib.Omega.{arith}
-use lib.ListN.{length, set}
-use Rattle.wire.specs.Over.{over}
 use Rattle.wire.proofs.Overs.{set_over, over_none}
-use Rattle.text.specs.Private.{emitted}
 use Rattle.text.proofs.read.emit.Goals as goal
 
-module _ (full : Bool) (at b : ℕ) (out : List ℕ) (h : at + length (emitted full b) ≤ length out) where
-  room : full ≡ true → at < length out
-  room e = let l : at + 1 ≤ length out = rw e at h in omega arith
-
-  stored : full ≡ true → set out at b ≡ over at (emitted full b) out
-  stored e = rw e (set_over out at b (room e))
-
-  kept : full ≡ false → out ≡ over at (emitted full b) out
-  kept e = rw e (sym (over_none at out))
-
 pub bounds-out-at : goal.bounds-out-at
-bounds-out-at c = let a = c.args in room a.full a.at a.byte a.out.now c.requires c.if-full.true
+bounds-out-at c = omega (arith, rw c.in-Some.is at c.requires)
 
-pub returns-then-full : goal.returns-then-full
-returns-then-full c = let a = c.args in stored a.full a.at a.byte a.out.now c.requires c.if-full.true
+pub returns-in-Some : goal.returns-in-Some
+returns-in-Some c = rw c.in-Some.is (set_over _ _ _ (omega (arith, rw c.in-Some.is at c.requires)))
 
-pub returns-else-full : goal.returns-else-full
-returns-else-full c = let a = c.args in kept a.full a.at a.byte a.out.now c.requires c.if-full.false
+pub returns-in_default : goal.returns-in_default
+returns-in_default c = rw c.in_default.is (sym (over_none _ _))

@@ -1,9 +1,9 @@
 -- `text::read::feed` meets its contract. Assumes nothing.
 use mathlib.Core.Path.{◌≡◌}
-use mathlib.Core.Bool.{true, false}
 use Prim.Native.Nat.{ℕ, ◌+◌, ◌-◌, ◌*◌, ◌/◌, ◌%◌, ◌^◌, ◌≤◌, ◌<◌}
 use native.Mathlib.Omega.{arith}
 use borrow.Author.Tests.{lt-ltb, le-ltb}
+use Rattle.std.specs.Prelude.{Some, None}
 use Rattle.text.specs.Private.{fed}
 use Rattle.text.specs.declared.read.Seen.{Seen}
 use Rattle.text.proofs.Counts.{narrow_bounds}
@@ -11,12 +11,12 @@ use Rattle.text.proofs.Packing.{few, joined_lt, top_lt}
 use Rattle.text.proofs.read.feed.Goals as goal
 
 module _ (w : ℕ) (s : Seen) (v x : ℕ) (joined : x ≡ s.bits * 2 ^ w + v) where
-  short : s.count + w < 8 → record { bits = x; count = s.count + w; made = s.made; full = false; byte = 0 } ≡ fed w s v
+  short : s.count + w < 8 → record { bits = x; count = s.count + w; made = s.made; byte = None } ≡ fed w s v
   unfolding fed
   short h = rw (lt-ltb (s.count + w) 8 h, joined)
 
   full : (y z : ℕ) → 8 ≤ s.count + w → y ≡ x % 2 ^ (s.count + w - 8) → z ≡ x / 2 ^ (s.count + w - 8)
-      → record { bits = y; count = s.count + w - 8; made = s.made + 1; full = true; byte = z } ≡ fed w s v
+      → record { bits = y; count = s.count + w - 8; made = s.made + 1; byte = Some z } ≡ fed w s v
   unfolding fed
   full y z h p q = rw (le-ltb (s.count + w) 8 h, p, q, joined)
 

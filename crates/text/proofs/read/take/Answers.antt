@@ -3,7 +3,7 @@
 use mathlib.Core.Path.{ap, ◌∙◌}
 use native.Mathlib.Omega.{arith}
 use lib.ListN.{get_or}
-use Rattle.text.specs.declared.read.Step.TheVariants.{On}
+use Rattle.std.specs.Prelude.{Some}
 use Rattle.text.proofs.Sorts.{take_skipped, take_bad, take_value}
 use Rattle.text.proofs.read.take.Goals as goal
 
@@ -31,4 +31,4 @@ returns c =
     let a = c.args in
     let p = c.requires in
     let t = take_value a.w p.0 a.s a.c (get_or a.table.now a.c 0) (p.1 a.c (omega arith)) c.if-v.false c.if-v-2.false in
-    ap On c.feed.ensures ∙ t.1
+    ap Some c.feed.ensures ∙ t.1
