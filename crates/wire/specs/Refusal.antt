@@ -4,7 +4,7 @@ use Rattle.wire.specs.declared.Refusal.{Refusal}
 use Rattle.wire.specs.declared.Refusal.TheVariants as refusal
 use Rattle.wire.specs.declared.RefusedAt.{RefusedAt}
 
--- the number that document 01 fixes (R2.2)
+-- the number of each refusal (R2.2)
 abbrev pub number : Refusal → ℕ
 number refusal.BadCharacter = 1
 number refusal.BadTextLength = 2

@@ -44,7 +44,7 @@ pub enum Refusal {
     BadPadding,
 }
 
-// The number that document 01 fixes (R2.2).
+// The number that R2.2 fixes.
 impl From<Refusal> for u8 {
     ghost from_gives = { λ why n. n ≡ number why };
 
