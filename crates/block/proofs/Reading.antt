@@ -2,9 +2,11 @@
 use mathlib.Core.Path.{◌≡◌, refl, sym, ap, ◌∙◌}
 use mathlib.Core.Bool.{Bool, true, false}
 use mathlib.Core.Logic.{⊎_elim}
-use mathlib.Core.List.{List, []}
-use Prim.Native.Nat.{ℕ, zero, suc, ◌+◌, ◌*◌, ◌-◌, ◌≤◌, ◌<◌}
+use mathlib.Core.List.{List, [], ◌∷◌}
+use Prim.Native.Nat.{ℕ, zero, suc, ◌+◌, ◌-◌, ◌≤◌, ◌<◌}
+use mir.Syntax.{w16}
 use native.Mathlib.Omega.{arith}
+use Rattle.std.specs.Int.{from_be_bytes}
 use borrow.Author.Tests.{eq-eqb, ne_eqb, le-leb, lt-leb}
 use lib.Dec.{eqb}
 use lib.ListN.{length, take, drop, get_or, replicate, length-take, length-drop, length-replicate}
@@ -100,25 +102,25 @@ data_other (held d) n = absurd (n refl)
 data_other disputed n = refl
 
 module _ (b x : List ℕ) (e : b ≡ x) (isheld : state_of (read_slot x) ≡ 1) where
-  module _ (hi lo : ℕ) (high : hi ≡ get_or b 12 0) (low : lo ≡ get_or b 13 0) where
+  module _ (n : ℕ) (two : n ≡ from_be_bytes w16 (get_or b 12 0 ∷ get_or b 13 0 ∷ [])) where
     byte : get_or b 2 0 ≡ 1
     byte = held_byte b (rw e isheld)
 
-    said : length_in b ≡ hi * 256 + lo
+    said : length_in b ≡ n
     unfolding length_in
-    said = rw (← high, ← low)
+    said = omega (arith, two)
 
-    pub data_cut : 480 < hi * 256 + lo → take 480 (drop 14 b) ≡ data_of (read_slot x)
+    pub data_cut : 480 < n → take 480 (drop 14 b) ≡ data_of (read_slot x)
     unfolding data_of
     data_cut h =
-        let w : length (take 480 (drop 14 b)) ≤ hi * 256 + lo = simp length-take (omega arith) in
-        rw (← e, slot_held b byte, said) (sym (take_all (hi * 256 + lo) (take 480 (drop 14 b)) w))
+        let w : length (take 480 (drop 14 b)) ≤ n = simp length-take (omega arith) in
+        rw (← e, slot_held b byte, said) (sym (take_all n (take 480 (drop 14 b)) w))
 
-    pub data_whole : hi * 256 + lo ≤ 480 → take (14 + (hi * 256 + lo) - 14) (drop 14 b) ≡ data_of (read_slot x)
+    pub data_whole : n ≤ 480 → take (14 + n - 14) (drop 14 b) ≡ data_of (read_slot x)
     unfolding data_of
     data_whole h =
-        let q : 14 + (hi * 256 + lo) - 14 ≡ hi * 256 + lo = omega arith in
-        rw (q, ← e, slot_held b byte, said) (sym (take-take (hi * 256 + lo) 480 (drop 14 b) h))
+        let q : 14 + n - 14 ≡ n = omega arith in
+        rw (q, ← e, slot_held b byte, said) (sym (take-take n 480 (drop 14 b) h))
 
 -- what is read is short enough for a block
 pub read_fits : (b : List ℕ) → length (data_of (read_slot b)) ≤ 480

@@ -2,14 +2,18 @@
 -- its state. Assumes nothing.
 use mathlib.Core.Path.{◌≡◌, refl, sym, ◌∙◌}
 use mathlib.Core.Bool.{Bool, true, false, not}
-use Prim.Native.Nat.{ℕ}
+use mathlib.Core.List.{List}
+use Prim.Native.Nat.{ℕ, ◌≤◌}
+use lib.ListN.{length}
 use native.Mathlib.Omega.{arith}
 use borrow.Author.Tests.{not-true, not-false}
 use denote.Enum.Bare.{sameb}
-use Rattle.block.specs.Block.{state_number}
+use Rattle.block.specs.Block.{state_of, state_number}
+use Rattle.block.specs.Read.{block_at, read_slot}
 use Rattle.block.specs.declared.PageState.{PageState}
 use Rattle.block.specs.declared.PageState.TheVariants as page
 use Rattle.block.specs.contracts.PageState.{the_type}
+use Rattle.block.proofs.Reading.{held_whole}
 
 same_yes : (s t : PageState) → sameb the_type s t ≡ true → state_number s ≡ state_number t
 same_yes page.Absent page.Absent e = refl
@@ -46,3 +50,8 @@ module _ (s t : PageState) (r : Bool) (n : ℕ) (said : state_number s ≡ n) wh
 
   pub ne_no : r ≡ not (sameb the_type s t) → r ≡ false → n ≡ state_number t
   ne_no e h = sym said ∙ same_yes s t (not-false (sameb the_type s t) (sym e ∙ h))
+
+-- b is the block, where the code finds it held
+pub held_long : (at : ℕ) (c b : List ℕ) (s : PageState) (r : Bool) → b ≡ block_at at c → state_number s ≡ state_of (read_slot (block_at at c))
+    → r ≡ not (sameb the_type s page.Held) → r ≡ false → 512 ≤ length b
+held_long at c b s r e said f h = held_whole at c b e (ne_no s page.Held r _ said f h)

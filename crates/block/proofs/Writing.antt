@@ -2,9 +2,11 @@
 use mathlib.Core.Path.{◌≡◌, refl, sym, ap, ◌∙◌}
 use mathlib.Core.Bool.{◌&&◌}
 use mathlib.Core.List.{List, [], ◌∷◌, ◌++◌}
-use Prim.Native.Nat.{ℕ, ◌+◌, ◌-◌, ◌/◌, ◌%◌, ◌≤◌, ◌<◌}
+use Prim.Native.Nat.{ℕ, ◌+◌, ◌-◌, ◌≤◌, ◌<◌}
+use mir.Syntax.{w16}
 use native.Mathlib.Omega.{arith}
-use borrow.Author.Tests.{eq-eqb, ne_eqb, le-leb, lt-leb}
+use Rattle.std.specs.Int.{to_be_bytes}
+use borrow.Author.Tests.{eq-eqb, le-leb}
 use lib.Dec.{eqb, leb}
 use lib.ListN.{length, take, drop, replicate, length-replicate}
 use Rattle.wire.specs.Answer.{choose}
@@ -19,17 +21,9 @@ use Rattle.block.proofs.Lengths.{length_body, length_whole}
 
 -- ---- numbers
 
-two_bytes : (n : ℕ) → n ≤ 480 → n / 256 ∷ n % 256 ∷ [] ≡ big_endian 2 n
+two_bytes : (n : ℕ) → to_be_bytes w16 n ≡ big_endian 2 n
 unfolding digits
-two_bytes n h =
-    let a : n / 256 ≡ n / 256 % 256 = omega arith in
-    cc
-
-pub length_laid : (at n : ℕ) (l x y : List ℕ) → at + 2 ≤ length l → n ≤ 480
-    → x ≡ over at (n / 256 ∷ []) l → y ≡ over (at + 1) (n % 256 ∷ []) x → y ≡ over at (big_endian 2 n) l
-length_laid at n l x y room small ex ey =
-    (over_run at (at + 1) 1 1 (n / 256 ∷ []) (n % 256 ∷ []) l x y ey (ex, refl) refl refl (omega arith)).0
-    ∙ ap (λ (bs : List ℕ). over at bs l) (two_bytes n small)
+two_bytes n = refl
 
 -- ---- all before the checksum
 
@@ -41,12 +35,13 @@ front_laid at a b i s n l w x y z room en ew ex ey ez =
     let u = over_run at (at + 2) 2 1 (a ∷ i ∷ []) (s ∷ []) l x y (ey ∙ rw en refl) t refl refl (omega arith) in
     (over_run at (at + 3) 3 1 (a ∷ i ∷ s ∷ []) (b ∷ []) l y z ez u refl refl (omega arith)).0
 
-pub body_laid : (at : ℕ) (id : List ℕ) (i s : ℕ) (d l v w x y z : List ℕ) → (at + 508 ≤ length l) × (length id ≡ 8) × (length d ≤ 480)
-    → v ≡ over at (0x50 ∷ i ∷ s ∷ 0 ∷ []) l → w ≡ over (at + 4) id v → x ≡ over (at + 12) (big_endian 2 (length d)) w → y ≡ over (at + 14) d x
+pub body_laid : (at : ℕ) (id : List ℕ) (i s : ℕ) (d ls l v w x y z : List ℕ) → (at + 508 ≤ length l) × (length id ≡ 8) × (length d ≤ 480)
+    → v ≡ over at (0x50 ∷ i ∷ s ∷ 0 ∷ []) l → w ≡ over (at + 4) id v → ls ≡ to_be_bytes w16 (length d) → x ≡ over (at + 12) ls w → y ≡ over (at + 14) d x
     → z ≡ over (at + 14 + length d) (replicate (494 - length d) 0) y → z ≡ over at (page_body id i s d) l
 unfolding page_body
-body_laid at id i s d l v w x y z (room, eight, small) ev ew ex ey ez =
+body_laid at id i s d ls l v w x y z (room, eight, small) ev ew el fx ey ez =
     let n = length d in
+    let ex : x ≡ over (at + 12) (big_endian 2 n) w = fx ∙ ap (λ (bs : List ℕ). over (at + 12) bs w) (el ∙ two_bytes n) in
     let f : List ℕ = 0x50 ∷ i ∷ s ∷ 0 ∷ [] in
     let t = over_run at (at + 4) 4 8 f id l v w ew (ev, refl) eight refl (omega arith) in
     let u = over_run at (at + 12) 12 2 (f ++ id) (big_endian 2 n) l w x ex t (length_digits 256 2 n) refl (omega arith) in
@@ -83,28 +78,21 @@ module _ (at : ℕ) (id : List ℕ) (i s : ℕ) (d l : List ℕ) where
   abbrev pub written : List ℕ
   written = choose (eqb (length id) 8 && leb (length d) 480) (over at (sealed (page_body id i s d)) l) l
 
-  pub write_id : (length id ≡ 8 → ⊥) → l ≡ written
-  write_id h = rw (ne_eqb (length id) 8 h)
+  module _ (eight : length id ≡ 8) (small : length d ≤ 480) where
+    write_out : length l < at + 512 → l ≡ written
+    write_out h =
+        rw (eq-eqb (length id) 8 eight, le-leb (length d) 480 small) (sym (over_out at (sealed (page_body id i s d)) l (omega (arith, length_whole id i s d eight small))))
 
-  module _ (eight : length id ≡ 8) where
-    pub write_long : 480 < length d → l ≡ written
-    write_long h = rw (eq-eqb (length id) 8 eight, lt-leb (length d) 480 h)
+    pub write_short : length l < 512 → l ≡ written
+    write_short h = write_out (omega arith)
 
-    module _ (small : length d ≤ 480) where
-      write_out : length l < at + 512 → l ≡ written
-      write_out h =
-          rw (eq-eqb (length id) 8 eight, le-leb (length d) 480 small) (sym (over_out at (sealed (page_body id i s d)) l (omega (arith, length_whole id i s d eight small))))
+    pub write_far : length l - 512 < at → l ≡ written
+    write_far h = write_out (omega arith)
 
-      pub write_short : length l < 512 → l ≡ written
-      write_short h = write_out (omega arith)
-
-      pub write_far : length l - 512 < at → l ≡ written
-      write_far h = write_out (omega arith)
-
-      pub write_done : (x y : List ℕ) → 512 ≤ length l → at ≤ length l - 512 → x ≡ over at (page_body id i s d) l → y ≡ with_sum at x → y ≡ written
-      write_done x y long room ex ey =
-          sealing at (page_body id i s d) l x y (length_body id i s d eight small) (omega arith) ex ey
-          ∙ rw (eq-eqb (length id) 8 eight, le-leb (length d) 480 small)
+    pub write_done : (x y : List ℕ) → 512 ≤ length l → at ≤ length l - 512 → x ≡ over at (page_body id i s d) l → y ≡ with_sum at x → y ≡ written
+    write_done x y long room ex ey =
+        sealing at (page_body id i s d) l x y (length_body id i s d eight small) (omega arith) ex ey
+        ∙ rw (eq-eqb (length id) 8 eight, le-leb (length d) 480 small)
 
 -- ---- for reuse
 

@@ -4,7 +4,6 @@
 ghost use Rattle.std.specs.Prelude.{◌≡◌, ◌&&◌, [], ◌∷◌, ◌+◌, ◌≤◌, ◌<◌, eqb, leb, length};
 ghost use Rattle.wire.specs.Answer.{choose};
 ghost use Rattle.wire.specs.Over.{over};
-ghost use Rattle.wire.specs.Number.{big_endian};
 ghost use Rattle.wire.specs.Sizes.{most_data, id_size, summed_size};
 ghost use Rattle.model.specs.Book.{absent, held, disputed, data_of};
 ghost use Rattle.block.specs.Block.{state_of, state_number, page_body, sealed, with_page, with_sum};
@@ -31,9 +30,12 @@ impl From<PageState> for u8 {
     }
 }
 
-// Where the data begin (R8.4), and how many bytes stand from there to the checksum: the data and
+// Where the length of the data stands, in two bytes, the higher first, and where the data begin
+// (R8.4), and how many bytes stand from there to the checksum: the data and
 // zeros behind them (R8.5).
-const DATA_AT: usize = 14;
+const LENGTH_AT: usize = 12;
+
+const DATA_AT: usize = LENGTH_AT + 2;
 
 const DATA_ROOM: usize = wire::SUMMED_SIZE - DATA_AT;
 
@@ -66,15 +68,6 @@ fn front(out: &mut [u8], at: usize, index: u8, state: PageState)
     lend::put(out, at + 3, 0);
 }
 
-// The two bytes of a length, the higher first (R8.4).
-fn put_length(out: &mut [u8], at: usize, n: usize)
-    requires { (at + 2 ≤ length out.old) × (n ≤ most_data) }
-    ensures { out.new ≡ over at (big_endian 2 n) out.old }
-{
-    lend::put(out, at, (n / 256) as u8);
-    lend::put(out, at + 1, (n % 256) as u8);
-}
-
 // All before the checksum (R8.4, R8.5).
 fn body(out: &mut [u8], at: usize, id: &[u8], index: u8, state: PageState, bytes: &[u8])
     requires { (at + summed_size ≤ length out.old) × (length id.now ≡ id_size) × (length bytes.now ≤ most_data) }
@@ -83,7 +76,7 @@ fn body(out: &mut [u8], at: usize, id: &[u8], index: u8, state: PageState, bytes
     let n = bytes.len();
     front(out, at, index, state);
     lend::copy(out, at + 4, id);
-    put_length(out, at + 12, n);
+    lend::copy(out, at + LENGTH_AT, &(n as u16).to_be_bytes());
     lend::copy(out, at + DATA_AT, bytes);
     lend::clear(out, at + DATA_AT + n, DATA_ROOM - n);
 }
@@ -172,7 +165,7 @@ pub fn contents(c: &[u8], at: usize) -> &[u8]
         return &c[0..0];
     }
     let b = block(c, at);
-    let n = usize::from(b[12]) * 256 + usize::from(b[13]);
+    let n = usize::from(u16::from_be_bytes([b[LENGTH_AT], b[LENGTH_AT + 1]]));
     if wire::MOST_DATA < n {
         return &b[DATA_AT..DATA_END];
     }

@@ -17,8 +17,5 @@ loop-i-preserved c =
     let a = c.args in
     blank_on a.id.now a.c.now (omega arith) l.i c.place.result l.c _ (omega arith) (omega arith) c.place.ensures l.invariant c.vacate.ensures
 
-pub shape_of-c : goal.shape_of-c
-shape_of-c c = c.loop-i.invariant.size
-
 pub returns : goal.returns
 returns c = search blank_end
