@@ -6,8 +6,10 @@ use borrow.Author.Tests.{eq-eqb, ne_eqb}
 use Rattle.wire.specs.Answer.{Answer, refused, Kept}
 use Rattle.collection.specs.Collection.{joining}
 use Rattle.finish.specs.Finish.{finished, Closed}
-use Rattle.finish.specs.declared.Finished.{Finished}
-use Rattle.finish.specs.declared.Finished.TheVariants as E
+use Rattle.std.specs.Prelude.{Result, Err}
+use Rattle.wire.specs.Refusal.{Placeless}
+use Rattle.wire.specs.declared.Refusal.TheVariants.{OutOfRange}
+use Rattle.wire.specs.declared.RefusedAt.{RefusedAt}
 use Rattle.pantry_work.specs.Steps.{resuming, answered}
 
 -- ---- taking up
@@ -24,10 +26,10 @@ module _ (phase : ℕ) (c saved : List ℕ) where
 -- ---- giving out
 
 module _ (phase : ℕ) (c out : List ℕ) where
-  pub answer_refused : (phase ≡ 1 → ⊥) → Closed (answered phase c out) out out (E.Refused 19 0)
+  pub answer_refused : (phase ≡ 1 → ⊥) → (e : RefusedAt) → Placeless OutOfRange e → Closed (answered phase c out) out out (Err e)
   unfolding answered
-  answer_refused h = rw (ne_eqb phase 1 h) (record { answer = refl; bytes = refl })
+  answer_refused h e (w, p) = rw (ne_eqb phase 1 h, w, p) (record { answer = refl; bytes = refl })
 
-  pub answer_finished : (x : List ℕ) (r : Finished) → phase ≡ 1 → Closed (finished c out) out x r → Closed (answered phase c out) out x r
+  pub answer_finished : (x : List ℕ) (r : Result ℕ RefusedAt) → phase ≡ 1 → Closed (finished c out) out x r → Closed (answered phase c out) out x r
   unfolding answered
   answer_finished x r h k = rw (eq-eqb phase 1 h) k

@@ -16,34 +16,28 @@ ghost use Rattle.collection.specs.Answer.{told};
 ghost use Rattle.finish.specs.Finish.{Closed};
 ghost use Rattle.pantry_work.specs.Steps.{resuming, answered};
 
-use collection::Answered;
-use finish::Finished;
 use scan::session;
 use scan::session::Session;
+use wire::{Refusal, RefusedAt};
 
 // What was saved joined into the collection c of a session; or 19 where the session does not
 // collect, then 13 and 12 as of `collection::join`, and nothing changed.
-pub fn resume(s: Session, saved: &[u8], c: &mut [u8]) -> Answered
+pub fn resume(s: Session, saved: &[u8], c: &mut [u8]) -> Result<(), Refusal>
     ensures { Kept (resuming s.phase c.old saved.now) c.old c.new (told result) }
 {
     if s.phase == session::COLLECTING {
         return collection::join(c, saved);
     }
-    Answered::Refused {
-        no: wire::OUT_OF_RANGE,
-    }
+    Err(Refusal::OutOfRange)
 }
 
 // The ciphertext of a session's collection at the front of out, and its length; or 19 where the
 // session does not collect, then the refusals of `finish`, and nothing changed.
-pub fn answer(s: Session, c: &[u8], out: &mut [u8]) -> Finished
+pub fn answer(s: Session, c: &[u8], out: &mut [u8]) -> Result<usize, RefusedAt>
     ensures { Closed (answered s.phase c.now out.old) out.old out.new result }
 {
     if s.phase != session::COLLECTING {
-        return Finished::Refused {
-            no: wire::OUT_OF_RANGE,
-            place: 0,
-        };
+        return Err(RefusedAt::from(Refusal::OutOfRange));
     }
     finish::finish(c, out)
 }
