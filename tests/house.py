@@ -9,6 +9,9 @@ sys.path.insert(0, os.path.join(ROOT, "tests"))
 from definitions import files, in_order  # noqa: E402
 from sources import ANY, METHODS, PUBLIC, body_at, promising  # noqa: E402
 
+# what the methods of a trait promise, said with the trait's impl; or what a type keeps
+GHOST = re.compile(r"^    ghost (\w+)(?: =|:) \{ (.*) \}[;,]$")
+BLOCK = re.compile(r"^(pub )?(impl|trait|struct)\b.*\{$")
 CONTRACT = re.compile(r"^\s*(?:requires|ensures)(?: \w+)? \{(.*?)\}$", re.MULTILINE | re.DOTALL)
 PARAMETER = re.compile(r"(\w+):")
 PROMISING = set(promising(ROOT))
@@ -16,9 +19,14 @@ PROMISING = set(promising(ROOT))
 
 def contracts(path):
     """Each function of a source: its name, behind that of its type where it is a method, whether it
-    is public, and in their order the words of its contract but for its own parameters."""
-    lines, owner = open(path, encoding="utf-8").read().split("\n"), ""
+    is public, and in their order the words of its contract but for its own parameters. So too each
+    ghost item, which is public but in a struct that is private."""
+    lines, owner, block = open(path, encoding="utf-8").read().split("\n"), "", None
     for number, line in enumerate(lines):
+        block = BLOCK.match(line) or (block if line != "}" else None)
+        ghost = GHOST.match(line)
+        if ghost and block:
+            yield f"{block[0]} {ghost[1]}", bool(block[1]) or block[2] == "impl", in_order(ghost[2])
         impl = METHODS.match(line)
         owner = impl[1] + "::" if impl else "" if line == "}" else owner
         found = ANY.match(line)

@@ -111,6 +111,19 @@ def functions(path):
             yield number + 1, "::".join([*owner, found[1]]), "\n".join(lines[number:body_at(lines, number) + 1])
 
 
+CONVERSION = re.compile(r"^impl From<(\w+)> for (\w+) \{$")
+
+
+def conversions(root):
+    """The conversions of the libraries, each by the name that the toolchain gives its function:
+    `wire::U8FromRefusal::from`. What it promises is its impl's `from_gives`."""
+    for path in promising(root):
+        with open(path, encoding="utf-8") as file:
+            for found in filter(None, map(CONVERSION.match, file.read().split("\n"))):
+                name = f"{found[2][0].upper()}{found[2][1:]}From{found[1]}"
+                yield "::".join([*module(root, path), name, "from"])
+
+
 def body_at(lines, number):
     """Where the body of the function that begins at a line begins."""
     end = number

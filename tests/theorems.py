@@ -9,6 +9,19 @@ STATED = re.compile(r"^pub (\S+) : Once(?:Seen)?\b")
 THEOREM = re.compile(
     r"^pub (\S+) : Once(?:(Seen)|) (\S+)\.Kinds\.ps \3\.Kinds\.r (?(2)\(λ κs x\. x\.now\) )\3\.Reads\.Learnt$"
 )
+# of a function that takes any type with a trait: once for all of them, in a module that has the
+# type and what the toolchain passes of it
+GENERIC = re.compile(
+    r"^  pub (\S+) : Once(?:(Seen)|) \((\S+)\.Kinds\.ps ([A-Z ]+)\) \(\3\.Kinds\.r \4\) \(\3\.Reads\.Learnt \4(?: \w)*\)$"
+)
+
+
+def whole(lines, number):
+    """The statement that begins at a line, as one line."""
+    end = number + 1
+    while end < len(lines) and lines[end].startswith("      "):
+        end += 1
+    return " ".join([lines[number], *(line.strip() for line in lines[number + 1:end])])
 
 
 class Theorem:
@@ -41,7 +54,7 @@ def theorems(root):
     for path, lines, facades in statements(root, "proofs"):
         file = os.path.basename(path)
         for number, line in enumerate(lines):
-            found = THEOREM.match(line)
+            found = THEOREM.match(line) or (GENERIC.match(whole(lines, number)) if line.startswith("  pub ") else None)
             function = facades.get(found[3]) if found else None
             if function and found[1] == theorem_of(function):
                 comment = " ".join(comment_above(lines, number, "--"))
