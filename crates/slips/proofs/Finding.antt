@@ -5,23 +5,24 @@ use mathlib.Core.Bool.{Bool, true, false, not}
 use mathlib.Core.List.{List, ◌∷◌}
 use native.Mathlib.Omega.{arith}
 use borrow.Author.Tests.{lt-ltb, le-ltb}
-use lib.Dec.{leb}
+use lib.Dec.{ltb, leb}
 use lib.ListN.{length, take, drop, drop_of_length-le}
+use Rattle.std.specs.Prelude.{Option, Some, None}
 use Rattle.wire.proofs.Cases.{said_yes, said_no}
 use Rattle.typed.specs.Typed.{plain, cut}
 use Rattle.slips.specs.Standing.{lines_from, first_line, is_typed, run_on, next_in, next_from}
 use Rattle.slips.specs.Private.{behind}
-use Rattle.slips.specs.declared.Found.TheVariants.{Slip, Nothing}
+use Rattle.slips.specs.declared.Slip.{Slip}
 use Rattle.slips.proofs.Lines.{line_behind, line_fits, line_length_lem, lines_are, behind_some, behind_none}
 
 -- ---- a typed line
 
 module _ (l : List ℕ) (n : ℕ) (e : n ≡ length (plain l)) where
-  pub typed_none : n < 1 → false ≡ is_typed l
+  pub typed_none : n ≤ 0 → ltb 0 n ≡ is_typed l
   unfolding is_typed
-  typed_none h = rw (le-ltb 0 (length (plain l)) (omega (arith, e)))
+  typed_none h = rw (le-ltb 0 n h, le-ltb 0 (length (plain l)) (omega (arith, e)))
 
-  pub typed_some : 1 ≤ n → leb n 42 ≡ is_typed l
+  pub typed_some : 0 < n → leb n 42 ≡ is_typed l
   unfolding is_typed
   typed_some h = rw (lt-ltb 0 (length (plain l)) (omega (arith, e)), e)
 
@@ -71,6 +72,9 @@ module _ (s : List ℕ) (end : ℕ) where
 
 -- ---- the first slip
 
+abbrev slip_at : (start len : ℕ) (typed : Bool) → Option Slip
+slip_at start len typed = Some (record { start = start; len = len; typed = typed })
+
 pub record Nexting (s : List ℕ) (at from : ℕ) : Type 0 where
   pub rest : next_from s at ≡ next_from s from
 
@@ -91,12 +95,12 @@ module _ (s : List ℕ) (at : ℕ) where
       long = line_length_lem s from end e (omega arith)
 
       module _ (n : ℕ) (q : n ≡ length (plain first)) where
-        pub next_scan : 42 < n → Slip from (end - from) false ≡ next_from s at
+        pub next_scan : 42 < n → slip_at from (end - from) false ≡ next_from s at
         unfolding next_in
         next_scan l = sym (from_line ∙ rw (lt-ltb 42 (length (plain first)) (omega (arith, q)), long))
 
         module _ (few : n ≤ 42) where
-          pub next_typed : (stop : ℕ) → 0 < n → stop ≡ end + run_on (behind s end) → Slip from (stop - from) true ≡ next_from s at
+          pub next_typed : (stop : ℕ) → 0 < n → stop ≡ end + run_on (behind s end) → slip_at from (stop - from) true ≡ next_from s at
           unfolding next_in
           next_typed stop l z =
               let m : length first + run_on (behind s end) ≡ stop - from = omega (arith, long, line_behind s from end e) in
@@ -109,7 +113,7 @@ module _ (s : List ℕ) (at : ℕ) where
                 let m : from + length first + 1 ≡ end + 1 = omega (arith, long, line_behind s from end e) in
                 from_line ∙ rw (le-ltb 42 (length (plain first)) (omega (arith, q)), le-ltb 0 (length (plain first)) (omega (arith, q)), m)
 
-            pub next_last : length s ≤ end → Nothing ≡ next_from s at
+            pub next_last : length s ≤ end → None ≡ next_from s at
             unfolding next_in
             next_last z = sym (passed ∙ ap (next_in (end + 1)) (behind_none s end z))
 
@@ -117,9 +121,9 @@ module _ (s : List ℕ) (at : ℕ) where
             unfolding next_from
             nexting_on z = record { rest = passed ∙ ap (next_in (end + 1)) (behind_some s end z) }
 
-    no_line : length s ≤ from → next_from s from ≡ Nothing
+    no_line : length s ≤ from → next_from s from ≡ None
     unfolding next_from next_in cut plain
     no_line h = rw (drop_of_length-le s {i = from} h)
 
-    pub next_end : length s ≤ from → Nothing ≡ next_from s at
+    pub next_end : length s ≤ from → None ≡ next_from s at
     next_end h = sym (k.rest ∙ no_line h)

@@ -1,20 +1,28 @@
 -- One line of an input, found byte by byte, and the lines behind it. Assumes nothing.
-use Prim.Native.Nat.{ℕ, suc, ◌+◌, ◌-◌, ◌≤◌, ◌<◌}
+use Prim.Native.Nat.{ℕ, suc, ◌+◌, ◌-◌, ◌^◌, ◌≤◌, ◌<◌}
 use mathlib.Core.Path.{◌≡◌, refl, sym, ap, ◌∙◌}
 use mathlib.Core.Logic.{⊎_elim}
 use mathlib.Core.Bool.{Bool, true, false}
 use mathlib.Core.List.{List, [], ◌∷◌, ◌++◌, append-nil}
-use native.Mathlib.Numerals.{add-one}
 use native.Mathlib.Omega.{arith}
 use borrow.Author.Tests.{eq-eqb, ne_eqb, lt-ltb, le-ltb}
 use lib.Dec.{ltb, eqb}
-use lib.ListN.{length, take, drop, get_or, length-drop, drop_of_length-le}
-use lib.Seq.{drop-cons, drop-drop, length-take-le, append_snoc}
+use lib.ListN.{length, take, drop, length-drop, drop_of_length-le}
+use mir.Syntax.{w64}
+use mir.Val.{Fits}
+use lib.Seq.{drop-drop, length-take-le, take_all, append_snoc}
+use Rattle.std.specs.Prelude.{Option, cond, ◌==◌}
+use Rattle.std.specs.Option.{unwrap_or}
+use Rattle.std.specs.List.{position, position_or_len, count_by}
+use Rattle.std.proofs.lemmas.List.Recursion.{is_position_or_len, is_count_by}
 use Rattle.wire.specs.Answer.{choose}
-use Rattle.wire.proofs.Cases.{lt_or_le}
+use Rattle.wire.proofs.Cases.{lt_or_le, eq_or_ne}
 use Rattle.typed.specs.Typed.{feed, cut}
 use Rattle.slips.specs.Standing.{lines_from, first_line, feeds}
 use Rattle.slips.specs.Private.{behind}
+
+eqb_sym : (a b : ℕ) → eqb a b ≡ eqb b a
+eqb_sym a b = ⊎_elim (λ (e : a ≡ b). eq-eqb a b e ∙ sym (eq-eqb b a (sym e))) (λ (n : a ≡ b → ⊥). ne_eqb a b n ∙ sym (ne_eqb b a (λ (e : b ≡ a). n (sym e)))) (eq_or_ne a b)
 
 -- how many bytes stand in front of the first line feed
 pub line_length : List ℕ → ℕ
@@ -56,33 +64,45 @@ cut_front line (c ∷ cs) = go (eqb c feed) (cut_front (line ++ (c ∷ [])) cs)
 first_length : (cs : List ℕ) → length (first_line (cut [] cs)) ≡ line_length cs
 first_length cs = ap (λ (ls : List (List ℕ)). length (first_line ls)) (cut_front [] cs) ∙ length-take-le (line_length cs) cs (line_most cs)
 
--- ---- byte by byte: what is left decides
+-- ---- the end of a line, found as the first line feed
 
-pub record Reaching (s : List ℕ) (at i : ℕ) : Type 0 where
-  pub rest : at + line_length (drop at s) ≡ i + line_length (drop i s)
+stands_before : (cs : List ℕ) → line_length cs ≡ position_or_len (λ c. feed == c) cs
+unfolding line_length
+stands_before = is_position_or_len line_length (λ c. feed == c) refl (λ c cs. rw (eqb_sym c feed) (go (eqb feed c) (line_length cs)))
+  where
+    go : (t : Bool) (n : ℕ) → choose t 0 (suc n) ≡ cond t 0 (1 + n)
+    go true n = refl
+    go false n = omega arith
+
+place_or_all : (p : ℕ → Bool) (xs : List ℕ) → position_or_len p xs ≤ length xs → unwrap_or (position p xs) (length xs) ≡ position_or_len p xs
+place_or_all p xs l = ⊎_elim (λ h. rw (lt-ltb (position_or_len p xs) (length xs) h)) (λ h. rw (le-ltb (position_or_len p xs) (length xs) h) (omega arith)) (lt_or_le (position_or_len p xs) (length xs))
 
 module _ (s : List ℕ) (at : ℕ) where
-  pub reaching_none : Reaching s at at
-  reaching_none = record { rest = refl }
+  module _ (h : at < length s) (o : Option ℕ) (d : o ≡ position (λ c. feed == c) (take (length s - at) (drop at s))) (k : ℕ) (e : k ≡ unwrap_or o (length s - at)) where
+    first_feed : k ≡ line_length (drop at s)
+    first_feed =
+        let m = length-drop at s in
+        let t : take (length s - at) (drop at s) ≡ drop at s = take_all (length s - at) (drop at s) (omega arith) in
+        let l = line_most (drop at s) in
+        let f = stands_before (drop at s) in
+        e
+        ∙ ap (λ (r : Option ℕ). unwrap_or r (length s - at)) d
+        ∙ ap (λ (xs : List ℕ). unwrap_or (position (λ c. feed == c) xs) (length s - at)) t
+        ∙ ap (unwrap_or (position (λ c. feed == c) (drop at s))) (sym m)
+        ∙ place_or_all (λ c. feed == c) (drop at s) (omega arith)
+        ∙ sym f
 
-  module _ (i : ℕ) (k : Reaching s at i) where
-    reached : line_length (drop i s) ≡ 0 → i ≡ at + length (first_line (lines_from s at))
-    reached z = omega (arith, k.rest, first_length (drop at s))
+    pub reached_feed : at + k ≡ at + length (first_line (lines_from s at))
+    reached_feed = omega (arith, first_feed, first_length (drop at s))
 
-    pub reached_feed : i < length s → get_or s i 0 ≡ feed → i ≡ at + length (first_line (lines_from s at))
-    unfolding line_length
-    reached_feed h e = reached (rw (drop-cons s i 0 h, eq-eqb (get_or s i 0) feed e))
+    pub feed_fits : length s < 2 ^ 64 → Fits w64 (at + k)
+    feed_fits l = record { fits = omega (arith, first_feed, line_most (drop at s), length-drop at s) }
 
-    one_more : i < length s → (get_or s i 0 ≡ feed → ⊥) → line_length (drop i s) ≡ suc (line_length (drop (i + 1) s))
-    unfolding line_length
-    one_more h n = rw (drop-cons s i 0 h, ne_eqb (get_or s i 0) feed n, add-one i)
-
-    pub reaching_on : i < length s → (get_or s i 0 ≡ feed → ⊥) → Reaching s at (i + 1)
-    reaching_on h n = record { rest = omega (arith, k.rest, one_more h n) }
-
-    pub reached_end : length s ≤ i → i ≡ at + length (first_line (lines_from s at))
-    unfolding line_length
-    reached_end h = reached (rw (drop_of_length-le s {i = i} h))
+  pub reached_end : length s ≤ at → at ≡ at + length (first_line (lines_from s at))
+  unfolding line_length
+  reached_end h =
+      let z : line_length (drop at s) ≡ 0 = rw (drop_of_length-le s {i = at} h) refl in
+      omega (arith, z, first_length (drop at s))
 
 -- ---- the line that ends there
 
@@ -141,47 +161,10 @@ module _ (s : List ℕ) (end : ℕ) where
 
 -- ---- line feeds, counted
 
-pub one_feed : (n c : ℕ) → c ≡ feed → n + 1 ≡ n + feeds (c ∷ [])
+pub feeds_counted : (s : List ℕ) → feeds s ≡ count_by (λ c. c == feed) s
 unfolding feeds
-one_feed n c e = rw (eq-eqb c feed e)
-
-pub no_feed : (n c : ℕ) → (c ≡ feed → ⊥) → n ≡ n + feeds (c ∷ [])
-unfolding feeds
-no_feed n c e = rw (ne_eqb c feed e) (omega arith)
-
-feeds_cons : (c : ℕ) (cs : List ℕ) → feeds (c ∷ cs) ≡ feeds (c ∷ []) + feeds cs
-unfolding feeds
-feeds_cons c cs = go (eqb c feed)
+feeds_counted = is_count_by feeds (λ c. c == feed) refl (λ c cs. go (eqb c feed) (feeds cs))
   where
-    go : (t : Bool) → choose t (suc (feeds cs)) (feeds cs) ≡ choose t 1 0 + feeds cs
-    go true = omega arith
-    go false = omega arith
-
-feed_most : (c : ℕ) → feeds (c ∷ []) ≤ 1
-unfolding feeds
-feed_most c = go (eqb c feed)
-  where
-    go : (t : Bool) → choose t 1 0 ≤ 1
-    go true = omega arith
-    go false = omega arith
-
-pub record Feeding (s : List ℕ) (n i : ℕ) : Type 0 where
-  pub few : n ≤ i
-  pub rest : n + feeds (drop i s) ≡ feeds s
-
-module _ (s : List ℕ) where
-  pub feeding_none : Feeding s 0 0
-  feeding_none = record { few = omega arith; rest = omega arith }
-
-  module _ (n i : ℕ) (k : Feeding s n i) where
-    pub feeding_on : (m : ℕ) → i < length s → m ≡ n + feeds (get_or s i 0 ∷ []) → Feeding s m (i + 1)
-    feeding_on m h e =
-        let d : feeds (drop i s) ≡ feeds (get_or s i 0 ∷ []) + feeds (drop (i + 1) s) = rw (drop-cons s i 0 h, add-one i) (feeds_cons (get_or s i 0) (drop (suc i) s)) in
-        record { few = omega (arith, feed_most (get_or s i 0), k.few); rest = omega (arith, k.rest) }
-
-    nothing : length s ≤ i → feeds (drop i s) ≡ 0
-    unfolding feeds
-    nothing h = rw (drop_of_length-le s {i = i} h)
-
-    pub fed_all : length s ≤ i → n ≡ feeds s
-    fed_all h = omega (arith, k.rest, nothing h)
+    go : (t : Bool) (n : ℕ) → choose t (suc n) n ≡ cond t (1 + n) n
+    go true n = omega arith
+    go false n = refl

@@ -1,47 +1,48 @@
 -- A number that comes twice, looked for one by one. Assumes nothing.
-use Prim.Native.Nat.{ℕ, suc, ◌+◌, ◌-◌, ◌≤◌, ◌<◌}
-use mathlib.Core.Path.{◌≡◌, refl, sym, ◌∙◌}
+use Prim.Native.Nat.{ℕ, suc, ◌+◌, ◌≤◌, ◌<◌}
+use mathlib.Core.Path.{◌≡◌, refl, sym, ap, ◌∙◌}
+use mathlib.Core.Bool.{Bool, true, false}
 use mathlib.Core.List.{List}
 use native.Mathlib.Numerals.{add-one}
 use native.Mathlib.Omega.{arith}
-use native.Mathlib.Nat.{sub-zero}
-use borrow.Author.Tests.{eq-eqb, ne_eqb, lt-ltb, le-ltb}
+use lib.Dec.{ltb, eqb}
 use lib.ListN.{length, take, drop, get_or, drop_of_length-le}
 use lib.Seq.{drop-cons, take-suc, length-take-le}
+use Rattle.std.specs.Prelude.{cond, Option, Some, None, ◌==◌}
+use Rattle.std.specs.List.{position, position_or_len}
+use Rattle.std.proofs.lemmas.List.Recursion.{is_position_or_len}
+use Rattle.wire.specs.Answer.{choose}
 use Rattle.slips.specs.Repeats.{place_of, repeat_in, repeat_of}
-use Rattle.slips.specs.declared.Repeat.TheVariants.{Twice, Nothing}
 
 -- ---- the place of one
 
-pub record Placing (x : ℕ) (s : List ℕ) (i : ℕ) : Type 0 where
-  pub within : i ≤ length s
-  pub rest : place_of x s ≡ i + place_of x (drop i s)
+place_is : (x : ℕ) (s : List ℕ) → place_of x s ≡ position_or_len (λ y. x == y) s
+unfolding place_of
+place_is x = is_position_or_len (place_of x) (λ y. x == y) refl (λ y ys. go (eqb x y) (place_of x ys))
+  where
+    go : (t : Bool) (n : ℕ) → choose t 0 (suc n) ≡ cond t 0 (1 + n)
+    go true n = refl
+    go false n = omega arith
 
-module _ (x : ℕ) (s : List ℕ) where
-  pub placing_none : Placing x s 0
-  placing_none = record { within = omega arith; rest = omega arith }
+module _ (x : ℕ) (seen : List ℕ) (r : Option (ℕ × ℕ)) where
+  abbrev either : Option (ℕ × ℕ)
+  either = choose (ltb (place_of x seen) (length seen)) (Some (place_of x seen, length seen)) r
 
-  module _ (i : ℕ) (k : Placing x s i) where
-    here : i < length s → x ≡ get_or s i 0 → place_of x (drop i s) ≡ 0
-    unfolding place_of
-    here h e = rw (drop-cons s i 0 h, eq-eqb x (get_or s i 0) e)
+  found_there : (i : ℕ) → Some i ≡ position (λ y. x == y) seen → either ≡ Some (i, length seen)
+  found_there i h = rw (place_is x seen) (go (ltb (position_or_len (λ y. x == y) seen) (length seen)) h)
+    where
+      go : (t : Bool) → Some i ≡ cond t (Some (position_or_len (λ y. x == y) seen)) None
+          → choose t (Some (position_or_len (λ y. x == y) seen, length seen)) r ≡ Some (i, length seen)
+      go true e = cc
+      go false e = cc
 
-    pub placed : i < length s → x ≡ get_or s i 0 → i ≡ place_of x s
-    placed h e = omega (arith, k.rest, here h e)
-
-    further : i < length s → (x ≡ get_or s i 0 → ⊥) → place_of x (drop i s) ≡ suc (place_of x (drop (i + 1) s))
-    unfolding place_of
-    further h n = rw (drop-cons s i 0 h, ne_eqb x (get_or s i 0) n, add-one i)
-
-    pub placing_on : i < length s → (x ≡ get_or s i 0 → ⊥) → Placing x s (i + 1)
-    placing_on h n = record { within = omega arith; rest = omega (arith, k.rest, further h n) }
-
-    nothing : length s ≤ i → place_of x (drop i s) ≡ 0
-    unfolding place_of
-    nothing h = rw (drop_of_length-le s {i = i} h)
-
-    pub placed_none : length s ≤ i → i ≡ place_of x s
-    placed_none h = omega (arith, k.rest, nothing h)
+  found_nowhere : None ≡ position (λ y. x == y) seen → either ≡ r
+  found_nowhere h = rw (place_is x seen) (go (ltb (position_or_len (λ y. x == y) seen) (length seen)) h)
+    where
+      go : (t : Bool) → ◌≡◌ {A = Option ℕ} None (cond t (Some (position_or_len (λ y. x == y) seen)) None)
+          → choose t (Some (position_or_len (λ y. x == y) seen, length seen)) r ≡ r
+      go true e = cc
+      go false e = refl
 
 -- ---- the first that was there before
 
@@ -55,25 +56,20 @@ module _ (s : List ℕ) where
   repeating_none = record { within = omega arith; rest = refl }
 
   module _ (j : ℕ) (k : Repeating s j) where
-    module _ (h : j < length s) (i : ℕ) (e : i ≡ place_of (get_or s j 0) (take (j - 0) (drop 0 s))) where
+    module _ (h : j < length s) (x : ℕ) (e : x ≡ get_or s j 0) where
       seen : length (take j s) ≡ j
       seen = length-take-le j s (omega arith)
 
-      front : i ≡ place_of (get_or s j 0) (take j s)
-      front = rw (sub-zero j) at e
-
-      pub repeat_found : i < j → Twice i j ≡ repeat_of s
+      next : repeat_of s ≡ either x (take j s) (repeat_in (take (j + 1) s) (drop (j + 1) s))
       unfolding repeat_in
-      repeat_found l = sym (k.rest ∙ rw (drop-cons s j 0 h, ← front, seen, lt-ltb i j l))
+      next = k.rest ∙ rw (drop-cons s j 0 h, add-one j, take-suc s j 0 h, e) refl
 
-      pub repeating_on : j ≤ i → Repeating s (j + 1)
-      unfolding repeat_in
-      repeating_on l =
-          record {
-            within = omega arith;
-            rest = k.rest ∙ rw (drop-cons s j 0 h, ← front, seen, le-ltb i j l, add-one j, take-suc s j 0 h);
-          }
+      pub repeat_found : (i : ℕ) → Some i ≡ position (λ y. x == y) (take j s) → Some (i, j) ≡ repeat_of s
+      repeat_found i f = sym (next ∙ found_there x (take j s) _ i f ∙ ap (λ (n : ℕ). Some (i, n)) seen)
 
-    pub repeat_none : length s ≤ j → Nothing ≡ repeat_of s
+      pub repeating_on : None ≡ position (λ y. x == y) (take j s) → Repeating s (j + 1)
+      repeating_on f = record { within = omega arith; rest = next ∙ found_nowhere x (take j s) _ f }
+
+    pub repeat_none : length s ≤ j → None ≡ repeat_of s
     unfolding repeat_in
     repeat_none h = sym (k.rest ∙ rw (drop_of_length-le s {i = j} h))

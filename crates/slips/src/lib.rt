@@ -5,65 +5,49 @@
 mod places;
 mod reading;
 
-ghost use Rattle.std.specs.Prelude.{◌≡◌, [], ◌∷◌, ◌+◌, ◌<◌, length};
+ghost use Rattle.std.specs.Prelude.{◌≡◌, ◌==◌, ◌+◌, length};
+ghost use Rattle.std.specs.List.{position};
 ghost use Rattle.wire.specs.Writing.{Written};
 ghost use Rattle.slips.specs.Standing.{lines_from, first_line, next_from, feeds};
 ghost use Rattle.slips.specs.Slip.{slip_seen, Told};
-ghost use Rattle.slips.specs.Repeats.{place_of, repeat_of};
+ghost use Rattle.slips.specs.Repeats.{repeat_of};
 ghost use Rattle.slips.specs.Digits.{sized_hex};
 
+use frame::Kind;
 use shard::Quorum;
-use wire::{Span, Wrote};
+use wire::{Refusal, RefusedAt, Span};
 
 // Where a slip stands in an input, and whether it is typed lines or else a scan.
-#[derive(Clone, Copy)]
-pub enum Found {
-    Slip {
-        start: usize,
-        len: usize,
-        typed: bool,
-    },
-    // There is no slip any more.
-    Nothing,
+#[derive(Clone, Copy, Debug, PartialEq, Eq)]
+pub struct Slip {
+    pub start: usize,
+    pub len: usize,
+    pub typed: bool,
 }
 
-// What a text is that should be a slip.
-#[derive(Clone, Copy)]
-pub enum SlipRead {
-    // A slip: how long its frame is, where in it the payload stands, and which share it is of how
-    // many.
-    Slip {
-        len: usize,
-        payload: Span,
-        quorum: Quorum,
-    },
+// A slip that was read: how long its frame is, where in it the payload stands, and which share it
+// is of how many.
+#[derive(Clone, Copy, Debug, PartialEq, Eq)]
+pub struct Share {
+    pub len: usize,
+    pub payload: Span,
+    pub quorum: Quorum,
+}
+
+// What a text is that should be a slip, and is none.
+#[derive(Clone, Copy, Debug, PartialEq, Eq)]
+pub enum NoSlip {
     // No text: 1 or 2, or 23 with the mistyped line, from 1; or 11 where it has more bytes than any
     // frame.
-    Text {
-        no: u8,
-        line: u8,
-    },
-    // No frame: the number of its refusal.
-    Frame {
-        no: u8,
-    },
+    Text(RefusedAt),
+    // No frame.
+    Frame(Refusal),
     // A frame of another type than a slip's.
-    Other {
-        kind: u8,
-    },
-    // A key frame with no shard in it: the number of its refusal.
-    Shard {
-        no: u8,
-    },
+    Other(Kind),
+    // A key frame with no shard in it.
+    Shard(Refusal),
     // A slip, but the lent output is too short for its frame.
     Short,
-}
-
-// Two places in a list that have the same number.
-#[derive(Clone, Copy)]
-pub enum Repeat {
-    Twice { first: usize, second: usize },
-    Nothing,
 }
 
 // Where the line ends that begins at the index: at its line feed, or with the input.
@@ -75,20 +59,10 @@ pub fn line_end(s: &[u8], at: usize) -> usize
 
 // The first slip from the index on, where a line begins. A line without characters that count parts
 // slips, typed lines that follow each other are one slip, and a longer line is a scan.
-pub fn next(s: &[u8], at: usize) -> Found
+pub fn next(s: &[u8], at: usize) -> Option<Slip>
     ensures { result ≡ next_from s.now at }
 {
     places::next(s, at)
-}
-
-fn with_byte(n: usize, c: u8) -> usize
-    requires { n < 0xFFFFFFFFFFFFFFFF }
-    ensures { result ≡ n + feeds (c ∷ []) }
-{
-    if c == b'\n' {
-        return n + 1;
-    }
-    n
 }
 
 // How many line feeds there are: what stands behind these bytes is on a line with this number, from
@@ -96,65 +70,44 @@ fn with_byte(n: usize, c: u8) -> usize
 pub fn feeds(s: &[u8]) -> usize
     ensures { result ≡ feeds s.now }
 {
-    let mut n = 0;
-    let mut i = 0;
-    while i < s.len() {
-        n = with_byte(n, s[i]);
-        i += 1;
-    }
-    n
+    s.iter().filter(|c| **c == b'\n').count()
 }
 
 // The frame of a slip at the front of out, and where in it the payload stands; or what the text is
 // instead, and nothing changed. What is no text, no frame, no key frame and no shard is told in
 // this order, and a short output last.
-pub fn read(text: &[u8], typed: bool, out: &mut [u8]) -> SlipRead
+pub fn read(text: &[u8], typed: bool, out: &mut [u8]) -> Result<Share, NoSlip>
     ensures { Told (slip_seen typed text.now) out.old out.new result }
 {
     reading::read(text, typed, out)
 }
 
-// The first place of a number; where it is not there, how many there are.
-fn place(s: &[u8], x: u8) -> usize
-    ensures { result ≡ place_of x s.now }
+// The first place of a number.
+fn place(s: &[u8], x: u8) -> Option<usize>
+    ensures { result ≡ position (λ y. x == y) s.now }
 {
-    let mut i = 0;
-    while i < s.len() {
-        if x == s[i] {
-            return i;
-        }
-        i += 1;
-    }
-    i
+    s.iter().position(|y| x == *y)
 }
 
-// The first number of a list that was there before, and where that was first.
-pub fn repeated(s: &[u8]) -> Repeat
+// The first number of a list that was there before: where that was first, and where it is again.
+pub fn repeated(s: &[u8]) -> Option<(usize, usize)>
     ensures { result ≡ repeat_of s.now }
 {
-    let mut j = 0;
-    while j < s.len() {
-        let i = place(&s[0..j], s[j]);
-        if i < j {
-            return Repeat::Twice {
-                first: i,
-                second: j,
-            };
+    for (j, x) in s.iter().enumerate() {
+        if let Some(i) = place(&s[..j], *x) {
+            return Some((i, j));
         }
-        j += 1;
     }
-    Repeat::Nothing
+    None
 }
 
 // So many bytes, as lower-case hex digits say them, at the front of out; or 19 where they are not
 // exactly so many digits, then 11, and nothing changed.
-pub fn hex(text: &[u8], size: usize, out: &mut [u8]) -> Wrote
+pub fn hex(text: &[u8], size: usize, out: &mut [u8]) -> Result<usize, Refusal>
     ensures { Written 0 (sized_hex size text.now) out.old out.new result }
 {
     if text.len() / 2 != size {
-        return Wrote::Refused {
-            no: wire::OUT_OF_RANGE,
-        };
+        return Err(Refusal::OutOfRange);
     }
     digits::hex_read(text, out)
 }

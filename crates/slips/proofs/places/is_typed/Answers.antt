@@ -2,8 +2,8 @@
 use Rattle.slips.proofs.Finding.{typed_none, typed_some}
 use Rattle.slips.proofs.places.is_typed.Goals as goal
 
-pub returns-then-n-lt1 : goal.returns-then-n-lt1
-returns-then-n-lt1 c = search typed_none
+pub returns-then-n-gt0 : goal.returns-then-n-gt0
+returns-then-n-gt0 c = search typed_some
 
-pub returns : goal.returns
-returns c = search typed_some
+pub returns-else-n-gt0 : goal.returns-else-n-gt0
+returns-else-n-gt0 c = search typed_none

@@ -1,14 +1,12 @@
-use Rattle.slips.proofs.Lines.{reaching_none, reached_feed, reaching_on, reached_end}
+-- `slips::places::line_end` meets its contract. Assumes nothing.
+use Rattle.slips.proofs.Lines.{reached_feed, reached_end, feed_fits}
 use Rattle.slips.proofs.places.line_end.Goals as goal
 
-pub loop-i-init : goal.loop-i-init
-loop-i-init c = reaching_none _ _
+pub returns-then-s-at : goal.returns-then-s-at
+returns-then-s-at c = search reached_end
 
-pub returns-then-s-i-eq-FEED : goal.returns-then-s-i-eq-FEED
-returns-then-s-i-eq-FEED c = search reached_feed
-
-pub loop-i-preserved : goal.loop-i-preserved
-loop-i-preserved c = search reaching_on
+pub overflow_add-result : goal.overflow_add-result
+overflow_add-result c = search feed_fits
 
 pub returns : goal.returns
-returns c = search reached_end
+returns c = search reached_feed

@@ -5,8 +5,9 @@ use Rattle.slips.proofs.reading.bytes.Goals as goal
 pub returns-then-typed : goal.returns-then-typed
 returns-then-typed c = search typed_text
 
-pub returns-in-Done : goal.returns-in-Done
-returns-in-Done c = search scan_text
+pub returns-in_err-base64_read : goal.returns-in_err-base64_read
+returns-in_err-base64_read c =
+    scan_no_text _ _ _ _ c.if-typed.false _ c.base64_read.ensures _ c.in_err-base64_read.was _ c.from_residual.ensures
 
-pub returns-in-Refused : goal.returns-in-Refused
-returns-in-Refused c = search scan_no_text
+pub returns : goal.returns
+returns c = scan_text _ _ _ _ c.if-typed.false _ c.base64_read.ensures _ c.in_ok-base64_read.was

@@ -2,11 +2,11 @@
 use Rattle.slips.proofs.Seeing.{shard_refused, shard_short, shard_given}
 use Rattle.slips.proofs.reading.slip.Goals as goal
 
-pub returns-in-Refused : goal.returns-in-Refused
-returns-in-Refused c = search shard_refused
+pub returns-in-Err : goal.returns-in-Err
+returns-in-Err c = search shard_refused
 
-pub returns-in-Refused-give : goal.returns-in-Refused-give
-returns-in-Refused-give c = search shard_short
+pub returns-in-Err-give : goal.returns-in-Err-give
+returns-in-Err-give c = search shard_short
 
-pub returns-in-Done : goal.returns-in-Done
-returns-in-Done c = search shard_given
+pub returns-in-Ok-give : goal.returns-in-Ok-give
+returns-in-Ok-give c = search shard_given
