@@ -12,35 +12,13 @@ use lib.Seq.{take_all, length-take-le}
 use Rattle.wire.specs.Every.{every}
 use Rattle.wire.specs.Number.{big_endian}
 use Rattle.wire.specs.Over.{over}
-use Rattle.wire.proofs.Cases.{said_yes, said_no}
 use Rattle.wire.proofs.Digits.{length_digits}
 use Rattle.wire.proofs.Overs.{over_then, over_none}
 use Rattle.field.specs.Element.{joined}
 use Rattle.curve.specs.Curve.{through_at}
 use Rattle.recover.specs.Recover.{Slip, points, block_of, on_curves, values_at0}
-use Rattle.recover.specs.Private.{slip_in, newton_at, Laid, fitting}
-use Rattle.recover.proofs.Differences.{newton_through}
-
--- ---- the first t places of the two arrays
-
-module _ {A : Type 0} (t : ℕ) (l : List A) (h : t ≤ length l) where
-  front : take (t - 0) (drop 0 l) ≡ take t l
-  front = ap (λ (j : ℕ). take j l) (let e : t - 0 ≡ t = omega arith in e)
-
-  pub front_long : length (take (t - 0) (drop 0 l)) ≡ t
-  front_long = ap length front ∙ length-take-le t l h
-
-  front_again : take t (take (t - 0) (drop 0 l)) ≡ take t l
-  front_again = take_all t (take (t - 0) (drop 0 l)) (omega (arith, front_long)) ∙ front
-
-module _ (t : ℕ) (ps : List (ℕ × ℕ)) (xs : List ℕ) (ds : List (List ℕ)) (h : t ≤ length xs) (k : t ≤ length ds) (laid : Laid t ps xs ds) where
-  pub laid_front : Laid t ps (take (t - 0) (drop 0 xs)) (take (t - 0) (drop 0 ds))
-  laid_front = record { at = front_again t xs h ∙ laid.at; by = ap (map joined) (front_again t ds k) ∙ laid.by }
-
-  pub laid_value : (v : List ℕ) (x : ℕ) → joined v ≡ newton_at (take (t - 0) (drop 0 xs)) (map joined (take (t - 0) (drop 0 ds))) x → joined v ≡ through_at t ps x
-  laid_value v x e =
-      e ∙ ap₂ (λ (us ws : List ℕ). newton_at us ws x) (front t xs h ∙ laid.at) (ap (map joined) (front t ds k) ∙ laid.by)
-      ∙ newton_through t ps x
+use Rattle.recover.specs.Private.{slip_in, fitting, element_in, kept}
+use Rattle.std.specs.Prelude.{Option, Some, None}
 
 -- ---- block by block
 
@@ -53,10 +31,19 @@ every_map f (p ∷ ps) zero = ap (λ (b : Bool). f (slip_in p) && b) (every_map 
 every_map f (p ∷ ps) (suc t) = every_map f ps t
 
 -- the slips from t on, judged by one block, as the code has them and as the definition does
-pub fitting_read : (t k : ℕ) (slips : List (List ℕ)) (r b : Bool) → r ≡ fitting t k slips → r ≡ b
+pub fitting_read : (t k : ℕ) (slips : List (List ℕ)) (b : Bool) → fitting t k slips ≡ b
     → every (λ w. eqb (through_at t (points k (map slip_in slips)) w.index) (block_of k w)) (drop t (map slip_in slips)) ≡ b
-fitting_read t k slips r b e h =
-    sym (every_map (λ w. eqb (through_at t (points k (map slip_in slips)) w.index) (block_of k w)) slips t) ∙ sym e ∙ h
+fitting_read t k slips b h =
+    sym (every_map (λ w. eqb (through_at t (points k (map slip_in slips)) w.index) (block_of k w)) slips t) ∙ h
+
+-- a value is kept where the test passes
+kept_some : (b : Bool) (v w : ℕ) → Some w ≡ kept b v → (b ≡ true) × (w ≡ v)
+kept_some true v w e = (refl, cc)
+kept_some false v w e = cc
+
+kept_none : (b : Bool) (v : ℕ) → None ≡ kept b v → b ≡ false
+kept_none true v e = cc
+kept_none false v e = refl
 
 module _ (t : ℕ) (vs further : List Slip) (count k : ℕ) (h : k < count) where
   judged : (b : Bool) → every (λ w. eqb (through_at t (points k vs) w.index) (block_of k w)) further ≡ b
@@ -97,29 +84,30 @@ filled_none t count vs secret =
     }
 
 module _ (t count : ℕ) (slips : List (List ℕ)) (secret₀ secret : List ℕ) (k : ℕ) (f : Filled t count (map slip_in slips) secret₀ secret k) (h : k < count)
-    (fits : Bool) (value : List ℕ) (b : (fits ≡ fitting t k slips) × (joined value ≡ through_at t (points k (map slip_in slips)) 0)) where
-  pub filled_on : not fits ≡ false → count * 16 ≤ length secret₀ → (bs secret' : List ℕ) → bs ≡ big_endian 16 (joined value) → secret' ≡ over (k * 16) bs secret
+    (o : Option (List ℕ)) (b : element_in o ≡ kept (fitting t k slips) (through_at t (points k (map slip_in slips)) 0)) where
+  pub filled_on : (value : List ℕ) → o ≡ Some value → count * 16 ≤ length secret₀ → (bs secret' : List ℕ) → bs ≡ big_endian 16 (joined value) → secret' ≡ over (k * 16) bs secret
       → Filled t count (map slip_in slips) secret₀ secret' (k + 1)
-  filled_on z l bs secret' e g =
+  filled_on value z l bs secret' e g =
       let vs = map slip_in slips in
+      let q = kept_some (fitting t k slips) _ (joined value) (sym (ap element_in z) ∙ b) in
       record {
         within = omega arith;
-        judge = f.judge ∙ judged t vs (drop t vs) count k h true (fitting_read t k slips fits true b.0 (said_yes fits fits refl z));
+        judge = f.judge ∙ judged t vs (drop t vs) count k h true (fitting_read t k slips true q.0);
         made =
             over_then 0 (k * 16) (values_at0 k 0 t vs) bs secret₀ secret secret' g f.made
             (omega (arith, values_long k 0 t vs))
             (omega (arith, ap length e, length_digits 256 16 (joined value)))
             ∙ ap (λ (x : List ℕ). over 0 x secret₀)
-            (ap (λ (x : List ℕ). values_at0 k 0 t vs ++ x) (e ∙ ap (big_endian 16) b.1)
+            (ap (λ (x : List ℕ). values_at0 k 0 t vs ++ x) (e ∙ ap (big_endian 16) q.1)
             ∙ ap (λ (j : ℕ). values_at0 k 0 t vs ++ big_endian 16 (through_at t (points j vs) 0)) (let w : k ≡ 0 + k = omega arith in w)
             ∙ sym (values_snoc k 0 t vs)
             ∙ ap (λ (j : ℕ). values_at0 j 0 t vs) (sym (add-one k)));
       }
 
-  pub filled_stop : not fits ≡ true → false ≡ on_curves count 0 t (map slip_in slips) (drop t (map slip_in slips))
+  pub filled_stop : o ≡ None → false ≡ on_curves count 0 t (map slip_in slips) (drop t (map slip_in slips))
   filled_stop z =
       let vs = map slip_in slips in
-      sym (f.judge ∙ judged t vs (drop t vs) count k h false (fitting_read t k slips fits false b.0 (said_no fits fits refl z)))
+      sym (f.judge ∙ judged t vs (drop t vs) count k h false (fitting_read t k slips false (kept_none (fitting t k slips) _ (sym (ap element_in z) ∙ b))))
 
 pub filled_end : (t count : ℕ) (vs : List Slip) (secret₀ secret : List ℕ) (k : ℕ) → Filled t count vs secret₀ secret k → count ≤ k
     → (true ≡ on_curves count 0 t vs (drop t vs)) × (true ≡ true → secret ≡ over 0 (values_at0 count 0 t vs) secret₀)

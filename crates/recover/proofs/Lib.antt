@@ -1,5 +1,5 @@
 pub mod Differences
-pub mod Slips
+pub mod Payloads
 pub mod Judging
 pub mod Turns
 pub mod Filling

@@ -1,19 +1,14 @@
 -- For the contracts of private functions: nothing here is promised to a caller.
-use Rattle.std.specs.Prelude.{ℕ, zero, suc, ◌≤◌, List, [], ◌∷◌, map, Bool, true, false, eqb, length, get_or, take, drop, ◌≡◌}
+use Rattle.std.specs.Prelude.{ℕ, zero, suc, ◌≤◌, List, [], ◌∷◌, map, Bool, true, false, eqb, length, get_or, take, drop, ◌≡◌, Option, Some, None}
 use Rattle.wire.specs.Every.{every}
 use Rattle.wire.specs.Answer.{Got, done, refused_at}
 use Rattle.shard.specs.Shard.{Shard, shard_at}
+use Rattle.shard.specs.declared.Shard as read
 use Rattle.field.specs.Field.{plus, product, over}
 use Rattle.field.specs.Element.{joined}
 use Rattle.curve.specs.Curve.{slopes, through_at}
-use Rattle.recover.specs.Recover.{Slip, slip_of, slips_at, alike, block_of, points}
-use Rattle.recover.specs.declared.slip.Read.{Read}
-
--- n slips stand at these places
-pub record Counted (n : ℕ) (s starts lens : List ℕ) : Type 0 where
-  pub starts_long : n ≤ length starts
-  pub lens_long : n ≤ length lens
-  pub all : length (slips_at s starts lens) ≡ n
+use Rattle.recover.specs.Recover.{Slip, slip_of, alike, block_of, points}
+use Rattle.recover.specs.declared.newton.Point.{Point}
 
 -- ---- a slip that was read before
 
@@ -36,9 +31,6 @@ shard_in s = shard_from (shard_at s)
 unfoldable pub slip_in : List ℕ → Slip
 slip_in s = slip_of s (shard_in s)
 
-abbrev pub slips_read : (s starts lens : List ℕ) → List Slip
-slips_read s starts lens = map slip_in (slips_at s starts lens)
-
 -- each of them says of its secret what the first says
 abbrev pub as_first : List (List ℕ) → Bool
 as_first slips = every (λ p. alike (slip_in (get_or slips 0 [])) (slip_in p)) (drop 1 slips)
@@ -54,8 +46,8 @@ is_done (refused_at e place) = false
 unfoldable pub reads : List ℕ → Bool
 reads s = is_done (shard_at s)
 
--- the same, as the code has it
-abbrev pub said_shard : Read → Shard
+-- what was read, less where it ends
+abbrev pub said_shard : read.Shard → Shard
 said_shard h =
     record { claim = record { public = h.public; sig = h.sig; hash = h.hash }; content = h.content; quorum = h.quorum }
 
@@ -83,10 +75,17 @@ newton_at [] ds x = 0
 newton_at (u ∷ us) [] x = 0
 newton_at (u ∷ us) (d ∷ ds) x = plus d (product (newton_at us ds x) (plus x u))
 
--- the first n points stand in two arrays, as their places and their differences
-pub record Laid (n : ℕ) (ps : List (ℕ × ℕ)) (xs : List ℕ) (ds : List (List ℕ)) : Type 0 where
-  pub at : take n xs ≡ take n (places ps)
-  pub by : map joined (take n ds) ≡ differences n ps
+-- the places of the code's points, and their differences
+abbrev pub xs_of : List Point → List ℕ
+xs_of laid = map (λ p. p.x) laid
+
+abbrev pub ds_of : List Point → List ℕ
+ds_of laid = map (λ p. joined p.d) laid
+
+-- the first n points stand there, as their places and their differences
+pub record Laid (n : ℕ) (ps : List (ℕ × ℕ)) (laid : List Point) : Type 0 where
+  pub at : xs_of (take n laid) ≡ take n (places ps)
+  pub by : ds_of (take n laid) ≡ differences n ps
 
 -- the curve of block k of the first t slips goes through this one
 abbrev pub fits_in : (t k : ℕ) (slips : List (List ℕ)) → List ℕ → Bool
@@ -95,3 +94,15 @@ fits_in t k slips p = eqb (through_at t (points k (map slip_in slips)) (slip_in 
 -- and through each behind them
 abbrev pub fitting : (t k : ℕ) (slips : List (List ℕ)) → Bool
 fitting t k slips = every (fits_in t k slips) (drop t slips)
+
+-- ---- a block
+
+-- an element that there may be
+abbrev pub element_in : Option (List ℕ) → Option ℕ
+element_in (Some e) = Some (joined e)
+element_in None = None
+
+-- the value where the test passes
+abbrev pub kept : Bool → ℕ → Option ℕ
+kept true v = Some v
+kept false v = None

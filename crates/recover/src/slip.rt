@@ -1,24 +1,14 @@
 // One slip: its payload, and what it says. A payload is read again wherever something of it is
 // needed: that takes little beside the work on the field, and nothing has to be kept of a slip.
-ghost use Rattle.std.specs.Prelude.{◌≡◌, ◌&&◌, [], ◌<◌, ◌≤◌, eqb, length, get_or, take, drop};
+ghost use Rattle.std.specs.Prelude.{◌≡◌, ◌&&◌, ◌<◌, ◌≤◌, eqb, take, drop};
 ghost use Rattle.wire.specs.Span.{part_at};
 ghost use Rattle.lend.specs.Same.{same};
 ghost use Rattle.field.specs.Element.{joined};
-ghost use Rattle.recover.specs.Recover.{slips_at, slip_of, alike, block_of};
+ghost use Rattle.recover.specs.Recover.{slip_of, alike, block_of};
 ghost use Rattle.recover.specs.Private.{shard_in, slip_in, said_shard};
 
-use shard::{Content, Quorum, ShardRead};
+use shard::{Content, Quorum, Shard};
 use wire::Span;
-
-// A payload as it was read.
-#[derive(Clone, Copy)]
-pub(super) struct Read {
-    pub public: usize,
-    pub sig: usize,
-    pub hash: usize,
-    pub content: Content,
-    pub quorum: Quorum,
-}
 
 // How many slips give its secret, and how many bytes that has.
 #[derive(Drop)]
@@ -27,52 +17,26 @@ pub(super) struct Needs {
     pub len: usize,
 }
 
-// The payload of slip i.
-pub(super) fn of<'a>(s: &'a [u8], starts: &[usize], lens: &[usize], i: usize) -> &'a [u8]
-    requires { (i < length starts.now) × (i < length lens.now) }
-    ensures { result.now ≡ get_or (slips_at s.now starts.now lens.now) i [] }
-{
-    let start = starts[i];
-    let len = lens[i];
-    lend::part(s, Span { start, len })
-}
-
 // Zeros where it is no slip.
-pub(super) fn said(payload: &[u8]) -> Read
+pub(super) fn said(payload: &[u8]) -> Shard
     ensures { said_shard result ≡ shard_in payload.now }
 {
-    let r = shard::read(payload);
-    match r {
-        ShardRead::Value {
-            public,
-            sig,
-            hash,
-            content,
-            quorum,
-            next: _,
-        } => Read {
-            public,
-            sig,
-            hash,
-            content,
-            quorum,
+    shard::read(payload).unwrap_or(Shard {
+        public: 0,
+        sig: 0,
+        hash: 0,
+        content: Content {
+            kind: Span { start: 0, len: 0 },
+            share: Span { start: 0, len: 0 },
+            length: 0,
         },
-        ShardRead::Refused { no: _ } => Read {
-            public: 0,
-            sig: 0,
-            hash: 0,
-            content: Content {
-                kind: Span { start: 0, len: 0 },
-                share: Span { start: 0, len: 0 },
-                length: 0,
-            },
-            quorum: Quorum {
-                threshold: 0,
-                count: 0,
-                index: 0,
-            },
+        quorum: Quorum {
+            threshold: 0,
+            count: 0,
+            index: 0,
         },
-    }
+        next: 0,
+    })
 }
 
 fn same_parts(a: &[u8], p: Span, b: &[u8], q: Span) -> bool
@@ -81,16 +45,12 @@ fn same_parts(a: &[u8], p: Span, b: &[u8], q: Span) -> bool
     lend::equal(lend::part(a, p), lend::part(b, q))
 }
 
-fn same_numbers(v: Read, w: Read) -> bool
-    ensures { result ≡ (eqb v.quorum.threshold w.quorum.threshold && (eqb v.quorum.count w.quorum.count && eqb v.content.length w.content.length)) }
+fn same_numbers(v: &Shard, w: &Shard) -> bool
+    ensures { result ≡ (eqb v.now.quorum.threshold w.now.quorum.threshold && (eqb v.now.quorum.count w.now.quorum.count && eqb v.now.content.length w.now.content.length)) }
 {
-    if v.quorum.threshold != w.quorum.threshold {
-        return false;
-    }
-    if v.quorum.count != w.quorum.count {
-        return false;
-    }
-    v.content.length == w.content.length
+    v.quorum.threshold == w.quorum.threshold
+        && v.quorum.count == w.quorum.count
+        && v.content.length == w.content.length
 }
 
 fn same_digests(a: &[u8], i: usize, b: &[u8], j: usize) -> bool
@@ -99,25 +59,18 @@ fn same_digests(a: &[u8], i: usize, b: &[u8], j: usize) -> bool
     same_parts(a, Span { start: i, len: 32 }, b, Span { start: j, len: 32 })
 }
 
-fn same_claims(a: &[u8], v: Read, b: &[u8], w: Read) -> bool
-    ensures { result ≡ (same (take 32 (drop v.hash a.now)) (take 32 (drop w.hash b.now)) && same (take 32 (drop v.public a.now)) (take 32 (drop w.public b.now))) }
+fn same_claims(a: &[u8], v: &Shard, b: &[u8], w: &Shard) -> bool
+    ensures { result ≡ (same (take 32 (drop v.now.hash a.now)) (take 32 (drop w.now.hash b.now)) && same (take 32 (drop v.now.public a.now)) (take 32 (drop w.now.public b.now))) }
 {
-    if !same_digests(a, v.hash, b, w.hash) {
-        return false;
-    }
-    same_digests(a, v.public, b, w.public)
+    same_digests(a, v.hash, b, w.hash) && same_digests(a, v.public, b, w.public)
 }
 
-fn say_the_same(a: &[u8], v: Read, b: &[u8], w: Read) -> bool
-    ensures { result ≡ alike (slip_of a.now (said_shard v)) (slip_of b.now (said_shard w)) }
+fn say_the_same(a: &[u8], v: &Shard, b: &[u8], w: &Shard) -> bool
+    ensures { result ≡ alike (slip_of a.now (said_shard v.now)) (slip_of b.now (said_shard w.now)) }
 {
-    if !same_parts(a, v.content.kind, b, w.content.kind) {
-        return false;
-    }
-    if !same_numbers(v, w) {
-        return false;
-    }
-    same_claims(a, v, b, w)
+    same_parts(a, v.content.kind, b, w.content.kind)
+        && same_numbers(v, w)
+        && same_claims(a, v, b, w)
 }
 
 // Whether two payloads say the same of their secret.
@@ -126,7 +79,7 @@ pub(super) fn agree(a: &[u8], b: &[u8]) -> bool
 {
     let v = said(a);
     let w = said(b);
-    say_the_same(a, v, b, w)
+    say_the_same(a, &v, b, &w)
 }
 
 // The number of the slip.

@@ -3,8 +3,8 @@
 use Rattle.recover.proofs.Verdicts.{too_few, of_two_secrets, one_twice, as_fitted}
 use Rattle.recover.proofs.combine.Goals as goal
 
-pub returns-then-n-first : goal.returns-then-n-first
-returns-then-n-first c = search too_few
+pub returns-then-count-first : goal.returns-then-count-first
+returns-then-count-first c = search too_few
 
 pub returns-then-not-alike : goal.returns-then-not-alike
 returns-then-not-alike c = search of_two_secrets

@@ -1,9 +1,7 @@
 -- `recover::is_slip` meets its contract. Assumes nothing.
-use Rattle.recover.proofs.Slips.{reads_value, reads_nothing}
+use mathlib.Core.Path.{◌∙◌}
+use Rattle.recover.proofs.Payloads.{reads_ok}
 use Rattle.recover.proofs.is_slip.Goals as goal
 
-pub returns-in-Value : goal.returns-in-Value
-returns-in-Value c = search reads_value
-
-pub returns-in-Refused : goal.returns-in-Refused
-returns-in-Refused c = search reads_nothing
+pub returns : goal.returns
+returns c = c.is_ok.ensures.value ∙ reads_ok _ _ c.read.ensures

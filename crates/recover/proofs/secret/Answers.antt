@@ -6,12 +6,12 @@ use Rattle.recover.proofs.secret.Goals as goal
 
 pub returns-then-not-blocks : goal.returns-then-not-blocks
 returns-then-not-blocks c =
-    off_curve _ _ _ _ _ _ c.requires.3 refl c.blocks-2.ensures _ (ap not c.if-not-blocks.true)
+    off_curve _ _ _ _ _ _ c.requires.2 refl c.blocks-2.ensures _ (ap not c.if-not-blocks.true)
 
 pub returns-then-not-all_zeros : goal.returns-then-not-all_zeros
 returns-then-not-all_zeros c =
-    not_filled _ _ _ _ _ _ c.requires.3 refl c.blocks-2.ensures (ap not c.if-not-blocks.false) _ c.all_zeros.ensures _ (ap not c.if-not-all_zeros.true)
+    not_filled _ _ _ _ _ _ c.requires.2 refl c.blocks-2.ensures (ap not c.if-not-blocks.false) _ c.all_zeros.ensures _ (ap not c.if-not-all_zeros.true)
 
 pub returns : goal.returns
 returns c =
-    secret_given _ _ _ _ _ _ c.requires.3 refl c.blocks-2.ensures (ap not c.if-not-blocks.false) _ c.all_zeros.ensures (ap not c.if-not-all_zeros.false) _ _ c.give.result c.give.ensures
+    secret_given _ _ _ _ _ _ c.requires.2 refl c.blocks-2.ensures (ap not c.if-not-blocks.false) _ c.all_zeros.ensures (ap not c.if-not-all_zeros.false) _ _ c.give.result c.give.ensures

@@ -1,15 +1,10 @@
--- `recover::newton::fits` meets its contract. The invariant: all behind the first t fit exactly
--- where those from i on do. Assumes nothing.
-use Prim.Native.Nat.{◌≤◌, ◌-◌}
+-- `recover::newton::fits` meets its contract. The invariant: all behind those of the curve fit
+-- exactly where those from i on do. Assumes nothing.
 use mathlib.Core.Path.{◌≡◌}
-use lib.ListN.{drop}
-use Rattle.recover.specs.Recover.{slips_at}
+use lib.ListN.{length, drop}
 use Rattle.wire.specs.Every.{every}
 use Rattle.recover.specs.Private.{fits_in, fitting}
 use Rattle.recover.proofs.newton.fits.Given as goal
 
 abbrev pub invariant-loop-i : goal.invariant-loop-i
-invariant-loop-i l = (l.t ≤ l.i) × (l.i ≤ l.n) × (fitting l.t l.k (slips_at l.s l.starts l.lens) ≡ every (fits_in l.t l.k (slips_at l.s l.starts l.lens)) (drop l.i (slips_at l.s l.starts l.lens)))
-
-abbrev pub decreases-loop-i : goal.decreases-loop-i
-decreases-loop-i l = l.n - l.i
+invariant-loop-i l = fitting (length l.curve) l.k l.slips ≡ every (fits_in (length l.curve) l.k l.slips) (drop l.i l.slips)

@@ -1,7 +1,7 @@
 -- `recover::slip::agree` meets its contract. Assumes nothing.
 use mathlib.Core.Path.{◌∙◌, ap₂}
 use Rattle.recover.specs.Recover.{alike}
-use Rattle.recover.proofs.Slips.{slip_said}
+use Rattle.recover.proofs.Payloads.{slip_said}
 use Rattle.recover.proofs.slip.agree.Goals as goal
 
 pub returns : goal.returns

@@ -1,6 +1,6 @@
 -- `recover::slip::index` meets its contract: the shard reader takes no number above 255. Assumes
 -- nothing.
-use Rattle.recover.proofs.Slips.{index_small, index_said}
+use Rattle.recover.proofs.Payloads.{index_small, index_said}
 use Rattle.recover.proofs.slip.index.Goals as goal
 
 pub overflow_cast-result : goal.overflow_cast-result

@@ -1,9 +1,8 @@
 -- `recover::slip::said` meets its contract: what was read, or zeros. Assumes nothing.
-use Rattle.recover.proofs.Slips.{said_value, said_nothing}
+use mathlib.Core.Path.{refl, ap, ◌∙◌}
+use Rattle.recover.specs.Private.{said_shard}
+use Rattle.recover.proofs.Payloads.{said_or}
 use Rattle.recover.proofs.slip.said.Goals as goal
 
-pub returns-in-Value : goal.returns-in-Value
-returns-in-Value c = search said_value
-
-pub returns-in-Refused : goal.returns-in-Refused
-returns-in-Refused c = search said_nothing
+pub returns : goal.returns
+returns c = ap said_shard c.unwrap_or.ensures ∙ said_or _ _ _ c.read.ensures refl

@@ -1,5 +1,5 @@
 -- `recover::slip::same_parts` meets its contract. Assumes nothing.
-use Rattle.recover.proofs.Slips.{compared}
+use Rattle.recover.proofs.Payloads.{compared}
 use Rattle.recover.proofs.slip.same_parts.Goals as goal
 
 pub returns : goal.returns

@@ -1,6 +1,6 @@
 -- `recover::slip::terms` meets its contract: the shard reader takes no other threshold and length.
 -- Assumes nothing.
-use Rattle.recover.proofs.Slips.{terms_said}
+use Rattle.recover.proofs.Payloads.{terms_said}
 use Rattle.recover.proofs.slip.terms.Goals as goal
 
 pub returns : goal.returns

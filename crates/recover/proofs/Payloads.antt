@@ -1,7 +1,8 @@
 -- What the code has of slips: their payloads by their numbers, and what a payload says.
 -- Assumes nothing.
 use mathlib.Core.Path.{◌≡◌, refl, sym, ap, ap₂, ◌∙◌, subst}
-use mathlib.Core.Bool.{Bool, true, false}
+use mathlib.Core.Bool.{Bool, true, false, false≢true, ◌&&◌}
+use Rattle.std.specs.Result.{is_ok, result_unwrap_or}
 use mathlib.Core.List.{List, [], ◌∷◌}
 use Prim.Native.Nat.{ℕ, zero, suc, ◌*◌, ◌<◌, ◌≤◌, min}
 use native.Mathlib.Nat.{le_of_suc-le-suc, not-suc-le-zero}
@@ -13,16 +14,15 @@ use Rattle.wire.specs.Span.{part_at}
 use Rattle.lend.specs.Same.{same}
 use Rattle.shard.specs.Shard.{Shard, shard_at}
 use Rattle.shard.specs.Answer.{shard_told}
-use Rattle.shard.specs.declared.ShardRead.{ShardRead}
-use Rattle.shard.specs.declared.ShardRead.TheVariants as shard
-use Rattle.shard.specs.declared.Content.{Content}
-use Rattle.shard.specs.declared.Quorum.{Quorum}
+use Rattle.shard.specs.declared.Shard as read
+use Rattle.std.specs.Prelude.{Result, Ok, Err}
+use Rattle.wire.specs.declared.Refusal.{Refusal}
 use Rattle.shard.proofs.Allowed.{length_most}
 use Rattle.shard.proofs.Rounds.{shard_only}
 use Rattle.field.specs.Element.{joined, halves, filled, block}
 use Rattle.field.proofs.Elements.{joined_halves}
 use Rattle.recover.specs.Recover.{slip_of, slips_at, block_of}
-use Rattle.recover.specs.Private.{Counted, blank, is_done, reads, shard_from, shard_in, slip_in, said_shard}
+use Rattle.recover.specs.Private.{blank, is_done, reads, shard_from, shard_in, slip_in, said_shard}
 
 -- ---- payloads
 
@@ -34,35 +34,37 @@ slip_at s (a ∷ starts) [] i h k = absurd (not-suc-le-zero k)
 slip_at s (a ∷ starts) (n ∷ lens) zero h k = refl
 slip_at s (a ∷ starts) (n ∷ lens) (suc i) h k = slip_at s starts lens i (le_of_suc-le-suc h) (le_of_suc-le-suc k)
 
-slips_long : (s starts lens : List ℕ) → length (slips_at s starts lens) ≡ min (length starts) (length lens)
+pub slips_long : (s starts lens : List ℕ) → length (slips_at s starts lens) ≡ min (length starts) (length lens)
 unfolding slips_at
 slips_long s [] lens = omega arith
 slips_long s (a ∷ starts) [] = omega arith
 slips_long s (a ∷ starts) (n ∷ lens) = omega (arith, slips_long s starts lens)
 
-pub counted : (s starts lens : List ℕ) (n : ℕ) → n ≡ min (length starts) (length lens) → Counted n s starts lens
-counted s starts lens n e =
-    record { starts_long = omega arith; lens_long = omega arith; all = slips_long s starts lens ∙ sym e }
-
 -- ---- what a payload says
 
-module _ (s : List ℕ) (r : ShardRead) (h : shard_told r ≡ shard_at s) where
-  pub said_value : (public sig hash : ℕ) (content : Content) (quorum : Quorum) (next : ℕ) → r ≡ shard.Value public sig hash content quorum next
-      → said_shard (record { public = public; sig = sig; hash = hash; content = content; quorum = quorum }) ≡ shard_in s
+module _ (s : List ℕ) where
+  pub said_or : (r : Result read.Shard Refusal) (z : read.Shard) → shard_told r ≡ shard_at s → said_shard z ≡ blank → said_shard (result_unwrap_or r z) ≡ shard_in s
   unfolding shard_in
-  said_value public sig hash content quorum next e = ap shard_from (sym (ap shard_told e) ∙ h)
+  said_or (Ok v) z h e = ap shard_from h
+  said_or (Err n) z h e = e ∙ ap shard_from h
 
-  pub said_nothing : (n : ℕ) → r ≡ shard.Refused n → blank ≡ shard_in s
-  unfolding shard_in
-  said_nothing n e = ap shard_from (sym (ap shard_told e) ∙ h)
-
-  pub reads_value : (public sig hash : ℕ) (content : Content) (quorum : Quorum) (next : ℕ) → r ≡ shard.Value public sig hash content quorum next → true ≡ reads s
+  pub reads_ok : (r : Result read.Shard Refusal) → shard_told r ≡ shard_at s → is_ok r ≡ reads s
   unfolding reads
-  reads_value public sig hash content quorum next e = ap is_done (sym (ap shard_told e) ∙ h)
+  reads_ok (Ok v) h = ap is_done h
+  reads_ok (Err n) h = ap is_done h
 
-  pub reads_nothing : (n : ℕ) → r ≡ shard.Refused n → false ≡ reads s
-  unfolding reads
-  reads_nothing n e = ap is_done (sym (ap shard_told e) ∙ h)
+-- three tests, one after the other
+pub all_three : (v : Bool) {p q t P Q R : Bool} → p ≡ P → p ≡ true → q ≡ Q → v ≡ q → v ≡ true → t ≡ R → t ≡ (P && (Q && R))
+all_three v e f g h k l = rw (← e, f, ← g, ← h, k) l
+
+pub one_first : (v : Bool) {p P : Bool} (Q : Bool) → p ≡ P → p ≡ false → v ≡ false → v ≡ (P && Q)
+one_first v Q e f h = rw (← e, f) h
+
+pub one_second : (v : Bool) {p q P Q : Bool} (R : Bool) → p ≡ P → p ≡ true → q ≡ Q → v ≡ q → v ≡ false → v ≡ (P && (Q && R))
+one_second v R e f g h k = rw (← e, f, ← g, ← h, k)
+
+pub not_both : {A : Type 0} (v p : Bool) → v ≡ p → p ≡ false → v ≡ true → A
+not_both v p e f g = absurd (false≢true (sym (e ∙ f) ∙ g))
 
 -- a comparison of what two calls lent back
 pub compared : (r : Bool) (x y p q : List ℕ) → r ≡ same x y → x ≡ p → y ≡ q → r ≡ same p q
