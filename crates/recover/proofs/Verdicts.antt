@@ -11,9 +11,8 @@ use lib.Seq.{take-append-le, drop-append-le, take_at}
 use Rattle.wire.specs.Answer.{Answer, done, refused, refused_at, number_of, place_of, then, demand, Got, got}
 use Rattle.wire.specs.Every.{every}
 use Rattle.wire.specs.Over.{over}
-use Rattle.wire.specs.Reading.{told}
 use Rattle.wire.specs.Writing.{Written}
-use Rattle.std.specs.Prelude.{Result, Ok, Err}
+use Rattle.std.specs.Prelude.{Result, Err}
 use Rattle.wire.specs.Refusal.{number}
 use Rattle.wire.specs.declared.Refusal.{Refusal}
 use Rattle.wire.specs.declared.Refusal.TheVariants.{TooFewSlips, UnlikeSlips, SlipTwice, OffTheCurve, BadPadding}

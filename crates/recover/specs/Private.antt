@@ -1,5 +1,5 @@
 -- For the contracts of private functions: nothing here is promised to a caller.
-use Rattle.std.specs.Prelude.{ℕ, zero, suc, ◌≤◌, List, [], ◌∷◌, map, Bool, true, false, eqb, length, get_or, take, drop, ◌≡◌, Option, Some, None}
+use Rattle.std.specs.Prelude.{ℕ, zero, suc, List, [], ◌∷◌, map, Bool, true, false, eqb, get_or, take, drop, ◌≡◌, Option, Some, None}
 use Rattle.wire.specs.Every.{every}
 use Rattle.wire.specs.Answer.{Got, done, refused_at}
 use Rattle.shard.specs.Shard.{Shard, shard_at}

@@ -1,13 +1,9 @@
-use mathlib.Core.Path.{◌≡◌, sym, ap, ◌∙◌}
-use mathlib.Core.Bool.{not}
+use mathlib.Core.Path.{◌≡◌, sym, ◌∙◌}
 use borrow.Author.Rules.{rules}
 use mir.Syntax.{w64}
 use mir.Val.{Fits}
-use lib.Dec.{eqb}
 use lib.ListN.{length, get_or}
-use lib.Pointwise.{pointwise}
 use native.Mathlib.Omega.{arith}
-use Rattle.field.specs.Element.{joined}
 use Rattle.recover.proofs.Turns.{elements_compared, fits_on, fits_stop, fits_end}
 use Rattle.recover.proofs.newton.fits.Goals as goal
 

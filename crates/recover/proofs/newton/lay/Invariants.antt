@@ -1,8 +1,6 @@
 -- `recover::newton::lay` meets its contract. The invariant: the first i points stand there.
 -- Assumes nothing.
-use mathlib.Core.Path.{◌≡◌}
 use mathlib.Core.List.{map}
-use lib.ListN.{length}
 use Rattle.recover.specs.Recover.{points}
 use Rattle.recover.specs.Private.{slip_in, Laid}
 use Rattle.recover.proofs.newton.lay.Given as goal
