@@ -45,16 +45,16 @@ within_more m n h (c ∷ cs) e =
 -- ---- one code point
 
 module _ (c : ℕ) where
-  point_one : c < 0x80 → utf8_point c ≡ c ∷ []
+  pub point_one : c < 0x80 → utf8_point c ≡ c ∷ []
   unfolding utf8_point
   point_one h = rw (lt-ltb c 0x80 h)
 
-  point_two : 0x80 ≤ c → utf8_point c ≡ (0xC0 + c / 64) ∷ (0x80 + c % 64) ∷ []
+  pub point_two : 0x80 ≤ c → utf8_point c ≡ (0xC0 + c / 64) ∷ (0x80 + c % 64) ∷ []
   unfolding utf8_point
   point_two h = rw (le-ltb c 0x80 h)
 
   -- the two bytes of a code point decode to it
-  two_back : 0x80 ≤ c → c < 0x800 → c ≡ two_bytes (0xC0 + c / 64) (0x80 + c % 64)
+  pub two_back : 0x80 ≤ c → c < 0x800 → c ≡ two_bytes (0xC0 + c / 64) (0x80 + c % 64)
   unfolding two_bytes leads follows joined
   two_back h k =
       let lead : (0xC0 ≤ 0xC0 + c / 64) × (0xC0 + c / 64 < 0xE0) = omega arith in

@@ -4,4 +4,5 @@ pub mod Encoding
 pub mod Names
 pub mod Walks
 pub mod Paths
+pub mod Texts
 pub mod Verdicts

@@ -14,6 +14,7 @@ use Rattle.std.specs.List.{list_all, slice_split, onto_first}
 use Rattle.std.proofs.lemmas.List.Splits.{length-slice_split}
 use Rattle.wire.proofs.Cases.{both_hold, eq_or_ne}
 use Rattle.lend.specs.Same.{same}
+use Rattle.lend.proofs.Sames.{pointwise_same}
 use lib.Pointwise.{pointwise}
 use Rattle.std.specs.Bool.{◌==◌}
 use Rattle.wire.specs.Every.{every, without}
@@ -98,13 +99,6 @@ parts_joined p (q ∷ ps) e =
 
 -- ---- which parts are names, by the `==` of slices
 
-same_is_equal : (xs ys : List ℕ) → same xs ys ≡ pointwise eqb xs ys
-unfolding same
-same_is_equal [] [] = refl
-same_is_equal [] (y ∷ ys) = refl
-same_is_equal (x ∷ xs) [] = refl
-same_is_equal (x ∷ xs) (y ∷ ys) = ap (λ (b : Bool). eqb x y && b) (same_is_equal xs ys)
-
 pub name_empty : (p : List ℕ) → length p ≡ 0 → is_name p ≡ false
 unfolding is_name same
 name_empty [] h = refl
@@ -116,7 +110,7 @@ name_nothing p h = sym (name_empty p (eqb-true (length p) 0 (sym h)))
 name_some : (p : List ℕ) → false ≡ (length p == 0) → is_name p ≡ (not (pointwise eqb p here) && not (pointwise eqb p above))
 unfolding is_name same
 name_some [] h = absurd (false≢true h)
-name_some (a ∷ p) h = rw (same_is_equal (a ∷ p) here, same_is_equal (a ∷ p) above)
+name_some (a ∷ p) h = rw (← pointwise_same (a ∷ p) here, ← pointwise_same (a ∷ p) above)
 
 -- the tests one after another: l is `here` and m is `above`
 module _ (p l : List ℕ) (v r : Bool) (some : false ≡ (length p == 0)) (e : l ≡ here) (f : r ≡ not (pointwise eqb p l)) (g : v ≡ r) where

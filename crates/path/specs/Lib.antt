@@ -2,4 +2,3 @@ pub mod Utf8
 pub mod Order
 pub mod Names
 pub mod Path
-pub mod Private

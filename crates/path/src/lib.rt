@@ -14,13 +14,11 @@
 // (`below_irreflexive`, `below_transitive`, `below_total`).
 #![tactic(auto)]
 
-ghost use Rattle.std.specs.Prelude.{◌≡◌, ◌<◌, length};
-ghost use Rattle.path.specs.Utf8.{two_bytes};
+ghost use Rattle.std.specs.Prelude.{◌≡◌};
 ghost use Rattle.path.specs.Order.{below};
-ghost use Rattle.wire.specs.Every.{every, without};
+ghost use Rattle.wire.specs.Every.{every};
 ghost use Rattle.path.specs.Names.{parts, is_name};
 ghost use Rattle.path.specs.Path.{plain_text, path_allowed};
-ghost use Rattle.path.specs.Private.{Spans};
 
 // How many bytes a path has (R3.5). A reader judges its length by these before the bytes are there
 // (R12.6).
@@ -29,65 +27,16 @@ pub const LEAST: u64 = 1;
 pub const MOST: u64 = wire::MOST_PATH as u64;
 
 // Only code points below this one are allowed (R12.1).
-const END: u32 = 0x300;
-
-// No code point at all: the last is U+10FFFF.
-const OUTSIDE: u32 = 0x110000;
-
-// The code point of two bytes.
-fn two_bytes(a: u8, b: u8) -> u32
-    ensures { result ≡ two_bytes a b }
-{
-    if a < 0xC0 {
-        return OUTSIDE;
-    }
-    if 0xE0 <= a {
-        return OUTSIDE;
-    }
-    if b < 0x80 {
-        return OUTSIDE;
-    }
-    if 0xC0 <= b {
-        return OUTSIDE;
-    }
-    let c = ((a - 0xC0) as u32) * 64 + ((b - 0x80) as u32);
-    if c < 0x80 {
-        return OUTSIDE;
-    }
-    c
-}
-
-// How many bytes the code point at index i has; 0 where it is not allowed.
-fn width(s: &[u8], i: usize) -> usize
-    requires { i < length s.now }
-    ensures { Spans s.now i result }
-{
-    let a = s[i];
-    if a < 0x80 {
-        return 1;
-    }
-    if s.len() - i < 2 {
-        return 0;
-    }
-    if two_bytes(a, s[i + 1]) < END {
-        return 2;
-    }
-    0
-}
+const END: char = '\u{300}';
 
 // Whether s is UTF-8 whose code points are all allowed.
 fn plain(s: &[u8]) -> bool
     ensures { result ≡ plain_text s.now }
 {
-    let mut at = 0;
-    while at < s.len() {
-        let n = width(s, at);
-        if n == 0 {
-            return false;
-        }
-        at += n;
+    match str::from_utf8(s) {
+        Ok(text) => text.chars().all(|c| c < END),
+        Err(_) => false,
     }
-    true
 }
 
 // Whether a part names something: it is not empty, not `.` and not `..` (R12.2).

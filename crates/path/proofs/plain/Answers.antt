@@ -1,22 +1,21 @@
-use mathlib.Core.Path.{refl, sym, ◌∙◌}
-use native.Mathlib.Omega.{arith}
-use Rattle.path.proofs.Points.{plain_on, plain_stop, plain_end}
+-- `path::plain` meets its contract: each character is judged, and no text is refused.
+-- Assumes nothing.
+use mathlib.Core.Path.{◌∙◌}
+use lib.Dec.{ltb}
+use Rattle.std.proofs.Common.{rules, tests}
+use Rattle.std.proofs.lemmas.Iterator.{YieldsList-from_chars}
+use Rattle.std.proofs.lemmas.Iterator.Search.{all_from_yields_List}
+use Rattle.path.proofs.Texts.{text_plain, no_text}
 use Rattle.path.proofs.plain.Goals as goal
 
-pub loop-at-init : goal.loop-at-init
-loop-at-init c = (omega arith, refl)
+pub returns-in-Ok : goal.returns-in-Ok
+returns-in-Ok c =
+    let s = c.args.s.now in
+    let u = c.in-Ok.ensures.cases.1 in
+    all_from_yields_List (λ x. ltb x 0x300) _ _ c.all.result c.all.ensures.ran
+    (YieldsList-from_chars s u (c.chars.ensures.rest ∙ c.in-Ok.ensures.cases.0))
+    (λ x b q k. search (rules, tests))
+    ∙ text_plain s u
 
-pub returns-then-n-eq0 : goal.returns-then-n-eq0
-returns-then-n-eq0 c =
-    let l = c.loop-at in
-    sym (l.invariant.1 ∙ plain_stop _ l.at c.width-n.ensures c.if-n-eq0.true)
-
-pub loop-at-preserved : goal.loop-at-preserved
-loop-at-preserved c =
-    let l = c.loop-at in
-    (c.width-n.ensures.fits, l.invariant.1 ∙ plain_on _ l.at c.width-n.ensures c.if-n-eq0.false)
-
-pub returns : goal.returns
-returns c =
-    let l = c.loop-at in
-    sym (l.invariant.1 ∙ plain_end _ l.at (omega arith))
+pub returns-in-Err : goal.returns-in-Err
+returns-in-Err c = no_text _ c.in-Err.ensures.cases.0
