@@ -17,12 +17,11 @@ use Rattle.typing.specs.Private.{stepped, ended}
 use Rattle.typing.specs.declared.Fault.{Fault}
 use Rattle.typing.specs.declared.Fault.TheVariants.{Count, Surplus, Whole}
 use Rattle.typing.specs.declared.faults.At.{At}
-use Rattle.typing.specs.declared.faults.Step.{Step}
-use Rattle.typing.specs.declared.faults.Step.TheVariants.{On, Found}
+use Rattle.std.specs.Prelude.{Result, Ok, Err}
 
-abbrev pub onward : Step → (At → Fault) → Fault
-onward (On a) f = f a
-onward (Found fault) f = fault
+abbrev pub onward : Result At Fault → (At → Fault) → Fault
+onward (Ok a) f = f a
+onward (Err fault) f = fault
 
 -- what is wrong with the counts of what is left
 pub count_from : At → List ℕ → Fault
@@ -37,7 +36,7 @@ module _ (n : ℕ) (last : Bool) where
   full_fits e = rw e
 
   module _ (e : last ≡ true) where
-    pub last_few : n < 3 → false ≡ count_right last n
+    pub last_few : n < 3 → leb 3 n ≡ count_right last n
     unfolding count_right
     last_few h = rw (e, lt-leb 3 n h)
 
@@ -46,29 +45,29 @@ module _ (n : ℕ) (last : Bool) where
     last_fits h = rw (e, le-leb 3 n h)
 
 module _ (a : At) (r : Bool) (e : r ≡ count_right false a.count) where
-  pub close_wrong : not r ≡ true → Found (Count a.n a.count false) ≡ stepped a 10
+  pub close_wrong : not r ≡ true → Err (Count a.n a.count false) ≡ stepped a 10
   unfolding stepped
   close_wrong f = rw (said_no r (count_right false a.count) e f)
 
   module _ (t : not r ≡ false) where
-    pub close_surplus : a.n ≡ 20 → Found Surplus ≡ stepped a 10
+    pub close_surplus : a.n ≡ 20 → Err Surplus ≡ stepped a 10
     unfolding stepped
     close_surplus q = rw (said_yes r (count_right false a.count) e t, eq-eqb a.n 20 q)
 
-    pub close_on : (a.n ≡ 20 → ⊥) → On (record { n = a.n + 1; count = 0 }) ≡ stepped a 10
+    pub close_on : (a.n ≡ 20 → ⊥) → Ok (record { n = a.n + 1; count = 0 }) ≡ stepped a 10
     unfolding stepped
     close_on q = rw (said_yes r (count_right false a.count) e t, ne_eqb a.n 20 q, add-one a.n)
 
 module _ (a : At) (c : ℕ) where
-  pub feed_closed : c ≡ feed → (s : Step) → s ≡ stepped a 10 → s ≡ stepped a c
+  pub feed_closed : c ≡ feed → (s : Result At Fault) → s ≡ stepped a 10 → s ≡ stepped a c
   feed_closed e s q = rw e q
 
   module _ (n : c ≡ feed → ⊥) (r : Bool) (e : r ≡ skipped c) where
-    pub feed_skipped : r ≡ true → On a ≡ stepped a c
+    pub feed_skipped : r ≡ true → Ok a ≡ stepped a c
     unfolding stepped
     feed_skipped t = rw (ne_eqb c feed n, sym e ∙ t)
 
-    pub feed_counted : r ≡ false → On (record { n = a.n; count = a.count + 1 }) ≡ stepped a c
+    pub feed_counted : r ≡ false → Ok (record { n = a.n; count = a.count + 1 }) ≡ stepped a c
     unfolding stepped
     feed_counted f = rw (ne_eqb c feed n, sym e ∙ f, add-one a.count)
 
@@ -113,7 +112,7 @@ module _ (n : ℕ) (line : List ℕ) (c : ℕ) (cs : List ℕ) (h : n ≤ 20) wh
       (go (count_right false (length line)) (eqb n 20) refl)
     where
       go : (t u : Bool) → eqb n 20 ≡ u
-          → onward (choose t (choose u (Found Surplus) (On (record { n = suc n; count = 0 }))) (Found (Count n (length line) false))) (λ b. count_from b cs)
+          → onward (choose t (choose u (Err Surplus) (Ok (record { n = suc n; count = 0 }))) (Err (Count n (length line) false))) (λ b. count_from b cs)
           ≡ choose t (count_fault (suc n) (cut [] (plain cs))) (Count n (length line) false)
       go true true q = sym (line_above (suc n) (cut [] (plain cs)) (omega (arith, eqb-true n 20 q)) (some_line [] (plain cs)))
       go true false q = on (ne_below (eqb-false n 20 q))
@@ -163,12 +162,12 @@ counted_text (c ∷ cs) h = counted_lines 1 [] (c ∷ cs) (omega arith)
 
 -- ---- one character after another
 
-step_small : (a : At) (c : ℕ) (b : At) → a.n ≤ 20 → On b ≡ stepped a c → (b.n ≤ 20) × (b.count ≤ a.count + 1)
+step_small : (a : At) (c : ℕ) (b : At) → a.n ≤ 20 → Ok b ≡ stepped a c → (b.n ≤ 20) × (b.count ≤ a.count + 1)
 unfolding stepped
 step_small a c b h e = go (eqb c feed) (count_right false a.count) (eqb a.n 20) (skipped c) refl e
   where
     go : (t u v w : Bool) → eqb a.n 20 ≡ v
-        → On b ≡ choose t (choose u (choose v (Found Surplus) (On (record { n = suc a.n; count = 0 }))) (Found (Count a.n a.count false))) (choose w (On a) (On (record { n = a.n; count = suc a.count })))
+        → Ok b ≡ choose t (choose u (choose v (Err Surplus) (Ok (record { n = suc a.n; count = 0 }))) (Err (Count a.n a.count false))) (choose w (Ok a) (Ok (record { n = a.n; count = suc a.count })))
         → (b.n ≤ 20) × (b.count ≤ a.count + 1)
     go true true true w q e = let z : ◌≡◌ {A = ℕ} 0 1 = cc in absurd (omega arith)
     go true true false w q e =
@@ -190,15 +189,15 @@ module _ (text : List ℕ) where
   counting_none = record { lines = omega arith; few = omega arith; rest = refl }
 
   module _ (a : At) (i : ℕ) (s : Counting text a i) where
-    module _ (h : i < length text) (r : Step) (e : r ≡ stepped a (get_or text i 0)) where
+    module _ (h : i < length text) (r : Result At Fault) (e : r ≡ stepped a (get_or text i 0)) where
       from_here : count_from (record { n = 1; count = 0 }) text ≡ onward r (λ b. count_from b (drop (suc i) text))
       unfolding count_from
       from_here = s.rest ∙ rw (drop-cons text i 0 h, ← e)
 
-      pub count_found : (fault : Fault) → r ≡ Found fault → 1 ≤ length text → fault ≡ count_fault 1 (lines_of text)
+      pub count_found : (fault : Fault) → r ≡ Err fault → 1 ≤ length text → fault ≡ count_fault 1 (lines_of text)
       count_found fault q l = sym (sym (counted_text text l) ∙ from_here ∙ rw q)
 
-      pub counting_on : (b : At) → r ≡ On b → Counting text b (i + 1)
+      pub counting_on : (b : At) → r ≡ Ok b → Counting text b (i + 1)
       counting_on b q =
           let (l, m) = step_small a (get_or text i 0) b s.lines (sym q ∙ e) in
           record { lines = l; few = omega (arith, s.few); rest = from_here ∙ rw (q, add-one i) }

@@ -1,12 +1,13 @@
 -- A scan and the words of a fault, laid one after another. Assumes nothing.
-use Prim.Native.Nat.{ℕ, ◌+◌, ◌-◌, ◌*◌, ◌^◌, ◌≤◌, ◌<◌}
+use Prim.Native.Nat.{ℕ, ◌+◌, ◌*◌, ◌^◌, ◌≤◌, ◌<◌}
 use mathlib.Core.Path.{◌≡◌, refl, sym, ap, ◌∙◌}
 use mathlib.Core.Logic.{⊎_elim}
 use mathlib.Core.Bool.{Bool, true, false}
 use mathlib.Core.List.{List, [], ◌++◌}
+use native.Mathlib.Nat.{sub-zero}
 use native.Mathlib.Omega.{arith}
 use borrow.Author.Tests.{lt-ltb, le-ltb}
-use lib.ListN.{length, take, drop, replicate, length-map, length-replicate}
+use lib.ListN.{length, take, replicate, length-map, length-replicate}
 use Rattle.digits.specs.Private.{Laid}
 use Rattle.digits.specs.Decimal.{decimal, numeral, line_feed}
 use Rattle.digits.proofs.Laying.{laid_one, laid_then, laid_as, laid_whole}
@@ -15,8 +16,9 @@ use Rattle.wire.specs.Answer.{Answer, done, Kept}
 use Rattle.wire.specs.Over.{over}
 use Rattle.wire.specs.Number.{digits, number}
 use Rattle.wire.specs.Writing.{Written, writing}
-use Rattle.wire.specs.declared.Wrote.{Wrote}
-use Rattle.wire.specs.declared.Wrote.TheVariants.{Done, Refused}
+use Rattle.std.specs.Prelude.{Result, Ok, Err}
+use Rattle.wire.specs.Refusal as R
+use Rattle.wire.specs.declared.Refusal.{Refusal}
 use Rattle.wire.proofs.Cases.{done_value}
 use Rattle.wire.proofs.Digits.{length_digits}
 use Rattle.wire.proofs.Overs.{over_none}
@@ -117,8 +119,8 @@ module _ (f : Fault) (l x : List ℕ) (r : ℕ) where
   whole_told k e p = rw e (laid_as 0 95 160 r _ _ l x p refl (omega arith))
 
 pub words_given : (f : Fault) (n : ℕ) (x out out' : List ℕ) (r : Answer ℕ) → Laid 0 160 (fault_words f) (replicate 160 0) x n
-    → Kept (writing 0 out (done (take (n - 0) (drop 0 x)))) out out' r → Kept (writing 0 out (done (fault_words f))) out out' r
-words_given f n x out out' r p w = laid_whole 160 n (fault_words f) (replicate 160 0) x out out' r (omega (arith, length-replicate {A = ℕ} 160 0)) p w
+    → Kept (writing 0 out (done (take n x))) out out' r → Kept (writing 0 out (done (fault_words f))) out out' r
+words_given f n x out out' r p w = laid_whole 160 n (fault_words f) (replicate 160 0) x out out' r (omega (arith, length-replicate {A = ℕ} 160 0)) p (rw (sub-zero n) w)
 
 -- ---- the scan
 
@@ -130,15 +132,15 @@ text_most bs h =
     let e : length (text_of base64 bs) ≡ c = length-map (digits 64 c (number 256 bs * 2 ^ filling base64 n)) (letter base64) ∙ length_digits 64 c (number 256 bs * 2 ^ filling base64 n) in
     omega (arith, e, filled base64 base64_lawful n, filling_lt base64 base64_lawful n)
 
-module _ (bs x y : List ℕ) (short : length bs ≤ 800) (room : 1068 ≤ length x) (w : Wrote) (k : Written 0 (done (text_of base64 bs)) x y w) where
+module _ (bs x y : List ℕ) (short : length bs ≤ 800) (room : 1068 ≤ length x) (w : Result ℕ Refusal) (k : Written 0 (done (text_of base64 bs)) x y w) where
   -- it is not refused
-  pub text_never : (e : ℕ) → w ≡ Refused e → Laid 0 1067 (text_of base64 bs) x y 0
+  pub text_never : (e : Refusal) → w ≡ Err e → Laid 0 1067 (text_of base64 bs) x y 0
   text_never e q =
       ⊎_elim (λ o. let z : ◌≡◌ {A = ℕ} 0 1 = cc in absurd (omega arith))
       (λ o. absurd (omega (arith, o.2, ap length (done_value o.1), text_most bs short)))
-      (refused_why 0 (done (text_of base64 bs)) x y e 0 (rw q at k))
+      (refused_why 0 (done (text_of base64 bs)) x y (R.number e) 0 (rw q at k))
 
-  pub text_laid : (n : ℕ) → w ≡ Done n → Laid 0 1067 (text_of base64 bs) x y n
+  pub text_laid : (n : ℕ) → w ≡ Ok n → Laid 0 1067 (text_of base64 bs) x y n
   text_laid n q =
       let s = done_stood 0 (done (text_of base64 bs)) x y n (rw q at k) in
       let e : s.what ≡ text_of base64 bs = sym (done_value s.meant) in

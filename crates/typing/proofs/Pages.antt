@@ -7,7 +7,7 @@ use mathlib.Core.List.{List, [], ◌∷◌, ◌++◌}
 use native.Mathlib.Omega.{arith}
 use borrow.Author.Tests.{eq-eqb, ne_eqb, leb-true, eqb-true}
 use lib.Dec.{leb, eqb}
-use lib.ListN.{length, take, drop, replicate, length-take, length-append, length-replicate}
+use lib.ListN.{length, take, replicate, length-take, length-append, length-replicate}
 use Rattle.wire.specs.Answer.{choose, Answer, done, refused_at, then}
 use Rattle.wire.specs.Every.{every}
 use Rattle.wire.specs.Writing.{writing}
@@ -17,11 +17,15 @@ use Rattle.wire.proofs.Writes.{Stood, done_stood, refused_why}
 use Rattle.text.specs.Text.{zbase32, read_text}
 use Rattle.text.proofs.Forms.{zbase32_lawful}
 use Rattle.text.proofs.Round.{text_short}
-use Rattle.typed.specs.Typed.{most_lines, feed, is_letter, plain, lines_of, count_right, none, counts_right, data_of, right, joined_from, read_typed, read_line, line_told, ReadLines}
-use Rattle.typed.specs.declared.LineRead.{LineRead}
-use Rattle.typed.specs.declared.LineRead.TheVariants as L
-use Rattle.typed.specs.declared.TypedRead.{TypedRead}
-use Rattle.typed.specs.declared.TypedRead.TheVariants.{Done, Refused}
+use Rattle.typed.specs.Typed.{most_lines, feed, is_letter, plain, lines_of, count_right, none, counts_right, data_of, right, joined_from, read_typed, read_line, ReadLines}
+use Rattle.std.specs.Prelude.{Result, Ok, Err}
+use Rattle.std.specs.Result.{IsErr, IsErrAnd}
+use Rattle.wire.specs.Reading.{told_at}
+use Rattle.wire.specs.Refusal.{number}
+use Rattle.wire.specs.declared.Refusal.{Refusal}
+use Rattle.wire.specs.declared.Refusal.TheVariants.{BadCharacter, BadTextLength}
+use Rattle.wire.specs.declared.RefusedAt.{RefusedAt}
+use Rattle.wire.proofs.Answers.{err_is, number_injective}
 use Rattle.frame.specs.Frame.{frame_of}
 use Rattle.typing.specs.Typing.{scan_of, odd_line, count_fault, frame_fault, fault_of, line_fault}
 use Rattle.typing.specs.Private.{framed}
@@ -59,10 +63,14 @@ read_short cs bs e =
     let (ds, j, z) = then_done (joined_from 1 (lines_of cs)) (read_text zbase32) p in
     omega (arith, leb-true (length (lines_of cs)) 20 l, joined_most 1 (lines_of cs) ds c j, text_short zbase32 zbase32_lawful ds bs z)
 
+-- another refusal has another number
+other : {b a : Refusal} → (b ≡ a → ⊥) → number b ≡ number a → ⊥
+other {b} {a} n e = n (number_injective b a e)
+
 -- ---- what the reader answered, with room for all of that
 
-module _ (cs y : List ℕ) (r : TypedRead) (w : ReadLines (read_typed cs) (replicate 800 0) y r) where
-  module _ (n : ℕ) (q : r ≡ Done n) where
+module _ (cs y : List ℕ) (r : Result ℕ RefusedAt) (w : ReadLines (read_typed cs) (replicate 800 0) y r) where
+  module _ (n : ℕ) (q : r ≡ Ok n) where
     stood : Stood 0 (read_typed cs) (replicate 800 0) y n
     stood = done_stood 0 (read_typed cs) (replicate 800 0) y n (rw q at w)
 
@@ -72,49 +80,49 @@ module _ (cs y : List ℕ) (r : TypedRead) (w : ReadLines (read_typed cs) (repli
     read_fits : n ≤ 800
     read_fits = omega (arith, stood.fits, length-replicate {A = ℕ} 800 0)
 
-    pub part_short : length (take (n - 0) (drop 0 y)) ≤ 800
-    part_short = rw (length-take (n - 0) (drop 0 y)) (omega (arith, read_fits))
+    pub part_short : length (take n y) ≤ 800
+    part_short = rw (length-take n y) (omega (arith, read_fits))
 
-    read_is : read_typed cs ≡ done (take (n - 0) (drop 0 y))
+    read_is : read_typed cs ≡ done (take n y)
     read_is =
         let bs = stood.what in
-        let z : n - 0 ≡ length bs = omega (arith, stood.count) in
-        let e : take (n - 0) (drop 0 y) ≡ bs =
-        ap (λ (k : ℕ). take k (drop 0 y)) z ∙ ap (λ (x : List ℕ). take (length bs) (drop 0 x)) stood.stands
+        let z : n ≡ length bs = stood.count in
+        let e : take n y ≡ bs =
+        ap (λ (k : ℕ). take k y) z ∙ ap (λ (x : List ℕ). take (length bs) x) stood.stands
         ∙ read_over 0 bs (replicate 800 0) (omega (arith, stood.fits, stood.count)) in
         stood.meant ∙ ap (λ (b : List ℕ). done b) (sym e)
 
-    pub scan_done : (out out' : List ℕ) (s : TypedRead) → ReadLines (framed (take (n - 0) (drop 0 y))) out out' s → ReadLines (scan_of cs) out out' s
+    pub scan_done : (out out' : List ℕ) (s : Result ℕ RefusedAt) → ReadLines (framed (take n y)) out out' s → ReadLines (scan_of cs) out out' s
     unfolding scan_of framed
     scan_done out out' s k = rw read_is k
 
-    pub fault_read : (f : Fault) → (length cs ≡ 0 → ⊥) → f ≡ frame_fault (frame_of (take (n - 0) (drop 0 y))) → f ≡ fault_of cs
+    pub fault_read : (f : Fault) → (length cs ≡ 0 → ⊥) → f ≡ frame_fault (frame_of (take n y)) → f ≡ fault_of cs
     unfolding fault_of
     fault_read f h k = rw (ne_eqb (length cs) 0 h, read_is) k
 
-  module _ (e line : ℕ) (q : r ≡ Refused e line) where
-    refused_is : read_typed cs ≡ refused_at e line
+  module _ (b : RefusedAt) (q : r ≡ Err b) where
+    refused_is : read_typed cs ≡ refused_at (number b.why) b.place
     refused_is =
         ⊎_elim (λ p. p)
         (λ p. absurd (omega (arith, p.2, read_short cs p.0 p.1, length-replicate {A = ℕ} 800 0)))
-        (refused_why 0 (read_typed cs) (replicate 800 0) y e line (rw q at w))
+        (refused_why 0 (read_typed cs) (replicate 800 0) y (number b.why) b.place (rw q at w))
 
-    pub scan_refused : (out : List ℕ) → ReadLines (scan_of cs) out out r
+    pub scan_refused : (out : List ℕ) (s : Result ℕ RefusedAt) → IsErr s × IsErrAnd s (λ x. x ≡ b) → ReadLines (scan_of cs) out out s
     unfolding scan_of writing
-    scan_refused out = rw (refused_is, q) (record { answer = refl; bytes = refl })
+    scan_refused out s h = rw (err_is s b h, refused_is) (record { answer = refl; bytes = refl })
 
     module _ (h : length cs ≡ 0 → ⊥) where
-      pub fault_letter : (n : ℕ) → e ≡ 1 → n ≡ odd_line 1 cs → Letter n ≡ fault_of cs
+      pub fault_letter : (n : ℕ) → b.why ≡ BadCharacter → n ≡ odd_line 1 cs → Letter n ≡ fault_of cs
       unfolding fault_of
-      fault_letter n t k = rw (ne_eqb (length cs) 0 h, refused_is, eq-eqb e 1 t, k)
+      fault_letter n t k = rw (ne_eqb (length cs) 0 h, refused_is, t, k)
 
-      pub fault_count : (f : Fault) → (e ≡ 1 → ⊥) → e ≡ 2 → f ≡ count_fault 1 (lines_of cs) → f ≡ fault_of cs
+      pub fault_count : (f : Fault) → b.why ≡ BadTextLength → f ≡ count_fault 1 (lines_of cs) → f ≡ fault_of cs
       unfolding fault_of
-      fault_count f s t k = rw (ne_eqb (length cs) 0 h, refused_is, ne_eqb e 1 s, eq-eqb e 2 t) k
+      fault_count f t k = rw (ne_eqb (length cs) 0 h, refused_is, t) k
 
-      pub fault_mistyped : (e ≡ 1 → ⊥) → (e ≡ 2 → ⊥) → Mistyped line ≡ fault_of cs
+      pub fault_mistyped : (b.why ≡ BadCharacter → ⊥) → (b.why ≡ BadTextLength → ⊥) → Mistyped b.place ≡ fault_of cs
       unfolding fault_of
-      fault_mistyped s t = rw (ne_eqb (length cs) 0 h, refused_is, ne_eqb e 1 s, ne_eqb e 2 t)
+      fault_mistyped s t = rw (ne_eqb (length cs) 0 h, refused_is, ne_eqb (number b.why) 1 (other s), ne_eqb (number b.why) 2 (other t))
 
 pub fault_nothing : (cs : List ℕ) → length cs ≡ 0 → Nothing ≡ fault_of cs
 unfolding fault_of
@@ -122,21 +130,20 @@ fault_nothing cs h = rw (eq-eqb (length cs) 0 h)
 
 -- ---- one line
 
-module _ (n : ℕ) (cs : List ℕ) (r : LineRead) (w : line_told r ≡ read_line true n cs) where
-  pub line_right : r ≡ L.Right → Good ≡ line_fault n cs
+module _ (n : ℕ) (cs : List ℕ) (r : Result Unit RefusedAt) (w : told_at r ≡ read_line true n cs) where
+  pub line_right : (u : Unit) → r ≡ Ok u → Good ≡ line_fault n cs
   unfolding line_fault
-  line_right q = rw (← w, q)
+  line_right u q = rw (← w, q)
 
-  module _ (e line : ℕ) (q : r ≡ L.Refused e line) where
-    pub line_letter : e ≡ 1 → Letter n ≡ line_fault n cs
+  module _ (b : RefusedAt) (q : r ≡ Err b) where
+    pub line_letter : b.why ≡ BadCharacter → Letter n ≡ line_fault n cs
     unfolding line_fault
-    line_letter t = rw (← w, q, eq-eqb e 1 t)
+    line_letter t = rw (← w, q, t)
 
-    module _ (s : e ≡ 1 → ⊥) where
-      pub line_count : (k : ℕ) → e ≡ 2 → k ≡ length (plain cs) → Count n k true ≡ line_fault n cs
-      unfolding line_fault
-      line_count k t p = rw (← w, q, ne_eqb e 1 s, eq-eqb e 2 t, p)
+    pub line_count : (k : ℕ) → b.why ≡ BadTextLength → k ≡ length (plain cs) → Count n k true ≡ line_fault n cs
+    unfolding line_fault
+    line_count k t p = rw (← w, q, t, p)
 
-      pub line_mistyped : (e ≡ 2 → ⊥) → Mistyped line ≡ line_fault n cs
-      unfolding line_fault
-      line_mistyped t = rw (← w, q, ne_eqb e 1 s, ne_eqb e 2 t)
+    pub line_mistyped : (b.why ≡ BadCharacter → ⊥) → (b.why ≡ BadTextLength → ⊥) → Mistyped b.place ≡ line_fault n cs
+    unfolding line_fault
+    line_mistyped s t = rw (← w, q, ne_eqb (number b.why) 1 (other s), ne_eqb (number b.why) 2 (other t))

@@ -5,21 +5,17 @@ ghost use Rattle.typing.specs.Typing.{may_stand, line_after, odd_line, count_fau
 ghost use Rattle.typing.specs.Private.{stepped, ended};
 
 use crate::Fault;
+use wire::Refusal;
 
 const FEED: u8 = b'\n';
 
 // ---- a character that may not stand there
 
+#[tactic(auto, unfolding(crate::specs::Typing::may_stand, typed::specs::Typed::is_letter))]
 fn may_stand(c: u8) -> bool
     ensures { result ≡ may_stand c }
 {
-    if c == FEED {
-        return true;
-    }
-    if typed::skipped(c) {
-        return true;
-    }
-    text::zbase32_value(c) < 32
+    c == FEED || typed::skipped(c) || text::zbase32_value(c) < 32
 }
 
 fn line_after(n: usize, c: u8) -> usize
@@ -33,18 +29,16 @@ fn line_after(n: usize, c: u8) -> usize
 }
 
 // The number of the line with the first character that no line may have; 0 where there is none.
+// stays (1): so the definition of that name has it, by which `fault_of` tells the line
 pub(super) fn odd_line(text: &[u8]) -> usize
     ensures { result ≡ odd_line 1 text.now }
 {
     let mut n = 1;
-    let mut i = 0;
-    while i < text.len() {
-        let c = text[i];
-        if !may_stand(c) {
+    for c in text {
+        if !may_stand(*c) {
             return n;
         }
-        n = line_after(n, c);
-        i += 1;
+        n = line_after(n, *c);
     }
     0
 }
@@ -58,54 +52,39 @@ pub struct At {
     pub count: usize,
 }
 
-#[derive(Clone, Copy)]
-pub enum Step {
-    On { at: At },
-    // A line ends that has another count than it may have, or is the 20th.
-    Found { fault: Fault },
-}
-
 // Whether a line may have so many characters, as the last one or not.
 fn fits(count: usize, last: bool) -> bool
     ensures { result ≡ count_right last count }
 {
     if last {
-        if count < 3 {
-            return false;
-        }
-        return count <= typed::FULL_LINE;
+        3 <= count && count <= typed::FULL_LINE
+    } else {
+        count == typed::FULL_LINE
     }
-    count == typed::FULL_LINE
 }
 
-// The line ends, and another follows.
-fn close(a: At) -> Step
+// The line ends, and another follows; or it has another count than it may have, or is the 20th.
+fn close(a: At) -> Result<At, Fault>
     requires { a.n ≤ 20 }
     ensures { result ≡ stepped a 10 }
 {
     if !fits(a.count, false) {
-        return Step::Found {
-            fault: Fault::Count {
-                line: a.n,
-                count: a.count,
-                last: false,
-            },
-        };
+        return Err(Fault::Count {
+            line: a.n,
+            count: a.count,
+            last: false,
+        });
     }
     if a.n == typed::MOST_LINES {
-        return Step::Found {
-            fault: Fault::Surplus,
-        };
+        return Err(Fault::Surplus);
     }
-    Step::On {
-        at: At {
-            n: a.n + 1,
-            count: 0,
-        },
-    }
+    Ok(At {
+        n: a.n + 1,
+        count: 0,
+    })
 }
 
-fn feed(a: At, c: u8) -> Step
+fn feed(a: At, c: u8) -> Result<At, Fault>
     requires { (a.n ≤ 20) × (a.count < 0xFFFFFFFFFFFFFFFF) }
     ensures { result ≡ stepped a c }
 {
@@ -113,14 +92,12 @@ fn feed(a: At, c: u8) -> Step
         return close(a);
     }
     if typed::skipped(c) {
-        return Step::On { at: a };
+        return Ok(a);
     }
-    Step::On {
-        at: At {
-            n: a.n,
-            count: a.count + 1,
-        },
-    }
+    Ok(At {
+        count: a.count + 1,
+        ..a
+    })
 }
 
 fn end(a: At) -> Fault
@@ -128,7 +105,7 @@ fn end(a: At) -> Fault
 {
     if fits(a.count, true) {
         return Fault::Whole {
-            no: wire::BAD_TEXT_LENGTH,
+            no: u8::from(Refusal::BadTextLength),
         };
     }
     Fault::Count {
@@ -144,16 +121,11 @@ pub(super) fn count(text: &[u8]) -> Fault
     ensures { result ≡ count_fault 1 (lines_of text.now) }
 {
     let mut a = At { n: 1, count: 0 };
-    let mut i = 0;
-    while i < text.len() {
-        let r = feed(a, text[i]);
-        match r {
-            Step::Found { fault } => return fault,
-            Step::On { at } => {
-                a = at;
-            }
+    for c in text {
+        match feed(a, *c) {
+            Ok(at) => a = at,
+            Err(fault) => return fault,
         }
-        i += 1;
     }
     end(a)
 }

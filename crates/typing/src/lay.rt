@@ -8,7 +8,6 @@ ghost use Rattle.typing.specs.declared.Fault.TheVariants.{Count, Whole};
 ghost use Rattle.typing.specs.Words.{of_line, count_words, belong_words, fault_words};
 
 use crate::Fault;
-use wire::Wrote;
 
 const FULL_LINE: usize = 42;
 
@@ -17,8 +16,7 @@ fn encode(bytes: &[u8], out: &mut [u8]) -> usize
     requires { (length bytes.now ≤ 800) × (1068 ≤ length out.old) }
     ensures { Laid 0 1067 (text_of base64 bytes.now) out.old out.new result }
 {
-    let made = text::base64_write(bytes, out);
-    let Wrote::Done { len } = made else {
+    let Ok(len) = text::base64_write(bytes, out) else {
         return 0;
     };
     len
@@ -117,9 +115,9 @@ pub(super) fn words(fault: Fault, out: &mut [u8]) -> usize
             line,
             count: n,
             last,
-        } => count(out, line as usize, n, last),
+        } => count(out, usize::from(line), n, last),
         Fault::Surplus => say(out, 0, b"line 21 is one too many: a page has at most 20\n"),
-        Fault::Mistyped { line } => of_line(out, line as usize, b" was mistyped\n"),
+        Fault::Mistyped { line } => of_line(out, usize::from(line), b" was mistyped\n"),
         Fault::Whole { no } => whole(out, no),
     }
 }

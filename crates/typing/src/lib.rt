@@ -17,9 +17,7 @@ ghost use Rattle.typing.specs.Typing.{scan_of, frame_fault, fault_of, line_fault
 ghost use Rattle.typing.specs.Words.{fault_words};
 ghost use Rattle.typing.specs.Private.{framed};
 
-use frame::FrameRead;
-use typed::{LineRead, TypedRead};
-use wire::Wrote;
+use wire::{Refusal, RefusedAt};
 
 // What is wrong with the lines of a page, or with one line (R15.14).
 #[derive(Clone, Copy)]
@@ -39,6 +37,7 @@ pub enum Fault {
     Mistyped { line: u8 },
     // Each line is right, but the bytes of all are no good frame, or the lines do not end as bytes
     // do: the number of the refusal.
+    // stays (1): `frame_fault` and `told_number` speak of any number, and no `Refusal` has each
     Whole { no: u8 },
 }
 
@@ -52,51 +51,34 @@ pub const SCAN_ROOM: usize = 1068;
 pub const WORDS_ROOM: usize = 160;
 
 // The scan of bytes that are a frame.
-fn framed(bytes: &[u8], out: &mut [u8]) -> TypedRead
+fn framed(bytes: &[u8], out: &mut [u8]) -> Result<usize, RefusedAt>
     requires { length bytes.now ≤ 800 }
     ensures { ReadLines (framed bytes.now) out.old out.new result }
 {
-    let r = frame::read(bytes);
-    let FrameRead::Frame {
-        kind: _,
-        index: _,
-        total: _,
-        at: _,
-    } = r
-    else {
-        return TypedRead::Refused {
-            no: r.no(),
-            line: 0,
-        };
-    };
+    frame::read(bytes)?;
     let mut scan = [0u8; SCAN_ROOM];
     let len = lay::scan(bytes, &mut scan);
-    match lend::give(&scan[0..len], out) {
-        Wrote::Done { len } => TypedRead::Done { len },
-        Wrote::Refused { no } => TypedRead::Refused { no, line: 0 },
-    }
+    let given = lend::give(&scan[..len], out)?;
+    Ok(given)
 }
 
 // The scan of the page whose typed lines these are, base64 and a line feed, at the front of out,
 // and its length; or the refusal of `typed::read`, with its line, then that of `frame::read`, then
 // 11, and nothing changed.
-pub fn scan(text: &[u8], out: &mut [u8]) -> TypedRead
+pub fn scan(text: &[u8], out: &mut [u8]) -> Result<usize, RefusedAt>
     ensures { ReadLines (scan_of text.now) out.old out.new result }
 {
     let mut bytes = [0u8; ROOM];
-    let r = typed::read(text, &mut bytes);
-    let TypedRead::Done { len } = r else {
-        return r;
-    };
-    framed(&bytes[0..len], out)
+    let len = typed::read(text, &mut bytes)?;
+    framed(&bytes[..len], out)
 }
 
 fn whole(bytes: &[u8]) -> Fault
     ensures { result ≡ frame_fault (frame_of bytes.now) }
 {
     match frame::read(bytes) {
-        FrameRead::Refused { no } => Fault::Whole { no },
-        _ => Fault::Good,
+        Ok(_) => Fault::Good,
+        Err(why) => Fault::Whole { no: u8::from(why) },
     }
 }
 
@@ -104,23 +86,21 @@ fn whole(bytes: &[u8]) -> Fault
 pub fn page_fault(text: &[u8]) -> Fault
     ensures { result ≡ fault_of text.now }
 {
-    if text.len() == 0 {
+    if text.is_empty() {
         return Fault::Nothing;
     }
     let mut bytes = [0u8; ROOM];
     match typed::read(text, &mut bytes) {
-        TypedRead::Done { len } => whole(&bytes[0..len]),
-        TypedRead::Refused { no, line } => {
-            if no == wire::BAD_CHARACTER {
-                return Fault::Letter {
-                    line: faults::odd_line(text),
-                };
-            }
-            if no == wire::BAD_TEXT_LENGTH {
-                return faults::count(text);
-            }
-            Fault::Mistyped { line }
-        }
+        Ok(len) => whole(&bytes[..len]),
+        Err(refused) => match refused.why {
+            Refusal::BadCharacter => Fault::Letter {
+                line: faults::odd_line(text),
+            },
+            Refusal::BadTextLength => faults::count(text),
+            _ => Fault::Mistyped {
+                line: refused.place,
+            },
+        },
     }
 }
 
@@ -129,31 +109,27 @@ pub fn line_fault(text: &[u8], number: u8) -> Fault
     ensures { result ≡ line_fault number text.now }
 {
     match typed::line(text, number, true) {
-        LineRead::Right => Fault::Good,
-        LineRead::Refused { no, line: at } => {
-            if no == wire::BAD_CHARACTER {
-                return Fault::Letter {
-                    line: number as usize,
-                };
-            }
-            if no == wire::BAD_TEXT_LENGTH {
-                return Fault::Count {
-                    line: number,
-                    count: typed::counted(text),
-                    last: true,
-                };
-            }
-            Fault::Mistyped { line: at }
-        }
+        Ok(()) => Fault::Good,
+        Err(r) => match r.why {
+            Refusal::BadCharacter => Fault::Letter {
+                line: usize::from(number),
+            },
+            Refusal::BadTextLength => Fault::Count {
+                line: number,
+                count: typed::counted(text),
+                last: true,
+            },
+            _ => Fault::Mistyped { line: r.place },
+        },
     }
 }
 
 // What is wrong, in words, as one line at the front of out, and its length; or 11 and nothing
 // changed. Where nothing is wrong there are no words.
-pub fn words(fault: Fault, out: &mut [u8]) -> Wrote
+pub fn words(fault: Fault, out: &mut [u8]) -> Result<usize, Refusal>
     ensures { Written 0 (done (fault_words fault)) out.old out.new result }
 {
     let mut aside = [0u8; WORDS_ROOM];
     let len = lay::words(fault, &mut aside);
-    lend::give(&aside[0..len], out)
+    lend::give(&aside[..len], out)
 }

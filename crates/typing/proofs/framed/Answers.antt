@@ -2,11 +2,12 @@
 use Rattle.typing.proofs.Framing.{framed_refused, framed_done, framed_short}
 use Rattle.typing.proofs.framed.Goals as goal
 
-pub returns-in_default : goal.returns-in_default
-returns-in_default c = search framed_refused
+pub returns-in_err-read : goal.returns-in_err-read
+returns-in_err-read c = framed_refused _ _ c.read.ensures _ _ _ c.from_residual.ensures c.in_err-read.was
 
-pub returns-in-Done : goal.returns-in-Done
-returns-in-Done c = search framed_done
+pub returns-in_err-given : goal.returns-in_err-given
+returns-in_err-given c =
+    framed_short _ _ c.read.ensures _ c.in_ok-read.was _ _ _ _ c.scan-len.ensures _ _ _ c.from_residual-in_err-given.ensures c.in_err-given.was c.give.ensures
 
-pub returns-in-Refused : goal.returns-in-Refused
-returns-in-Refused c = search framed_short
+pub returns : goal.returns
+returns c = framed_done _ _ c.read.ensures _ c.in_ok-read.was _ _ _ _ c.scan-len.ensures _ c.in_ok-given.ensures

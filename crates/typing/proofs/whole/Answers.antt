@@ -2,8 +2,8 @@
 use Rattle.typing.proofs.Framing.{frame_refused, frame_good}
 use Rattle.typing.proofs.whole.Goals as goal
 
-pub returns-in-Refused : goal.returns-in-Refused
-returns-in-Refused c = search frame_refused
+pub returns-in-Ok : goal.returns-in-Ok
+returns-in-Ok c = frame_good _ _ c.read.ensures _ c.in-Ok.is
 
-pub returns-in_default : goal.returns-in_default
-returns-in_default c = search frame_good
+pub returns-in-Err : goal.returns-in-Err
+returns-in-Err c = frame_refused _ _ c.read.ensures _ _ c.in-Err.is c.from.ensures

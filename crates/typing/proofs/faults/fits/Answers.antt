@@ -2,11 +2,11 @@
 use Rattle.typing.proofs.Counting.{last_few, last_fits, full_fits}
 use Rattle.typing.proofs.faults.fits.Goals as goal
 
-pub returns-then-count-lt3 : goal.returns-then-count-lt3
-returns-then-count-lt3 c = search last_few
+pub returns-then-count-ge3 : goal.returns-then-count-ge3
+returns-then-count-ge3 c = search last_fits
 
-pub returns-then-last : goal.returns-then-last
-returns-then-last c = search last_fits
+pub returns-else-count-ge3 : goal.returns-else-count-ge3
+returns-else-count-ge3 c = search last_few
 
-pub returns : goal.returns
-returns c = search full_fits
+pub returns-else-last : goal.returns-else-last
+returns-else-last c = search full_fits

@@ -12,13 +12,13 @@ pub returns-in-Letter : goal.returns-in-Letter
 returns-in-Letter c = search letter_told
 
 pub returns-in-Count : goal.returns-in-Count
-returns-in-Count c = search count_told
+returns-in-Count c = count_told _ _ _ _ _ _ _ c.in-Count.is (rw c.from.ensures at c.count.ensures)
 
 pub returns-in-Surplus : goal.returns-in-Surplus
 returns-in-Surplus c = search surplus_told
 
 pub returns-in-Mistyped : goal.returns-in-Mistyped
-returns-in-Mistyped c = search mistyped_told
+returns-in-Mistyped c = mistyped_told _ _ _ _ _ c.in-Mistyped.is (rw c.from-in-Mistyped.ensures at c.of_line-in-Mistyped.ensures)
 
 pub returns-in-Whole : goal.returns-in-Whole
 returns-in-Whole c = search whole_told
