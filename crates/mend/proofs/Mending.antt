@@ -126,19 +126,7 @@ module _ (c : List ℕ) (ok : has_head c ≡ true) where
       ∙ ap (take 512) (drop-append-add (take 512 c) m (512 * k))
       ∙ mends_at (read_head c) c (head_size_lem c ok) (head_eight c ok) 0 96 k (512 * k) k h (omega arith) refl (omega arith)
 
--- ---- one block, by the test that the code makes
-
-module _ (c id : List ℕ) (k : ℕ) (q : Bool) (e : q ≡ ok_at (read_head c) k (page_at k c)) where
-  abbrev MendedAt : ℕ → List ℕ → Type 0
-  MendedAt r x =
-      (r ≡ choose (ok_at (read_head c) k (page_at k c)) 0 1)
-      × (x ≡ choose (ok_at (read_head c) k (page_at k c)) c (with_page (512 + 512 * k) id k absent c))
-
-  pub page_kept : q ≡ true → MendedAt 0 c
-  page_kept f = rw (← e, f) (refl, refl)
-
-  pub page_emptied : (at : ℕ) (x : List ℕ) → q ≡ false → at ≡ 512 + 512 * k → x ≡ with_page at id k absent c → MendedAt 1 x
-  page_emptied at x f p h = rw (← e, f) (refl, rw p at h)
+-- ---- one block
 
 -- it counts for at most one
 pub one_most : (c : List ℕ) (k r : ℕ) → r ≡ choose (ok_at (read_head c) k (page_at k c)) 0 1 → r ≤ 1

@@ -1,6 +1,4 @@
-use mathlib.Core.Path.{sym, ◌∙◌}
 use native.Mathlib.Omega.{arith}
-use Rattle.book.proofs.Decode.{head_size_lem}
 use Rattle.mend.proofs.Mending.{one_most, mending_none, mending_on, mending_end}
 use Rattle.mend.proofs.pages.Goals as goal
 
@@ -16,9 +14,6 @@ pub loop-k-preserved : goal.loop-k-preserved
 loop-k-preserved c =
     let made = c.page-count in
     mending_on _ c.requires _ _ _ c.loop-k.invariant (omega arith) _ _ _ c.id_copy-id.ensures made.ensures.0 made.ensures.1
-
-pub shape_of-c : goal.shape_of-c
-shape_of-c c = c.loop-k.invariant.size ∙ sym (head_size_lem _ c.requires)
 
 pub returns : goal.returns
 returns c = mending_end _ c.requires _ _ _ c.loop-k-test.false c.loop-k.invariant
