@@ -102,7 +102,8 @@ fn write(out: &mut [u8], at: usize, id: &[u8], index: u8, state: PageState, byte
 }
 
 // stays (5): at, id and index go together here and below, but each caller would build a struct for
-// one call.
+// one call. stays (2): hold, dispute and vacate are one function, `write`, under the names of its
+// three states.
 //
 // The block of a page that is held with these bytes, from the position on. Nothing changes where
 // there is no such block or no room.

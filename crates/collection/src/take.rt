@@ -76,6 +76,9 @@ fn vacate(c: &mut [u8], at: usize, id: &[u8], index: u8)
     }
 }
 
+// stays (5): `Of id c` stands in six contracts here and in merge, but of a lent buffer that is not
+// well formed in the middle of a call, so no type's invariant can hold it.
+//
 // Totals disagree: the head says so, and every page becomes absent (R9.4).
 pub(super) fn annul(c: &mut [u8], id: &[u8])
     requires { Of id.now c.old }

@@ -47,6 +47,8 @@ fn pages_line(c: &[u8], total: u8, out: &mut [u8]) -> Result<usize, Refusal>
     let n = standing::below(c, total);
     let lowest = tally::lowest(c, total, u8::from(PageState::Absent));
     let mut room = [0u8; ROOM];
+    // stays (6): no heap, so no String; a struct of the room and its length would need a clause on
+    // what stands in front at each call, and here each position is the next one's argument.
     let a = named(&mut room, 0, b"pages ", total);
     let b = named(&mut room, a, b" held ", n.held);
     let d = named(&mut room, b, b" missing ", n.missing);
