@@ -1,23 +1,17 @@
 -- What finish answers, by the tests that the code makes. Assumes nothing.
 use mathlib.Core.Path.{◌≡◌, refl, sym, ap, ◌∙◌}
-use mathlib.Core.Bool.{Bool, true, false}
 use mathlib.Core.List.{List}
 use Prim.Native.Nat.{ℕ, ◌≤◌, ◌<◌}
-use Rattle.std.specs.Prelude.{Result, Ok, Err}
+use Rattle.std.specs.Prelude.{Result, Err}
 use Rattle.std.specs.Result.{IsErr, IsErrAnd}
 use Rattle.std.proofs.lemmas.Result.{err_from_is_err_and}
 use native.Mathlib.Omega.{arith}
-use borrow.Author.Tests.{le-leb, lt-leb}
-use lib.Dec.{leb}
 use lib.ListN.{length}
 use Rattle.wire.specs.Answer.{Answer, done, refused_at, number_of}
-use Rattle.wire.specs.Over.{over}
 use Rattle.wire.specs.Refusal.{number, Placeless}
 use Rattle.wire.specs.declared.Refusal.{Refusal}
 use Rattle.wire.specs.declared.Refusal.TheVariants as refusal
 use Rattle.wire.specs.declared.RefusedAt.{RefusedAt}
-use Rattle.lend.specs.Same.{same}
-use Rattle.document_id.specs.Id.{document_id_of}
 use Rattle.model.specs.Book.{Slot, Book, empty, collecting, disagree}
 use Rattle.model.specs.Finish.{is_absent, is_disputed, lowest, joined, finish_pages, finish_book}
 use Rattle.model.proofs.Finished.{pages_disputed, pages_missing, pages_held}
@@ -40,38 +34,6 @@ denied v out e q = rw q (record { answer = refl; bytes = refl })
 -- the same of one without a place
 bare : (v : Answer (List ℕ)) (out : List ℕ) (w : Refusal) (e : RefusedAt) → Placeless w e → v ≡ refused_at (number w) 0 → Closed v out out (Err e)
 bare v out w e (p, k) q = denied v out e (rw (p, k) q)
-
--- ---- the data are there: the output, then the id
-
--- the data of the pages below t are n bytes
-module _ (c out : List ℕ) (t n : ℕ) (size : (n ≡ length (joined (read_pages 0 t c))) × (n ≤ 46080)) where
-  abbrev Delivered : List ℕ → Result ℕ RefusedAt → Type 0
-  Delivered out' r = Closed (vouched (id_of c) out (done (joined (read_pages 0 t c)))) out out' r
-
-  pub no_room : (e : RefusedAt) → Placeless refusal.NoRoom e → length out < n → Delivered out (Err e)
-  no_room e p h =
-      let l : length out < length (joined (read_pages 0 t c)) = omega (arith, size.0) in
-      bare (vouched (id_of c) out (done (joined (read_pages 0 t c)))) out refusal.NoRoom e p (rw (lt-leb (length (joined (read_pages 0 t c))) (length out) l))
-
-  module _ (fits : n ≤ length out) where
-    has_room : length (joined (read_pages 0 t c)) ≤ length out
-    has_room = omega (arith, size.0)
-
-    -- i is their id, and q whether the head has it
-    module _ (i j : List ℕ) (q : Bool) (e : i ≡ document_id_of (joined (read_pages 0 t c))) (g : j ≡ id_of c) (f : q ≡ same i j) where
-      test : q ≡ same (document_id_of (joined (read_pages 0 t c))) (id_of c)
-      test = f ∙ rw (e, g)
-
-      room : leb (length (joined (read_pages 0 t c))) (length out) ≡ true
-      room = le-leb (length (joined (read_pages 0 t c))) (length out) has_room
-
-      pub other_id : (r : RefusedAt) → Placeless refusal.OtherCiphertext r → q ≡ false → Delivered out (Err r)
-      other_id r p w = bare (vouched (id_of c) out (done (joined (read_pages 0 t c)))) out refusal.OtherCiphertext r p (rw (room, ← test, w))
-
-      pub delivered : (out' : List ℕ) → q ≡ true → out' ≡ over 0 (joined (read_pages 0 t c)) out → Delivered out' (Ok n)
-      delivered out' w o =
-          closed_as (vouched (id_of c) out (done (joined (read_pages 0 t c)))) (done (joined (read_pages 0 t c))) out out' (Ok n) (rw (room, ← test, w))
-          (record { answer = ap done size.0; bytes = o })
 
 -- ---- the pages below the total t: k is the lowest that is disputed, and j the lowest that is
 -- missing

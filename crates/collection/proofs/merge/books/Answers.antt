@@ -10,5 +10,5 @@ returns-then-theirs-eq-EMPTY c = search theirs_empty
 pub returns-then-theirs-eq-DISAGREE : goal.returns-then-theirs-eq-DISAGREE
 returns-then-theirs-eq-DISAGREE c = search theirs_disagree
 
-pub collecting-requires : goal.collecting-requires
-collecting-requires c = record { of = search rules; of_2 = (search rules, search of_state) }
+pub collecting-requires-clause-of_2 : goal.collecting-requires-clause-of_2
+collecting-requires-clause-of_2 c = (search rules, search of_state)

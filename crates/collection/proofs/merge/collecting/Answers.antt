@@ -8,12 +8,11 @@ use Rattle.collection.proofs.merge.collecting.Goals as goal
 pub returns-then-ours-eq-DISAGREE : goal.returns-then-ours-eq-DISAGREE
 returns-then-ours-eq-DISAGREE c = search ours_disagree
 
-pub pages-requires : goal.pages-requires
-pages-requires c =
-    let pre = c.requires in
-    let of = totalled_of _ _ _ pre.of pre.of_2.0 pre.of_2.1 _ c.state-ours.ensures _ c.total-total.ensures _ c.if-ours-eq-EMPTY.true c.write_head.ensures in
-    let one = totalled_one _ _ _ pre.of pre.of_2.0 pre.of_2.1 _ c.state-ours.ensures _ c.total-total.ensures _ c.if-ours-eq-EMPTY.true c.write_head.ensures in
-    record { of = of; of_2 = pre.of_2.0; one_total = one }
+pub pages-requires-clause-of : goal.pages-requires-clause-of
+pages-requires-clause-of c = search totalled_of
+
+pub pages-requires-clause-one_total : goal.pages-requires-clause-one_total
+pages-requires-clause-one_total c = search totalled_one
 
 pub returns-then-ours-eq-EMPTY : goal.returns-then-ours-eq-EMPTY
 returns-then-ours-eq-EMPTY c = search totalled_merged
@@ -21,7 +20,6 @@ returns-then-ours-eq-EMPTY c = search totalled_merged
 pub returns-then-total : goal.returns-then-total
 returns-then-total c = search both_two
 
-pub pages-requires-2 : goal.pages-requires-2
-pages-requires-2 c =
-    let one = of_state _ _ c.requires.of _ c.state-ours.ensures c.if-ours-eq-EMPTY.false c.if-ours-eq-DISAGREE.false in
-    record { of = search rules; of_2 = search rules; one_total = (one, search rules, cc) }
+pub pages-requires-2-clause-one_total : goal.pages-requires-2-clause-one_total
+pages-requires-2-clause-one_total c =
+    (of_state _ _ c.requires.of _ c.state-ours.ensures c.if-ours-eq-EMPTY.false c.if-ours-eq-DISAGREE.false, search rules, cc)

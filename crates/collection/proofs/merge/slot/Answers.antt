@@ -1,12 +1,11 @@
 -- `merge::slot` meets its contract, for each state of the other's block. Assumes nothing.
-use borrow.Author.Rules.{rules}
 use Rattle.block.specs.declared.PageState.TheVariants as state
 use Rattle.block.proofs.States.{ne_no}
 use Rattle.collection.proofs.Blocks.{data_short, joined_absent, joined_held, joined_disputed, joined_stays}
 use Rattle.collection.proofs.merge.slot.Goals as goal
 
-pub slot-requires : goal.slot-requires
-slot-requires c = record { block_of = search rules; bytes_len_bound = search data_short }
+pub slot-requires-clause-bytes_len_bound : goal.slot-requires-clause-bytes_len_bound
+slot-requires-clause-bytes_len_bound c = search data_short
 
 pub returns-in-Absent : goal.returns-in-Absent
 returns-in-Absent c = search (joined_absent, c.in-Absent.ensures)

@@ -6,11 +6,11 @@ use Rattle.collection.proofs.take.page.Goals as goal
 pub returns-then-state-eq-DISAGREE : goal.returns-then-state-eq-DISAGREE
 returns-then-state-eq-DISAGREE c = search taken_disagree
 
-pub slot-requires : goal.slot-requires
-slot-requires c = record { block_of = search first_block; bytes_len_bound = search rules }
+pub slot-requires-clause-block_of : goal.slot-requires-clause-block_of
+slot-requires-clause-block_of c = search first_block
 
 pub returns-then-state-eq-EMPTY : goal.returns-then-state-eq-EMPTY
 returns-then-state-eq-EMPTY c = search taken_first
 
-pub further-requires : goal.further-requires
-further-requires c = record { of = (search rules, search of_state); fits = search rules }
+pub further-requires-clause-of : goal.further-requires-clause-of
+further-requires-clause-of c = (search rules, search of_state)
