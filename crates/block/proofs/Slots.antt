@@ -12,12 +12,6 @@ use Rattle.model.specs.Finish.{is_absent, is_held}
 use Rattle.block.specs.Block.{state_of}
 use Rattle.block.specs.Read.{holding}
 
-pub state_most : (p : Slot) → state_of p ≤ 2
-unfolding state_of
-state_most absent = omega arith
-state_most (held d) = omega arith
-state_most disputed = omega arith
-
 -- the slot of a state
 pub is_absent_lem : (p : Slot) → state_of p ≡ 0 → p ≡ absent
 unfolding state_of

@@ -108,14 +108,6 @@ module _ (c : List ℕ) where
 -- ---- what the head says, of bytes that end before
 
 module _ (c : List ℕ) where
-  pub no_state : length c ≤ 3 → 0 ≡ (read_head c).state
-  unfolding read_head
-  no_state h = sym (get_or-eq_default c 0 h)
-
-  pub no_total : length c ≤ 12 → 0 ≡ (read_head c).total
-  unfolding read_head
-  no_total h = sym (get_or-eq_default c 0 h)
-
   pub no_id : length c < 4 → [] ≡ (read_head c).id
   unfolding read_head
   no_id h = sym (ap (take 8) (drop_of_length-le c {i = 4} (omega arith)))

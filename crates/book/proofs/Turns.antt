@@ -29,9 +29,6 @@ pub record Counted (c : List ℕ) (t s k n : ℕ) : Type 0 where
   pub among : n ≡ count (in_state s) (take k (read_pages 0 t c))
 
 module _ (c : List ℕ) (t s : ℕ) where
-  pub passed_none : Passed c t s 0
-  passed_none = record { most = omega arith; left = omega arith }
-
   pub passed_end : (k : ℕ) → t ≤ k → Passed c t s k → t ≡ lowest (in_state s) (read_pages 0 t c)
   passed_end k h p =
       let e : drop k (read_pages 0 t c) ≡ [] = drop_of_length-le (read_pages 0 t c) {i = k} (omega (arith, length_read 0 t c)) in

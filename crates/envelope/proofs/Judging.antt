@@ -68,10 +68,6 @@ count_fits m v next e =
     let l = told_listed m v next e in
     (omega (arith, l.count_is, (manifest_within m l.read).1), count_held m v l)
 
--- the sizes were said to add up
-pub sum_holds : (b : Bool) (x n : ℕ) → b ≡ eqb x n → not b ≡ false → x ≡ n
-sum_holds b x n e h = eqb-true x n (said_yes b _ e h)
-
 -- its files against the payload
 module _ (m p : List ℕ) (v : Manifest) (l : Listed m v) where
   -- as many files as the answer counts

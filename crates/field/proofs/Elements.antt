@@ -61,7 +61,3 @@ double_halves h l a b =
     ∙ xor_block 64 up 0 rest back r k
     ∙ ap (λ (x : ℕ). x * 2 ^ 64 + bit_xor rest back) (xor_zero_r up))
     ∙ two_halves up (bit_xor rest back) (xor_lt 64 rest back r k))
-
-pub pick_some : (n a : ℕ) → (n ≡ 0 → ⊥) → a ≡ pick n a
-pick_some zero a h = absurd (h refl)
-pick_some (suc n) a h = refl

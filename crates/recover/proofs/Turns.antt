@@ -63,9 +63,6 @@ module _ (ps : List Point) (x : ℕ) where
   unfolding newton_at
   value_start = sym (ap (λ (us : List Point). newton_at (xs_of us) (ds_of us) x) (drop_of_length-le ps {i = length ps} (omega arith)))
 
-  pub value_end : (k : ℕ) → k ≤ 0 → (made : List ℕ) → joined made ≡ newton_at (xs_of (drop k ps)) (ds_of (drop k ps)) x → joined made ≡ newton_at (xs_of ps) (ds_of ps) x
-  value_end k h made i = i ∙ ap (λ (m : ℕ). newton_at (xs_of (drop m ps)) (ds_of (drop m ps)) x) (let e : k ≡ 0 = omega arith in e)
-
 -- ---- elements compared half by half
 
 pub elements_compared : (a b : List ℕ) → length a ≡ 2 → length b ≡ 2 → get_or a 1 0 < 2 ^ 64 → get_or b 1 0 < 2 ^ 64 → pointwise eqb a b ≡ eqb (joined a) (joined b)

@@ -34,10 +34,6 @@ pub zeros_fewest : (n z : ℕ) → (n + 1 + z) % 64 ≡ 56 → zeros n ≤ z
 unfolding zeros
 zeros_fewest n z e = omega arith
 
-pub zeros_small : (n : ℕ) → zeros n < 64
-unfolding zeros
-zeros_small n = omega arith
-
 -- what is left of the message past its whole blocks, padded, is one block or two
 pub tail_fits : (n : ℕ) → n % 64 + 9 + zeros n ≤ 128
 unfolding zeros

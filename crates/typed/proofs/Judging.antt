@@ -25,41 +25,14 @@ use Rattle.typed.proofs.Rows.{count_bounds}
 
 -- ---- what is skipped
 
-pub skips_space : (c : ℕ) → c ≡ 32 → true ≡ skipped c
-unfolding skipped
-skips_space c e = rw (eq-eqb c 32 e)
-
-pub skips_tab : (c : ℕ) → c ≡ 9 → true ≡ skipped c
-unfolding skipped
-skips_tab c e = rw e
-
-pub skips_dash : (c : ℕ) → (c ≡ 32 → ⊥) → (c ≡ 9 → ⊥) → eqb c 45 ≡ skipped c
-unfolding skipped
-skips_dash c s t = rw (ne_eqb c 32 s, ne_eqb c 9 t)
-
 -- ---- one character
 
 and_no : (b : Bool) → (b && false) ≡ false
 and_no true = refl
 and_no false = refl
 
-feed_only : (b : Bool) → b ≡ typable b feed
-unfolding typable is_letter zbase32 zooko32 place
-feed_only true = refl
-feed_only false = refl
-
 module _ (feeds : Bool) (c : ℕ) (r : Bool) (e : r ≡ skipped c) where
-  pub may_skip : r ≡ true → true ≡ (skipped c || typable feeds c)
-  may_skip t = rw (sym e ∙ t)
-
   module _ (f : r ≡ false) where
-    pub may_feed : c ≡ feed → feeds ≡ (skipped c || typable feeds c)
-    may_feed q = rw (sym e ∙ f, q) (feed_only feeds)
-
-    pub may_letter : (c ≡ feed → ⊥) → (v : ℕ) → v ≡ value zbase32 c → ltb v 32 ≡ (skipped c || typable feeds c)
-    unfolding typable is_letter
-    may_letter n v q = rw (sym e ∙ f, ne_eqb c feed n, q, and_no feeds)
-
 -- ---- a whole text
 
 pub plain_most : (cs : List ℕ) → length (plain cs) ≤ length cs

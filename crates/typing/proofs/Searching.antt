@@ -16,19 +16,7 @@ use Rattle.typed.specs.Typed.{feed, skipped, is_letter}
 use Rattle.typing.specs.Typing.{may_stand, line_after, odd_line}
 
 module _ (c : ℕ) where
-  pub stands_feed : c ≡ feed → true ≡ may_stand c
-  unfolding may_stand
-  stands_feed e = rw (eq-eqb c feed e)
-
   module _ (n : c ≡ feed → ⊥) (r : Bool) (e : r ≡ skipped c) where
-    pub stands_skipped : r ≡ true → true ≡ may_stand c
-    unfolding may_stand
-    stands_skipped t = rw (ne_eqb c feed n, sym e ∙ t)
-
-    pub stands_letter : r ≡ false → (v : ℕ) → v ≡ value zbase32 c → ltb v 32 ≡ may_stand c
-    unfolding may_stand is_letter
-    stands_letter f v q = rw (ne_eqb c feed n, sym e ∙ f, q)
-
 pub after_feed : (n c : ℕ) → c ≡ feed → n + 1 ≡ line_after n c
 unfolding line_after
 after_feed n c e = rw (eq-eqb c feed e) (add-one n)
