@@ -7,23 +7,16 @@ use mathlib.Core.List.{List}
 use native.Mathlib.Omega.{arith}
 use borrow.Author.Tests.{le-leb, lt-leb, leb-true}
 use lib.Dec.{leb, eqb}
-use lib.ListN.{length, take, drop}
-use Rattle.wire.specs.Answer.{refused, got}
+use lib.ListN.{length, take, drop, length-drop}
+use lib.Seq.{length-take-le}
+use Rattle.wire.specs.Answer.{demand, refused, Got, got}
 use Rattle.wire.specs.Number.{number}
-use Rattle.wire.proofs.Cases.{passed, then_passed, got_next, got_value}
+use Rattle.wire.proofs.Cases.{not_done, passed, then_passed, got_next, got_value}
 use Rattle.wire.specs.declared.Span.{Span}
 use Rattle.lend.specs.Same.{same}
 use Rattle.cbor.specs.Item.{big_endian_at, name_at, key_at, head_at, number_at, contents_at, string_at, string_field_at, number_field_at}
 
 module _ (s : List ℕ) (at k : ℕ) where
-  pub number_there : at + k ≤ length s → (n : ℕ) → n ≡ number 256 (take k (drop at s)) → got n (at + k) ≡ big_endian_at s at k
-  unfolding big_endian_at
-  number_there h n e = rw (le-leb (at + k) (length s) h, e)
-
-  pub number_cut : length s < at + k → refused 3 ≡ big_endian_at s at k
-  unfolding big_endian_at
-  number_cut h = rw (lt-leb (at + k) (length s) h)
-
   pub contents_there : at + k ≤ length s → got (record { start = at; len = k }) (at + k) ≡ contents_at s at k
   unfolding contents_at
   contents_there h = rw (le-leb (at + k) (length s) h)
@@ -32,23 +25,67 @@ module _ (s : List ℕ) (at k : ℕ) where
   unfolding contents_at
   contents_cut h = rw (lt-leb (at + k) (length s) h)
 
--- the contents of a key: r is what the comparison with the bytes up to at + length name said
+  -- the k bytes are there, up to next
+  module _ {v : Span} (next : ℕ) (e : got v next ≡ contents_at s at k) where
+    there : (at + k ≤ length s) × (at + k ≡ next)
+    unfolding contents_at
+    there =
+        let p = passed (leb (at + k) (length s)) (got (record { start = at; len = k }) (at + k)) 3 (sym e) in
+        (leb-true (at + k) (length s) p.0, got_next p.1)
+
+    pub there_starts : at ≤ next
+    there_starts = omega (arith, there.1)
+
+    pub there_ends : next ≤ length s
+    there_ends = omega (arith, there.0, there.1)
+
+    pub there_long : next - at ≡ k
+    there_long = omega (arith, there.1)
+
+    pub there_few : k ≤ 8 → length (take (next - at) (drop at s)) ≤ 8
+    there_few h = omega (arith, there_long, length-take-le (next - at) (drop at s) (omega (arith, there.0, there_long, length-drop at s)))
+
+    pub number_there : (n : ℕ) → n ≡ number 256 (take (next - at) (drop at s)) → got n next ≡ big_endian_at s at k
+    unfolding big_endian_at
+    number_there n f =
+        let m : n ≡ number 256 (take k (drop at s)) = f ∙ ap (λ (j : ℕ). number 256 (take j (drop at s))) there_long in
+        rw (le-leb (at + k) (length s) there.0, ← m, there.1)
+
+  pub number_cut : (e : ℕ) → refused e ≡ contents_at s at k → refused e ≡ big_endian_at s at k
+  unfolding contents_at big_endian_at
+  number_cut e h = go (leb (at + k) (length s)) h
+    where
+      go : (t : Bool) → ◌≡◌ {A = Got Span} (refused e) (demand t 3 (got (record { start = at; len = k }) (at + k)))
+          → ◌≡◌ {A = Got ℕ} (refused e) (demand t 3 (got (number 256 (take k (drop at s))) (at + k)))
+      go true p = not_done p
+      go false p = cc
+
+-- the contents of a key: r is what the comparison with the bytes up to next said
 module _ (s : List ℕ) (at : ℕ) (name : List ℕ) where
-  pub name_cut : length s < at + length name → refused 3 ≡ name_at s at name
-  unfolding name_at
-  name_cut h = rw (lt-leb (at + length name) (length s) h)
+  pub name_cut : (e : ℕ) → refused e ≡ contents_at s at (length name) → refused e ≡ name_at s at name
+  unfolding contents_at name_at
+  name_cut e h = go (leb (at + length name) (length s)) h
+    where
+      go : (t : Bool) → ◌≡◌ {A = Got Span} (refused e) (demand t 3 (got (record { start = at; len = length name }) (at + length name)))
+          → ◌≡◌ {A = Got Unit} (refused e) (demand t 3 (demand (same name (take (length name) (drop at s))) 18 (got tt (at + length name))))
+      go true p = not_done p
+      go false p = cc
 
-  module _ (there : at + length name ≤ length s) (r : Bool) (e : r ≡ same name (take (at + length name - at) (drop at s))) where
+  module _ {v : Span} (next : ℕ) (f : got v next ≡ contents_at s at (length name)) (r : Bool) (e : r ≡ same name (take (next - at) (drop at s))) where
     said : same name (take (length name) (drop at s)) ≡ r
-    said = let k : length name ≡ at + length name - at = omega arith in ap (λ (j : ℕ). same name (take j (drop at s))) k ∙ sym e
+    said = ap (λ (j : ℕ). same name (take j (drop at s))) (sym (there_long s at (length name) next f)) ∙ sym e
 
-    pub name_there : r ≡ true → got tt (at + length name) ≡ name_at s at name
+    pub name_there : r ≡ true → got tt next ≡ name_at s at name
     unfolding name_at
-    name_there h = rw (le-leb (at + length name) (length s) there, said, h)
+    name_there h =
+        let t = there s at (length name) next f in
+        rw (le-leb (at + length name) (length s) t.0, said, h, t.1)
 
     pub name_other : r ≡ false → refused 18 ≡ name_at s at name
     unfolding name_at
-    name_other h = rw (le-leb (at + length name) (length s) there, said, h)
+    name_other h =
+        let t = there s at (length name) next f in
+        rw (le-leb (at + length name) (length s) t.0, said, h)
 
 -- ---- for callers: what an answer says of its values
 

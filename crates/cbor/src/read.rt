@@ -35,13 +35,8 @@ fn big_endian_at(s: &[u8], at: usize, k: usize) -> Result<(u64, usize), Refusal>
     requires { k ≤ 8 }
     ensures { told result ≡ big_endian_at s.now at k }
 {
-    if s.len() < at {
-        return Err(Refusal::CutOrLeftOver);
-    }
-    if s.len() - at < k {
-        return Err(Refusal::CutOrLeftOver);
-    }
-    Ok((big_endian(&s[at..at + k]), at + k))
+    let (_, next) = contents(s, at, k as u64)?;
+    Ok((big_endian(&s[at..next]), next))
 }
 
 // The number of a head whose first byte, with info in its low bits, stands before position at.
@@ -165,14 +160,7 @@ pub fn string<E: Fault>(
 fn name(s: &[u8], at: usize, wanted: &[u8]) -> Result<usize, Refusal>
     ensures { step_told result ≡ name_at s.now at wanted.now }
 {
-    let len = wanted.len();
-    if s.len() < at {
-        return Err(Refusal::CutOrLeftOver);
-    }
-    if s.len() - at < len {
-        return Err(Refusal::CutOrLeftOver);
-    }
-    let end = at + len;
+    let (_, end) = contents(s, at, wanted.len() as u64)?;
     if lend::equal(wanted, &s[at..end]) {
         return Ok(end);
     }
