@@ -2,7 +2,7 @@
 -- that without spaces they are the lines again. Assumes nothing.
 use Prim.Native.Nat.{ℕ, zero, suc, ◌+◌, ◌*◌, ◌≤◌, ◌<◌}
 use mathlib.Core.Path.{◌≡◌, refl, sym, ap, ap₂, ◌∙◌}
-use mathlib.Core.Bool.{Bool, true, false}
+use mathlib.Core.Bool.{Bool, true, false, not}
 use mathlib.Core.List.{List, [], ◌∷◌, ◌++◌, append_assoc, append-nil}
 use native.Mathlib.Numerals.{add-one}
 use native.Mathlib.Omega.{arith}
@@ -39,7 +39,7 @@ module _ (n c : ℕ) where
   unfolding standing
   next_stands h d e = (rw (ne_eqb c feed d, ne_eqb n 6 e, add-one n), omega (arith, h, e))
 
-  pub feed_begins_none : c ≡ feed → false ≡ begins n c
+  pub feed_begins_none : c ≡ feed → not (eqb c feed) ≡ begins n c
   unfolding begins
   feed_begins_none e = rw (eq-eqb c feed e)
 

@@ -7,7 +7,8 @@ use borrow.Author.Tests.{le-leb, lt-leb}
 use lib.ListN.{length, take, drop, replicate, length-replicate}
 use Rattle.wire.specs.Answer.{Answer, done, Kept}
 use Rattle.wire.specs.Writing.{Written, writing}
-use Rattle.wire.specs.declared.Wrote.TheVariants.{Done, Refused}
+use Rattle.std.specs.Prelude.{Ok, Err}
+use Rattle.wire.specs.declared.Refusal.TheVariants.{TooLarge}
 use Rattle.wire.proofs.Overs.{over_none}
 use Rattle.wire.proofs.Writes.{written, denied}
 use Rattle.digits.specs.Private.{Laid}
@@ -31,13 +32,13 @@ no_text bs e =
     none_left (text_of zbase32 bs)
     (omega (arith, text_length zbase32 bs, filled zbase32 zbase32_lawful (length bs), filling_lt zbase32 zbase32_lawful (length bs)))
 
-pub groups_none : (bs out : List ℕ) → length bs ≡ 0 → Written 0 (groups_verdict bs) out out (Done 0)
+pub groups_none : (bs out : List ℕ) → length bs ≡ 0 → Written 0 (groups_verdict bs) out out (Ok 0)
 unfolding groups_verdict rows numbered printed_lines
 groups_none bs out e = rw (le-leb (length bs) 500 (omega arith), no_text bs e) (written 0 out [] out 0 (omega arith) refl (sym (over_none 0 out)))
 
-pub groups_large : (bs out : List ℕ) → 500 < length bs → Written 0 (groups_verdict bs) out out (Refused 9)
+pub groups_large : (bs out : List ℕ) → 500 < length bs → Written 0 (groups_verdict bs) out out (Err TooLarge)
 unfolding groups_verdict
-groups_large bs out h = rw (lt-leb (length bs) 500 h) (denied 0 out 9)
+groups_large bs out h = rw (lt-leb (length bs) 500 h) (denied 0 out TooLarge)
 
 -- z holds in front what `typed` writes
 module _ (bs z : List ℕ) (m : ℕ) (n : length bs ≡ 0 → ⊥) (h : length bs ≤ 500) (p : Laid 0 859 (typed_of bs) (replicate 859 0) z m) where

@@ -7,13 +7,14 @@ use Prim.Native.Nat.{ℕ, ◌+◌, ◌-◌, ◌*◌, ◌^◌, ◌≤◌}
 use native.Mathlib.Omega.{arith}
 use borrow.Author.Tests.{le-leb}
 use lib.ListN.{length, take, drop, replicate, length-map, length-replicate}
+use Rattle.std.specs.Prelude.{Result, Ok, Err, IsOk}
 use Rattle.digits.specs.Private.{Laid}
 use Rattle.wire.specs.Number.{digits, number}
 use Rattle.wire.specs.Over.{over}
 use Rattle.wire.specs.Answer.{done}
 use Rattle.wire.specs.Writing.{Written}
-use Rattle.wire.specs.declared.Wrote.{Wrote}
-use Rattle.wire.specs.declared.Wrote.TheVariants.{Done, Refused}
+use Rattle.wire.specs.Refusal.{number as told_number}
+use Rattle.wire.specs.declared.Refusal.{Refusal}
 use Rattle.wire.proofs.Digits.{length_digits}
 use Rattle.wire.proofs.Cases.{done_value}
 use Rattle.wire.proofs.Writes.{done_stood, refused_why}
@@ -32,17 +33,18 @@ use Rattle.sheet.specs.Private.{There}
 
 -- ---- a writer that had room enough
 
-module _ (m : ℕ) (here x y : List ℕ) (short : length here ≤ m) (room : m ≤ length x) (r : Wrote) (w : Written 0 (done here) x y r) where
+module _ (m : ℕ) (here x y : List ℕ) (short : length here ≤ m) (room : m ≤ length x) where
   -- it is not refused
-  never : (e : ℕ) → r ≡ Refused e → Laid 0 m here x y 0
-  never e q =
+  fits : (r : Result ℕ Refusal) → Written 0 (done here) x y r → IsOk r
+  fits (Ok n) w = refl
+  fits (Err e) w =
       ⊎_elim (λ o. let z : ◌≡◌ {A = ℕ} 0 1 = cc in absurd (omega arith))
       (λ o. absurd (omega (arith, o.2, ap length (done_value o.1))))
-      (refused_why 0 (done here) x y e 0 (rw q at w))
+      (refused_why 0 (done here) x y (told_number e) 0 w)
 
   -- it stands in front
-  front : (n : ℕ) → r ≡ Done n → Laid 0 m here x y n
-  front n q =
+  front : (r : Result ℕ Refusal) (n : ℕ) → Written 0 (done here) x y r → r ≡ Ok n → Laid 0 m here x y n
+  front r n w q =
       let s = done_stood 0 (done here) x y n (rw q at w) in
       let e : s.what ≡ here = done_value (sym s.meant) in
       record { next = omega (arith, s.count, ap length e); short = short; stands = s.stands ∙ ap (λ (b : List ℕ). over 0 b x) e }
@@ -72,20 +74,20 @@ module _ (c : List ℕ) (size k : ℕ) (t : There c size k) where
       let n : ℕ = length (page_frame c size k) in
       rw (text_length base64 (page_frame c size k)) (omega (arith, page_short, filled base64 base64_lawful n, filling_lt base64 base64_lawful n))
 
-  module _ (x y : List ℕ) (r : Wrote) where
+  module _ (x y : List ℕ) (r : Result ℕ Refusal) where
     module _ (room : 500 ≤ length x) (w : Written 0 (page_verdict c size k) x y r) where
-      pub frame_never : (e : ℕ) → r ≡ Refused e → Laid 0 500 (page_frame c size k) x y 0
-      frame_never = never 500 (page_frame c size k) x y page_short room r (rw frame_there at w)
+      pub frame_fits : IsOk r
+      frame_fits = fits 500 (page_frame c size k) x y page_short room r (rw frame_there at w)
 
-      pub frame_laid : (n : ℕ) → r ≡ Done n → Laid 0 500 (page_frame c size k) x y n
-      frame_laid = front 500 (page_frame c size k) x y page_short room r (rw frame_there at w)
+      pub frame_laid : (n : ℕ) → r ≡ Ok n → Laid 0 500 (page_frame c size k) x y n
+      frame_laid n = front 500 (page_frame c size k) x y page_short room r n (rw frame_there at w)
 
     module _ (room : 667 ≤ length x) (w : Written 0 (typed base64 (page_verdict c size k)) x y r) where
-      pub square_never : (e : ℕ) → r ≡ Refused e → Laid 0 667 (text_of base64 (page_frame c size k)) x y 0
-      square_never = never 667 (text_of base64 (page_frame c size k)) x y square_short room r (rw frame_there at w)
+      pub square_fits : IsOk r
+      square_fits = fits 667 (text_of base64 (page_frame c size k)) x y square_short room r (rw frame_there at w)
 
-      pub square_laid : (n : ℕ) → r ≡ Done n → Laid 0 667 (text_of base64 (page_frame c size k)) x y n
-      square_laid = front 667 (text_of base64 (page_frame c size k)) x y square_short room r (rw frame_there at w)
+      pub square_laid : (n : ℕ) → r ≡ Ok n → Laid 0 667 (text_of base64 (page_frame c size k)) x y n
+      square_laid n = front 667 (text_of base64 (page_frame c size k)) x y square_short room r n (rw frame_there at w)
 
 -- where z holds the frame in front, what is spelt of it is the page's
 pub lines_laid : (c : List ℕ) (size k m n : ℕ) (z x y : List ℕ) → Laid 0 500 (page_frame c size k) (replicate 500 0) z m
@@ -94,16 +96,16 @@ lines_laid c size k m n z x y p q = rw (laid_part 500 m (page_frame c size k) (r
 
 -- ---- bytes that can be typed
 
-module _ (bs x y : List ℕ) (h : length bs ≤ 500) (room : 859 ≤ length x) (r : Wrote) (w : Written 0 (write_typed bs) x y r) where
+module _ (bs x y : List ℕ) (h : length bs ≤ 500) (room : 859 ≤ length x) (r : Result ℕ Refusal) (w : Written 0 (write_typed bs) x y r) where
   spelt_is : write_typed bs ≡ done (typed_of bs)
   unfolding write_typed
   spelt_is = rw (le-leb (length bs) 500 h)
 
-  pub spelt_never : (e : ℕ) → r ≡ Refused e → Laid 0 859 (typed_of bs) x y 0
-  spelt_never = never 859 (typed_of bs) x y (typed_short bs h) room r (rw spelt_is at w)
+  pub spelt_fits : IsOk r
+  spelt_fits = fits 859 (typed_of bs) x y (typed_short bs h) room r (rw spelt_is at w)
 
-  pub spelt_laid : (n : ℕ) → r ≡ Done n → Laid 0 859 (typed_of bs) x y n
-  spelt_laid = front 859 (typed_of bs) x y (typed_short bs h) room r (rw spelt_is at w)
+  pub spelt_laid : (n : ℕ) → r ≡ Ok n → Laid 0 859 (typed_of bs) x y n
+  spelt_laid n = front 859 (typed_of bs) x y (typed_short bs h) room r n (rw spelt_is at w)
 
 -- the text of a square, with its line feed, is the line
 pub line_laid : (c : List ℕ) (size k n at : ℕ) (y l u v : List ℕ) → v ≡ over (at + n) line_feed u → u ≡ over at (take (n - 0) (drop 0 y)) l

@@ -5,9 +5,7 @@ use Rattle.wire.specs.Answer.{choose, Answer, done}
 use Rattle.digits.specs.Decimal.{line_feed}
 use Rattle.typed.specs.Typed.{feed}
 use Rattle.page.specs.Page.{page_count, count_of, joined}
-use Rattle.sheet.specs.Sheet.{id_line, scan_line, typed_lines, printed}
-use Rattle.sheet.specs.declared.Form.{Form}
-use Rattle.sheet.specs.declared.Form.TheVariants.{Square, Below}
+use Rattle.sheet.specs.Sheet.{id_line, printed}
 
 -- the document can be printed in pages of this size, and has a page k
 pub record There (c : List ℕ) (size k : ℕ) : Type 0 where
@@ -31,13 +29,9 @@ unfoldable pub spread : ℕ → List ℕ → List ℕ
 spread n [] = line_feed
 spread n (c ∷ cs) = shown n c ++ spread (standing n c) cs
 
--- the lines of page k
-abbrev pub lines_of : Form → List ℕ → ℕ → ℕ → List ℕ
-lines_of Square = scan_line
-lines_of Below = typed_lines
+-- the id, and the lines of every page in order
+unfoldable pub sheet_of : (List ℕ → ℕ → ℕ → List ℕ) → List ℕ → ℕ → List ℕ
+sheet_of lines c size = id_line c ++ joined (page_count (length c) size) (lines c size)
 
-unfoldable pub sheet_of : Form → List ℕ → ℕ → List ℕ
-sheet_of f c size = id_line c ++ joined (page_count (length c) size) (lines_of f c size)
-
-unfoldable pub sheet_verdict : Form → List ℕ → ℕ → Answer (List ℕ)
-sheet_verdict f c size = printed (sheet_of f c size) (count_of (length c) size)
+unfoldable pub sheet_verdict : (List ℕ → ℕ → ℕ → List ℕ) → List ℕ → ℕ → Answer (List ℕ)
+sheet_verdict lines c size = printed (sheet_of lines c size) (count_of (length c) size)

@@ -8,7 +8,7 @@ ghost use Rattle.wire.specs.Writing.{Written};
 ghost use Rattle.sheet.specs.Sheet.{printed_lines, to_type, groups_verdict};
 ghost use Rattle.sheet.specs.Private.{There, standing, begins, shown, spread};
 
-use wire::Wrote;
+use wire::Refusal;
 
 // No frame of a page has more bytes, and no typed lines of one.
 const FRAME_ROOM: usize = 500;
@@ -40,10 +40,7 @@ fn stand(n: u8, c: u8) -> u8
 fn begins(n: u8, c: u8) -> bool
     ensures { result ≡ begins n c }
 {
-    if c == b'\n' {
-        return false;
-    }
-    n == GROUP
+    c != b'\n' && n == GROUP
 }
 
 fn show(out: &mut [u8], at: usize, n: u8, c: u8) -> usize
@@ -65,12 +62,9 @@ fn groups(text: &[u8], out: &mut [u8], at: usize) -> usize
 {
     let mut to = at;
     let mut n: u8 = 0;
-    let mut i = 0;
-    while i < text.len() {
-        let c = text[i];
+    for &c in text {
         to = show(out, to, n, c);
         n = stand(n, c);
-        i += 1;
     }
     lend::put(out, to, b'\n');
     to + 1
@@ -82,24 +76,18 @@ fn spell(bytes: &[u8], out: &mut [u8]) -> usize
     requires { (length bytes.now ≤ 500) × (859 ≤ length out.old) }
     ensures { Laid 0 859 (typed_of bytes.now) out.old out.new result }
 {
-    let made = typed::write(bytes, out);
-    let Wrote::Done { len } = made else {
-        return 0;
-    };
-    len
+    typed::write(bytes, out).unwrap()
 }
 
 // The lines in print, of any bytes. No bytes are no line, and more than 500 are not typed.
-pub(super) fn printed(bytes: &[u8], out: &mut [u8]) -> Wrote
+pub(super) fn printed(bytes: &[u8], out: &mut [u8]) -> Result<usize, Refusal>
     ensures { Written 0 (groups_verdict bytes.now) out.old out.new result }
 {
     if bytes.len() == 0 {
-        return Wrote::Done { len: 0 };
+        return Ok(0);
     }
     if FRAME_ROOM < bytes.len() {
-        return Wrote::Refused {
-            no: wire::TOO_LARGE,
-        };
+        return Err(Refusal::TooLarge);
     }
     let mut room = [0u8; TEXT_ROOM];
     let mut aside = [0u8; ROOM];
@@ -114,11 +102,7 @@ fn frame(c: &[u8], size: usize, k: usize, out: &mut [u8]) -> usize
     requires { There c.now size k × (500 ≤ length out.old) }
     ensures { Laid 0 500 (page_frame c.now size k) out.old out.new result }
 {
-    let made = page::write(c, size, k, out);
-    let Wrote::Done { len } = made else {
-        return 0;
-    };
-    len
+    page::write(c, size, k, out).unwrap()
 }
 
 fn text(c: &[u8], size: usize, k: usize, out: &mut [u8]) -> usize

@@ -9,7 +9,7 @@
 
 mod below;
 
-ghost use Rattle.std.specs.Prelude.{◌≡◌, ◌+◌, ◌*◌, ◌≤◌, ◌<◌, min, ltb, length};
+ghost use Rattle.std.specs.Prelude.{List, ℕ, ◌≡◌, ◌+◌, ◌*◌, ◌≤◌, ◌<◌, ltb, length};
 ghost use Rattle.digits.specs.Private.{Laid};
 ghost use Rattle.wire.specs.Over.{over};
 ghost use Rattle.wire.specs.Answer.{done, demand};
@@ -19,12 +19,11 @@ ghost use Rattle.digits.specs.Decimal.{numeral};
 ghost use Rattle.text.specs.Text.{base64, text_of};
 ghost use Rattle.page.specs.Page.{count_of, page_frame};
 ghost use Rattle.sheet.specs.Sheet.{id_line, place_line, scan_line, scan_verdict, typed_verdict, groups_verdict, typed_lines, place_verdict};
-ghost use Rattle.sheet.specs.Private.{There, lines_of, sheet_of, sheet_verdict};
+ghost use Rattle.sheet.specs.Private.{There, sheet_of, sheet_verdict};
 ghost use Rattle.sheet.specs.Word.{asked_of};
 ghost use Rattle.sheet.specs.Words.{given_words, large_words, reason_words, refusal_words};
 
-use page::PageCount;
-use wire::Wrote;
+use wire::Refusal;
 
 // The line of the document id: 16 digits and the line feed.
 const ID_LINE: usize = 17;
@@ -43,23 +42,6 @@ pub const ROOM: usize = ID_LINE + wire::MOST_PAGES * PAGE_ROOM;
 
 // Room for every line of a refusal.
 const REFUSAL_ROOM: usize = 200;
-
-// What is printed of a page.
-#[derive(Clone, Copy)]
-enum Form {
-    // The text of its code square, base64 (R15.4).
-    Square,
-    // What is typed that stands below the square: its place, and its typed lines (R15.4).
-    Below,
-}
-
-// A number, as a word says it (R15.5).
-#[derive(Clone, Copy)]
-pub enum Asked {
-    Number { n: u16 },
-    // The word is no decimal number.
-    Nothing,
-}
 
 // ---- the parts of a line
 
@@ -93,11 +75,7 @@ fn square(c: &[u8], size: usize, k: usize, out: &mut [u8]) -> usize
     requires { There c.now size k × (667 ≤ length out.old) }
     ensures { Laid 0 667 (text_of base64 (page_frame c.now size k)) out.old out.new result }
 {
-    let made = page::write_base64(c, size, k, out);
-    let Wrote::Done { len } = made else {
-        return 0;
-    };
-    len
+    page::write_base64(c, size, k, out).unwrap()
 }
 
 fn scan_line(c: &[u8], size: usize, k: usize, out: &mut [u8], at: usize) -> usize
@@ -111,84 +89,91 @@ fn scan_line(c: &[u8], size: usize, k: usize, out: &mut [u8], at: usize) -> usiz
     at + len + 1
 }
 
-fn lines(form: Form, c: &[u8], size: usize, k: usize, n: usize, out: &mut [u8], at: usize) -> usize
-    requires { (done n ≡ count_of (length c.now) size) × (k < n) × (at + 994 ≤ length out.old) }
-    ensures { Laid at 994 (lines_of form c.now size k) out.old out.new result }
-{
-    match form {
-        Form::Square => scan_line(c, size, k, out, at),
-        Form::Below => {
-            let next = place(out, at, k as u8, n as u8);
-            below::lines(c, size, k, out, next)
-        }
+// What is printed of a page, of the n that there are.
+trait Lines {
+    ghost of: { List ℕ → ℕ → ℕ → List ℕ };
+
+    fn lines(c: &[u8], size: usize, k: usize, n: usize, out: &mut [u8], at: usize) -> usize
+        requires { (done n ≡ count_of (length c.now) size) × (k < n) × (at + 994 ≤ length out.old) }
+        ensures { Laid at 994 (of c.now size k) out.old out.new result };
+}
+
+// The text of its code square, base64 (R15.4).
+struct Scanned;
+
+// What is typed that stands below the square: its place, and its typed lines (R15.4).
+struct ByHand;
+
+impl Lines for Scanned {
+    ghost of = { scan_line };
+
+    fn lines(c: &[u8], size: usize, k: usize, _: usize, out: &mut [u8], at: usize) -> usize {
+        scan_line(c, size, k, out, at)
+    }
+}
+
+impl Lines for ByHand {
+    ghost of = { typed_lines };
+
+    fn lines(c: &[u8], size: usize, k: usize, n: usize, out: &mut [u8], at: usize) -> usize {
+        let next = place(out, at, k as u8, n as u8);
+        below::lines(c, size, k, out, next)
     }
 }
 
 // ---- a whole sheet
 
 // The id and all pages, from the front of out on. Answers how many bytes they are.
-fn lay(form: Form, c: &[u8], size: usize, n: usize, out: &mut [u8]) -> usize
+fn lay<L: Lines>(c: &[u8], size: usize, n: usize, out: &mut [u8]) -> usize
     requires { (done n ≡ count_of (length c.now) size) × (17 + most_pages * 994 ≤ length out.old) }
-    ensures { Laid 0 (17 + most_pages * 994) (sheet_of form c.now size) out.old out.new result }
+    ensures { Laid 0 (17 + most_pages * 994) (sheet_of L.of c.now size) out.old out.new result }
 {
     id_line(c, out);
     let mut at = ID_LINE;
-    let mut k = 0;
-    while k < n {
-        at = lines(form, c, size, k, n, out, at);
-        k += 1;
+    for k in 0..n {
+        at = L::lines(c, size, k, n, out, at);
     }
     at
 }
 
 // The sheet is laid aside first, and given where there is room for all of it.
-fn all(form: Form, c: &[u8], size: usize, n: usize, aside: &mut [u8], out: &mut [u8]) -> Wrote
-    requires { (done n ≡ count_of (length c.now) size) × (17 + most_pages * 994 ≤ length aside.old) }
-    ensures { Written 0 (done (sheet_of form c.now size)) out.old out.new result }
-{
-    let len = lay(form, c, size, n, aside);
-    lend::give(&aside[0..len], out)
-}
-
+//
 // The room aside is made before anything is tested. With the test in front, the kit's LLVM at -O3
 // put the test before the stack frame too, and making so large a frame it overwrote the register
 // that held the length of c: every document was too large.
-fn sheet(form: Form, c: &[u8], size: usize, out: &mut [u8]) -> Wrote
-    ensures { Written 0 (sheet_verdict form c.now size) out.old out.new result }
+fn sheet<L: Lines>(c: &[u8], size: usize, out: &mut [u8]) -> Result<usize, Refusal>
+    ensures { Written 0 (sheet_verdict L.of c.now size) out.old out.new result }
 {
     let mut aside = [0u8; ROOM];
-    match page::count(c.len(), size) {
-        PageCount::Refused { no } => Wrote::Refused { no },
-        PageCount::Pages { n } => all(form, c, size, n, &mut aside, out),
-    }
+    let n = page::count(c.len(), size)?;
+    let len = lay::<L>(c, size, n, &mut aside);
+    lend::give(&aside[0..len], out)
 }
 
 // The lines of page k; 8 where the document has no such page (R7.4).
-fn one(c: &[u8], size: usize, k: usize, n: usize, out: &mut [u8]) -> Wrote
+fn one(c: &[u8], size: usize, k: usize, n: usize, out: &mut [u8]) -> Result<usize, Refusal>
     requires { done n ≡ count_of (length c.now) size }
     ensures { Written 0 (demand (ltb k n) 8 (done (typed_lines c.now size k))) out.old out.new result }
 {
     if n <= k {
-        return Wrote::Refused {
-            no: wire::BAD_PLACE,
-        };
+        return Err(Refusal::BadPlace);
     }
     let mut aside = [0u8; PAGE_ROOM];
-    let len = lines(Form::Below, c, size, k, n, &mut aside, 0);
+    let len = ByHand::lines(c, size, k, n, &mut aside, 0);
     lend::give(&aside[0..len], out)
 }
 
 // The document id and a base64 line for each page of this size, at the front of out, and their
 // length; or 19, 9, 11, and nothing changed.
-pub fn scans(c: &[u8], size: usize, out: &mut [u8]) -> Wrote
+pub fn scans(c: &[u8], size: usize, out: &mut [u8]) -> Result<usize, Refusal>
     ensures { Written 0 (scan_verdict c.now size) out.old out.new result }
 {
-    sheet(Form::Square, c, size, out)
+    sheet::<Scanned>(c, size, out)
 }
 
 // The typed lines of bytes, each in groups of six characters and with a line feed behind it, at the
 // front of out, and their length; or 9 for more than 500 bytes, 11, and nothing changed.
-pub fn in_groups(bytes: &[u8], out: &mut [u8]) -> Wrote
+pub fn in_groups(bytes: &[u8], out: &mut [u8]) -> Result<usize, Refusal>
     ensures { Written 0 (groups_verdict bytes.now) out.old out.new result }
 {
     below::printed(bytes, out)
@@ -196,54 +181,37 @@ pub fn in_groups(bytes: &[u8], out: &mut [u8]) -> Wrote
 
 // The document id, and for each page of this size its place and its typed lines in groups of six
 // characters, at the front of out, and their length; or 19, 9, 11, and nothing changed.
-pub fn typed(c: &[u8], size: usize, out: &mut [u8]) -> Wrote
+pub fn typed(c: &[u8], size: usize, out: &mut [u8]) -> Result<usize, Refusal>
     ensures { Written 0 (typed_verdict c.now size) out.old out.new result }
 {
-    sheet(Form::Below, c, size, out)
+    sheet::<ByHand>(c, size, out)
 }
 
 // The place and the typed lines of page k of this size alone, without the id, at the front of out,
 // and their length; or 19, 9, 8, 11, and nothing changed.
-pub fn typed_page(c: &[u8], size: usize, k: usize, out: &mut [u8]) -> Wrote
+pub fn typed_page(c: &[u8], size: usize, k: usize, out: &mut [u8]) -> Result<usize, Refusal>
     ensures { Written 0 (place_verdict c.now size k) out.old out.new result }
 {
-    match page::count(c.len(), size) {
-        PageCount::Refused { no } => Wrote::Refused { no },
-        PageCount::Pages { n } => one(c, size, k, n, out),
-    }
+    let n = page::count(c.len(), size)?;
+    one(c, size, k, n, out)
 }
 
-fn lesser(n: u32, most: u32) -> u32
-    ensures { result ≡ min n most }
-{
-    if n < most {
-        return n;
-    }
-    most
-}
-
-// The number that a word of decimal digits says, `most` where it is more; or that the word is no
-// number.
-pub fn number_asked(word: &[u8], most: u16) -> Asked
+// The number that a word of decimal digits says, `most` where it is more; none where the word is no
+// number (R15.5).
+pub fn number_asked(word: &[u8], most: u16) -> Option<u16>
     ensures { result ≡ asked_of most word.now }
 {
     if word.len() == 0 {
-        return Asked::Nothing;
+        return None;
     }
     let mut n: u32 = 0;
-    let mut i = 0;
-    while i < word.len() {
-        let b = word[i];
-        if b < b'0' {
-            return Asked::Nothing;
+    for &b in word {
+        if !b.is_ascii_digit() {
+            return None;
         }
-        if b'9' < b {
-            return Asked::Nothing;
-        }
-        n = lesser(n * 10 + (b - b'0') as u32, most as u32);
-        i += 1;
+        n = (n * 10 + u32::from(b - b'0')).min(u32::from(most));
     }
-    Asked::Number { n: n as u16 }
+    Some(n as u16)
 }
 
 // ---- the words beside a refusal
@@ -295,17 +263,17 @@ fn reason(out: &mut [u8], at: usize, no: u8, size: u16, given: u64) -> usize
     requires { at + 186 ≤ length out.old }
     ensures { Laid at 186 (reason_words no size given) out.old out.new result }
 {
-    if no == wire::OUT_OF_RANGE {
+    if no == u8::from(Refusal::OutOfRange) {
         return say(
             out,
             at,
             b"nothing was read: give the ciphertext on standard input",
         );
     }
-    if no == wire::TOO_LARGE {
+    if no == u8::from(Refusal::TooLarge) {
         return too_large(out, at, size, given);
     }
-    if no == wire::BAD_PLACE {
+    if no == u8::from(Refusal::BadPlace) {
         return say(
             out,
             at,
@@ -330,7 +298,8 @@ fn refused(out: &mut [u8], no: u8, size: u16, given: u64) -> usize
 // The line that tells a refusal of what is printed in pages of this size, and what to do, at the
 // front of out, and its length; or 11 and nothing changed. How many bytes were given is 0 where
 // nobody knows.
-pub fn refusal(no: u8, size: u16, given: u64, out: &mut [u8]) -> Wrote
+// stays (1): any number may be told, so `no` is no `Refusal` here
+pub fn refusal(no: u8, size: u16, given: u64, out: &mut [u8]) -> Result<usize, Refusal>
     ensures { Written 0 (done (refusal_words no size given)) out.old out.new result }
 {
     let mut aside = [0u8; REFUSAL_ROOM];

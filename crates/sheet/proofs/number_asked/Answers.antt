@@ -1,20 +1,31 @@
-use Rattle.sheet.proofs.Words.{nothing_said, saying_none, below_digits, above_digits, saying_on, saying_end}
+use mathlib.Core.Path.{sym, ◌∙◌}
+use native.Mathlib.Omega.{arith}
+use Rattle.sheet.proofs.Words.{nothing_said, saying_none, no_digit, saying_on, saying_end}
 use Rattle.sheet.proofs.number_asked.Goals as goal
 
 pub returns-then-word-eq0 : goal.returns-then-word-eq0
-returns-then-word-eq0 c = search nothing_said
+returns-then-word-eq0 c = nothing_said _ _ c.if-word-eq0.true
 
-pub loop-i-init : goal.loop-i-init
-loop-i-init c = search saying_none
+pub loop-b-init : goal.loop-b-init
+loop-b-init c = saying_none _ _ c.if-word-eq0.false
 
-pub returns-then-b-lt48 : goal.returns-then-b-lt48
-returns-then-b-lt48 c = below_digits _ _ _ _ c.loop-i.invariant c.loop-i-test.true c.if-b-lt48.true
+pub returns-then-not-is_ascii_digit : goal.returns-then-not-is_ascii_digit
+returns-then-not-is_ascii_digit c =
+    no_digit _ _ _ _ c.loop-b.invariant c.loop-b-test.true (sym c.is_ascii_digit.ensures.value ∙ c.if-not-is_ascii_digit.true)
 
-pub returns-then-b-gt57 : goal.returns-then-b-gt57
-returns-then-b-gt57 c = above_digits _ _ _ _ c.loop-i.invariant c.loop-i-test.true c.if-b-lt48.false c.if-b-gt57.true
+pub overflow_mul-n : goal.overflow_mul-n
+overflow_mul-n c = omega (arith, c.loop-b.invariant.small)
 
-pub loop-i-preserved : goal.loop-i-preserved
-loop-i-preserved c = saying_on _ _ _ _ c.loop-i.invariant _ c.loop-i-test.true c.if-b-lt48.false c.if-b-gt57.false c.lesser-n.ensures
+pub overflow_add-n : goal.overflow_add-n
+overflow_add-n c = omega (arith, c.loop-b.invariant.small, c.from.ensures)
+
+pub loop-b-preserved : goal.loop-b-preserved
+loop-b-preserved c =
+    saying_on _ _ _ _ c.loop-b.invariant _ c.loop-b-test.true (sym c.is_ascii_digit.ensures.value ∙ c.if-not-is_ascii_digit.false)
+    (omega (arith, c.min-n.ensures, c.from.ensures, c.from-in-loop-b.ensures))
+
+pub overflow_cast-result : goal.overflow_cast-result
+overflow_cast-result c = omega (arith, c.loop-b.invariant.small)
 
 pub returns : goal.returns
-returns c = saying_end _ _ _ _ c.loop-i.invariant c.loop-i-test.false
+returns c = saying_end _ _ _ _ c.loop-b.invariant c.loop-b-test.false

@@ -1,12 +1,10 @@
 -- `sheet::typed_page` meets its contract. Assumes nothing.
-use Rattle.sheet.proofs.Sheets.{told_pages, told_none, no_one_printed, one_printed}
+use Rattle.wire.proofs.Answers.{err_is}
+use Rattle.sheet.proofs.Sheets.{no_one_printed, one_printed}
 use Rattle.sheet.proofs.typed_page.Goals as goal
 
-pub one-requires : goal.one-requires
-one-requires c = told_pages c.in-Pages.is c.count.ensures
+pub returns-in_err-n : goal.returns-in_err-n
+returns-in_err-n c = rw (err_is _ _ c.from_residual.ensures) (no_one_printed _ _ _ c.in_err-n.ensures _ _)
 
-pub returns-in-Refused : goal.returns-in-Refused
-returns-in-Refused c = no_one_printed _ _ _ (told_none c.in-Refused.is c.count.ensures) _ _
-
-pub returns-in-Pages : goal.returns-in-Pages
-returns-in-Pages c = search (one_printed, told_pages)
+pub returns : goal.returns
+returns c = one_printed _ _ _ c.in_ok-n.ensures _ _ _ _ c.one.ensures

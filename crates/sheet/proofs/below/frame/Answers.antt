@@ -1,9 +1,9 @@
 -- `sheet::below::frame` meets its contract. Assumes nothing.
-use Rattle.sheet.proofs.Texts.{frame_never, frame_laid}
+use Rattle.sheet.proofs.Texts.{frame_fits, frame_laid}
 use Rattle.sheet.proofs.below.frame.Goals as goal
 
-pub returns-in_default : goal.returns-in_default
-returns-in_default c = search frame_never
+pub unwrap-requires : goal.unwrap-requires
+unwrap-requires c = frame_fits _ _ _ c.requires.0 _ _ _ c.requires.1 c.write.ensures
 
 pub returns : goal.returns
-returns c = search frame_laid
+returns c = frame_laid _ _ _ c.requires.0 _ _ _ c.requires.1 c.write.ensures _ c.unwrap.ensures

@@ -1,9 +1,9 @@
 -- `sheet::below::spell` meets its contract. Assumes nothing.
-use Rattle.sheet.proofs.Texts.{spelt_never, spelt_laid}
+use Rattle.sheet.proofs.Texts.{spelt_fits, spelt_laid}
 use Rattle.sheet.proofs.below.spell.Goals as goal
 
-pub returns-in_default : goal.returns-in_default
-returns-in_default c = search spelt_never
+pub unwrap-requires : goal.unwrap-requires
+unwrap-requires c = spelt_fits _ _ _ c.requires.0 c.requires.1 _ c.write.ensures
 
 pub returns : goal.returns
-returns c = search spelt_laid
+returns c = spelt_laid _ _ _ c.requires.0 c.requires.1 _ c.write.ensures _ c.unwrap.ensures
