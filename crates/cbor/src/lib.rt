@@ -62,6 +62,8 @@ pub enum Width {
 
 // The kinds of items. Each is the major type of its heads, but that a negative integer has the
 // major type NEGATIVE (R10.4).
+//
+// stays (1): `kind` and `major` may be any byte; an enum there would ask more of callers
 pub const INTEGER: u8 = 0;
 
 pub const NEGATIVE: u8 = 1;
