@@ -10,25 +10,16 @@ use Rattle.wire.specs.Writing.{writing}
 use Rattle.wire.proofs.Cases.{passed, then_done, done_value}
 use Rattle.lend.specs.Same.{same}
 use Rattle.typed.specs.Typed as T
-use Rattle.typed.specs.declared.TypedRead.{TypedRead}
-use Rattle.typed.specs.declared.TypedRead.TheVariants as L
+use Rattle.std.specs.Prelude.{Result, Ok}
+use Rattle.wire.specs.Reading.{told_at}
+use Rattle.wire.specs.declared.RefusedAt.{RefusedAt}
 use Rattle.typed.proofs.Round.{read_short}
 use Rattle.document_id.specs.Id.{document_id_of}
 use Rattle.model.proofs.Finished.{finish_short}
 use Rattle.book.specs.Read.{id_of, book_in}
 use Rattle.book.proofs.Judging.{judged_only}
 use Rattle.book.proofs.Decode.{decoded_valid}
-use Rattle.collection.specs.Answer.{told}
-use Rattle.collection.specs.declared.Answered.{Answered}
-use Rattle.collection.specs.declared.Answered.TheVariants as A
 use Rattle.finish.specs.Finish as F
-use Rattle.finish.specs.declared.Finished.{Finished}
-use Rattle.finish.specs.declared.Finished.TheVariants as E
-use Rattle.phone.specs.Packed.{packed_answer}
-
--- a refusal is its number
-pub refusal : (r : Answered) (e : ℕ) → r ≡ A.Refused e → e ≡ packed_answer (told r)
-refusal r e h = rw h (omega arith)
 
 -- what a function of the libraries answered, r, which is the case q, packed
 module _ {A R : Type 0} (pack : Answer A → ℕ) (told : R → Answer A) where
@@ -56,18 +47,18 @@ finished_most c out d h =
     let w = passed (same (document_id_of x) (id_of c)) _ 17 u.1 in
     omega (arith, collected_most c x e, ap length (done_value w.1))
 
-pub finish_most : (c out x : List ℕ) (r : Finished) (n : ℕ) → F.Closed (F.finished c out) out x r → r ≡ E.Done n → n < 0x1000000000000
+pub finish_most : (c out x : List ℕ) (r : Result ℕ RefusedAt) (n : ℕ) → F.Closed (F.finished c out) out x r → r ≡ Ok n → n < 0x1000000000000
 finish_most c out x r n k h =
-    let t = then_done (F.delivering out (F.finished c out)) _ (sym (sym (ap F.told h) ∙ k.answer)) in
+    let t = then_done (F.delivering out (F.finished c out)) _ (sym (sym (ap told_at h) ∙ k.answer)) in
     let (d, e, q) = then_done (F.finished c out) _ t.1 in
     omega (arith, finished_most c out d e, ap (λ p. p.1) (done_value q), done_value t.2)
 
 -- ---- typed lines have at most 500 bytes
 
-pub typed_most : (cs out x : List ℕ) (r : TypedRead) (n : ℕ) → T.ReadLines (T.read_typed cs) out x r → r ≡ L.Done n → n < 0x1000000000000
+pub typed_most : (cs out x : List ℕ) (r : Result ℕ RefusedAt) (n : ℕ) → T.ReadLines (T.read_typed cs) out x r → r ≡ Ok n → n < 0x1000000000000
 unfolding writing
 typed_most cs out x r n k h =
-    let t = then_done (writing 0 out (T.read_typed cs)) _ (sym (sym (ap T.told h) ∙ k.answer)) in
+    let t = then_done (writing 0 out (T.read_typed cs)) _ (sym (sym (ap told_at h) ∙ k.answer)) in
     let (d, e, q) = then_done (T.read_typed cs) _ t.1 in
     let u = passed (leb (0 + length d) (length out)) _ 11 q in
     omega (arith, read_short cs d e, ap (λ p. p.1) (done_value u.1), done_value t.2)

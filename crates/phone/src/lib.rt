@@ -5,6 +5,7 @@
 
 ghost use Rattle.std.specs.Prelude.{◌≡◌, ◌<◌};
 ghost use Rattle.wire.specs.Answer.{bytes_after, answer_of};
+ghost use Rattle.wire.specs.Refusal.{number};
 ghost use Rattle.wire.specs.Writing.{writing};
 ghost use Rattle.text.specs.Text.{base64, read_text};
 ghost use Rattle.typed.specs.Typed.{read_typed};
@@ -14,12 +15,7 @@ ghost use Rattle.finish.specs.Finish as F;
 ghost use Rattle.status.specs.Numbers.{standing};
 ghost use Rattle.phone.specs.Packed.{packed, packed_answer, packed_kind, packed_finish, packed_numbers, seeing, packed_frame, packed_text, packed_typed};
 
-use collection::{Answered, Offered};
-use finish::Finished;
-use frame::FrameRead;
-use status::standing::Standing;
-use typed::TypedRead;
-use wire::Wrote;
+use wire::{Refusal, RefusedAt};
 
 // What a count may be, in 48 bits.
 const COUNTS: u64 = 0x1000000000000;
@@ -29,15 +25,27 @@ fn pack(number: u8, place: u8, count: u64) -> u64
     requires { count < 0x1000000000000 }
     ensures { result ≡ packed number place count }
 {
-    number as u64 + 256 * (place as u64) + 65536 * count
+    u64::from(number) + 256 * u64::from(place) + 65536 * count
 }
 
-fn answer(r: Answered) -> u64
+fn refused(why: Refusal) -> u64
+    ensures { result ≡ packed (number why) 0 0 }
+{
+    pack(u8::from(why), 0, 0)
+}
+
+fn refused_at(e: RefusedAt) -> u64
+    ensures { result ≡ packed (number e.why) e.place 0 }
+{
+    pack(u8::from(e.why), e.place, 0)
+}
+
+fn answer(r: Result<(), Refusal>) -> u64
     ensures { result ≡ packed_answer (told r) }
 {
     match r {
-        Answered::Done => 0,
-        Answered::Refused { no } => no as u64,
+        Ok(_) => 0,
+        Err(why) => refused(why),
     }
 }
 
@@ -57,10 +65,9 @@ pub extern "C" fn stilt_offer(c: &mut [u8], frame: &[u8]) -> u64
     ensures value { result ≡ packed_kind (answer_of (offering c.old frame.now)) }
     ensures c_after { c.new ≡ bytes_after c.old (offering c.old frame.now) }
 {
-    let r = collection::offer(c, frame);
-    match r {
-        Offered::Done { kind } => pack(0, kind, 0),
-        Offered::Refused { no } => pack(no, 0, 0),
+    match collection::offer(c, frame) {
+        Ok(stands) => pack(0, u8::from(stands), 0),
+        Err(why) => refused(why),
     }
 }
 
@@ -81,10 +88,9 @@ pub extern "C" fn stilt_finish(c: &[u8], out: &mut [u8]) -> u64
     ensures value { result ≡ packed_finish (answer_of (F.finishing c.now out.old)) }
     ensures out_after { out.new ≡ bytes_after out.old (F.finishing c.now out.old) }
 {
-    let r = finish::finish(c, out);
-    match r {
-        Finished::Done { len } => pack(0, 0, len as u64),
-        Finished::Refused { no, place } => pack(no, place, 0),
+    match finish::finish(c, out) {
+        Ok(len) => pack(0, 0, len as u64),
+        Err(e) => refused_at(e),
     }
 }
 
@@ -95,17 +101,13 @@ pub extern "C" fn stilt_status(c: &[u8], pages: &mut [u8]) -> u64
     ensures value { result ≡ packed_numbers (answer_of (standing c.now pages.old)) }
     ensures pages_after { pages.new ≡ bytes_after pages.old (standing c.now pages.old) }
 {
-    let r = status::standing::of(c, pages);
-    match r {
-        Standing::Done { numbers: n } => pack(
+    match status::standing::of(c, pages) {
+        Ok(n) => pack(
             0,
             n.stands,
-            n.total as u64
-                + 0x100 * (n.held as u64)
-                + 0x10000 * (n.missing as u64)
-                + 0x1000000 * (n.disputed as u64),
+            u64::from(u32::from_le_bytes([n.total, n.held, n.missing, n.disputed])),
         ),
-        Standing::Refused { no } => pack(no, 0, 0),
+        Err(why) => refused(why),
     }
 }
 
@@ -116,21 +118,19 @@ pub extern "C" fn stilt_frame(s: &[u8], id: &mut [u8]) -> u64
     ensures value { result ≡ packed_frame (answer_of (seeing s.now id.old)) }
     ensures id_after { id.new ≡ bytes_after id.old (seeing s.now id.old) }
 {
-    let r = frame::read(s);
-    let FrameRead::Frame {
-        kind,
-        index,
-        total,
-        at: _,
-    } = r
-    else {
-        return pack(r.no(), 0, 0);
+    let f = match frame::read(s) {
+        Ok(f) => f,
+        Err(why) => return refused(why),
     };
     if id.len() < wire::ID_SIZE {
-        return pack(wire::NO_ROOM, 0, 0);
+        return refused(Refusal::NoRoom);
     }
     lend::copy(id, 0, &s[frame::ID_AT..frame::ID_END]);
-    pack(0, index as u8, total + 0x100 * (kind as u64))
+    pack(
+        0,
+        f.index as u8,
+        f.total + 0x100 * u64::from(u8::from(f.kind)),
+    )
 }
 
 // What `text::base64_read` does, for C: its answer, with the length, as one number, and the bytes
@@ -140,10 +140,9 @@ pub extern "C" fn stilt_base64(text: &[u8], out: &mut [u8]) -> u64
     ensures value { result ≡ packed_text (answer_of (writing 0 out.old (read_text base64 text.now))) }
     ensures out_after { out.new ≡ bytes_after out.old (writing 0 out.old (read_text base64 text.now)) }
 {
-    let r = text::base64_read(text, out);
-    match r {
-        Wrote::Done { len } => pack(0, 0, (len as u64) % COUNTS),
-        Wrote::Refused { no } => pack(no, 0, 0),
+    match text::base64_read(text, out) {
+        Ok(len) => pack(0, 0, (len as u64) % COUNTS),
+        Err(why) => refused(why),
     }
 }
 
@@ -154,9 +153,8 @@ pub extern "C" fn stilt_typed(text: &[u8], out: &mut [u8]) -> u64
     ensures value { result ≡ packed_typed (answer_of (writing 0 out.old (read_typed text.now))) }
     ensures out_after { out.new ≡ bytes_after out.old (writing 0 out.old (read_typed text.now)) }
 {
-    let r = typed::read(text, out);
-    match r {
-        TypedRead::Done { len } => pack(0, 0, len as u64),
-        TypedRead::Refused { no, line } => pack(no, line, 0),
+    match typed::read(text, out) {
+        Ok(len) => pack(0, 0, len as u64),
+        Err(e) => refused_at(e),
     }
 }

@@ -5,8 +5,8 @@ use Rattle.phone.specs.Packed.{packed_text}
 use Rattle.phone.proofs.Packing.{packs}
 use Rattle.phone.proofs.stilt_base64.Goals as goal
 
-pub returns-in-Done : goal.returns-in-Done
-returns-in-Done c = record { value = search (packs packed_text told); out_after = search rules }
+pub returns-in-Ok : goal.returns-in-Ok
+returns-in-Ok c = record { value = search (packs packed_text told); out_after = search rules }
 
-pub returns-in-Refused : goal.returns-in-Refused
-returns-in-Refused c = record { value = search (packs packed_text told); out_after = search rules }
+pub returns-in-Err : goal.returns-in-Err
+returns-in-Err c = record { value = search (packs packed_text told); out_after = search rules }

@@ -1,12 +1,18 @@
 -- `stilt_status` meets its contract. Assumes nothing.
+use mathlib.Core.Path.{ap, ◌∙◌}
+use native.Mathlib.Omega.{arith}
 use borrow.Author.Rules.{rules}
 use Rattle.status.specs.Numbers.{told}
-use Rattle.phone.specs.Packed.{packed_numbers}
+use Rattle.phone.specs.Packed.{packed, packed_numbers}
 use Rattle.phone.proofs.Packing.{packs}
 use Rattle.phone.proofs.stilt_status.Goals as goal
 
-pub returns-in-Done : goal.returns-in-Done
-returns-in-Done c = record { value = search (packs packed_numbers told); pages_after = search rules }
+pub returns-in-Ok : goal.returns-in-Ok
+returns-in-Ok c =
+    record {
+      value = packs packed_numbers told _ _ _ _ _ _ c.of.ensures c.in-Ok.is (c.pack.ensures ∙ ap (packed 0 c.in-Ok.n.stands) (omega (arith, c.from.ensures, c.from_le_bytes.ensures)));
+      pages_after = search rules;
+    }
 
-pub returns-in-Refused : goal.returns-in-Refused
-returns-in-Refused c = record { value = search (packs packed_numbers told); pages_after = search rules }
+pub returns-in-Err : goal.returns-in-Err
+returns-in-Err c = record { value = search (packs packed_numbers told); pages_after = search rules }
