@@ -23,16 +23,10 @@ use Rattle.wire.proofs.Cases.{said_yes, said_no, both_hold}
 use Rattle.typed.proofs.Cutting.{plain_append}
 use Rattle.typed.proofs.Rows.{count_bounds}
 
--- ---- what is skipped
-
--- ---- one character
-
 and_no : (b : Bool) → (b && false) ≡ false
 and_no true = refl
 and_no false = refl
 
-module _ (feeds : Bool) (c : ℕ) (r : Bool) (e : r ≡ skipped c) where
-  module _ (f : r ≡ false) where
 -- ---- a whole text
 
 pub plain_most : (cs : List ℕ) → length (plain cs) ≤ length cs
