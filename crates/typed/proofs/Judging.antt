@@ -31,8 +31,6 @@ and_no : (b : Bool) → (b && false) ≡ false
 and_no true = refl
 and_no false = refl
 
-module _ (feeds : Bool) (c : ℕ) (r : Bool) (e : r ≡ skipped c) where
-  module _ (f : r ≡ false) where
 -- ---- a whole text
 
 pub plain_most : (cs : List ℕ) → length (plain cs) ≤ length cs

@@ -15,8 +15,6 @@ use Rattle.text.specs.Text.{zbase32, value}
 use Rattle.typed.specs.Typed.{feed, skipped, is_letter}
 use Rattle.typing.specs.Typing.{may_stand, line_after, odd_line}
 
-module _ (c : ℕ) where
-  module _ (n : c ≡ feed → ⊥) (r : Bool) (e : r ≡ skipped c) where
 pub after_feed : (n c : ℕ) → c ≡ feed → n + 1 ≡ line_after n c
 unfolding line_after
 after_feed n c e = rw (eq-eqb c feed e) (add-one n)
