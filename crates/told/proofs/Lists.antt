@@ -12,6 +12,10 @@ use lib.ListN.{length, take, drop, replicate, length-replicate}
 use Rattle.wire.specs.Answer.{Answer, done, refused_at, number_of, Kept}
 use Rattle.wire.specs.Ascii.{ascii}
 use Rattle.wire.specs.Over.{over}
+use Rattle.std.specs.Prelude.{Result, Ok, Err}
+use Rattle.wire.specs.Reading.{told}
+use Rattle.wire.specs.Refusal.{number}
+use Rattle.wire.specs.declared.Refusal.{Refusal}
 use Rattle.wire.specs.Writing.{writing}
 use Rattle.wire.proofs.Overs.{over_none, length_over}
 use Rattle.digits.specs.Decimal.{decimal, line_feed}
@@ -22,9 +26,9 @@ use Rattle.model.specs.Finish.{is_absent, is_disputed, count}
 use Rattle.block.specs.Block.{state_of}
 use Rattle.block.specs.Read.{block_at, read_slot}
 use Rattle.book.specs.Head.{read_head}
-use Rattle.book.specs.Read.{page_at, read_pages, read_book, book_in}
+use Rattle.book.specs.Read.{page_at, read_pages, read_book, book_in, ok_book}
 use Rattle.book.specs.Tally.{in_state}
-use Rattle.book.proofs.Judging.{judged_done, judge_passed, judge_refused}
+use Rattle.book.proofs.Judging.{some_number, judged_done, judge_passed, judge_refused}
 use Rattle.book.proofs.Decode.{ok_state, ok_head_lem, head_allowed, total_range, book_0, book_1, book_2}
 use Rattle.book.proofs.Below.{in_absent, in_disputed, count_as, take_read}
 use Rattle.told.specs.Pages.{entry, listed, list_line, list_of, missing_line, disputed_line}
@@ -103,46 +107,54 @@ module _ (c l : List ℕ) (t s n : ℕ) where
 
 -- ---- the line
 
-module _ (c name : List ℕ) (t s n : ℕ) (e : n ≡ count (in_state s) (read_pages 0 t c)) (out out' : List ℕ) (r : Answer ℕ) where
+module _ (c name : List ℕ) (t s m n : ℕ) (d : m ≡ s) (f : n ≡ count (in_state m) (read_pages 0 t c)) (out out' : List ℕ) (r : Answer ℕ) where
+  counted : n ≡ count (in_state s) (read_pages 0 t c)
+  counted = rw d at f
+
   pub below_none : n ≡ 0 → Kept (writing 0 out (done [])) out out' r → Kept (writing 0 out (done (list_line name (in_state s) (read_pages 0 t c)))) out out' r
   unfolding list_line
-  below_none z w = rw (eq-eqb (count (in_state s) (read_pages 0 t c)) 0 (sym e ∙ z)) w
+  below_none z w = rw (eq-eqb (count (in_state s) (read_pages 0 t c)) 0 (sym counted ∙ z)) w
 
-  pub below_some : (n ≡ 0 → ⊥) → (m : ℕ) (x y : List ℕ) → Laid 0 393 (name ++ listed (in_state s) 0 (read_pages 0 t c)) (replicate 400 0) x m → y ≡ over m line_feed x
-      → Kept (writing 0 out (done (take (m + 1 - 0) (drop 0 y)))) out out' r → Kept (writing 0 out (done (list_line name (in_state s) (read_pages 0 t c)))) out out' r
+  pub below_some : (n ≡ 0 → ⊥) → (j : ℕ) (x y : List ℕ) → Laid 0 393 (name ++ listed (in_state s) 0 (read_pages 0 t c)) (replicate 400 0) x j → y ≡ over j line_feed x
+      → Kept (writing 0 out (done (take (j + 1 - 0) (drop 0 y)))) out out' r → Kept (writing 0 out (done (list_line name (in_state s) (read_pages 0 t c)))) out out' r
   unfolding list_line
-  below_some z m x y p v w =
+  below_some z j x y p v w =
       let room : length (replicate {A = ℕ} 400 0) ≡ 400 = length-replicate {A = ℕ} 400 0 in
-      rw (ne_eqb (count (in_state s) (read_pages 0 t c)) 0 (λ i. z (e ∙ i)))
-      (laid_whole 394 (m + 1) _ (replicate 400 0) y out out' r (omega arith)
-      (laid_then 0 393 m 1 (m + 1) _ _ (replicate 400 0) x y p (laid_one m 1 line_feed x y (m + 1) refl (omega arith) v) (omega (arith, p.next, p.short))) w)
+      rw (ne_eqb (count (in_state s) (read_pages 0 t c)) 0 (λ i. z (counted ∙ i)))
+      (laid_whole 394 (j + 1) _ (replicate 400 0) y out out' r (omega arith)
+      (laid_then 0 393 j 1 (j + 1) _ _ (replicate 400 0) x y p (laid_one j 1 line_feed x y (j + 1) refl (omega arith) v) (omega (arith, p.next, p.short))) w)
 
--- ---- of any bytes: n is what the judge answered
+-- ---- of any bytes: r is what the judge answered
 
-pub list_most : (c : List ℕ) (n : ℕ) → n ≡ number_of (book_in c) → n ≡ 0 → (s : ℕ) → s ≡ (read_head c).state → (t : ℕ) → s ≡ 1 → t ≡ (read_head c).total → t ≤ 96
-list_most c n e z s es t g et =
-    let r = total_range (read_head c).total (rw (sym es ∙ g) at (head_allowed c (ok_head_lem c (judge_passed c n e z)))) in
-    omega (arith, et, r.1)
+module _ (c : List ℕ) (r : Result Unit Refusal) (e : number_of (told r) ≡ number_of (book_in c)) where
+  sound : (u : Unit) → r ≡ Ok u → ok_book c ≡ true
+  sound u h = judge_passed c 0 (ap (λ (q : Result Unit Refusal). number_of (told q)) (sym h) ∙ e) refl
 
-module _ (c name : List ℕ) (f : Slot → Bool) (n : ℕ) (e : n ≡ number_of (book_in c)) where
-  pub list_refused : (n ≡ 0 → ⊥) → list_of name f (book_in c) ≡ []
-  list_refused z = rw (judge_refused c n e z)
+  pub list_most : (u : Unit) → r ≡ Ok u → (s : ℕ) → s ≡ (read_head c).state → (t : ℕ) → s ≡ 1 → t ≡ (read_head c).total → t ≤ 96
+  list_most u h s es t g et =
+      let k = total_range (read_head c).total (rw (sym es ∙ g) at (head_allowed c (ok_head_lem c (sound u h)))) in
+      omega (arith, et, k.1)
 
-  module _ (z : n ≡ 0) (s : ℕ) (es : s ≡ (read_head c).state) where
-    pub list_pageless : (s ≡ 1 → ⊥) → list_of name f (book_in c) ≡ []
-    list_pageless g = go (eqb s 0) refl
-      where
-        go : (w : Bool) → eqb s 0 ≡ w → list_of name f (book_in c) ≡ []
-        go true h = rw (judged_done c (judge_passed c n e z), book_0 c (sym es ∙ eqb-true s 0 h))
-        go false h =
-            let two : (read_head c).state ≡ 2 = omega (arith, ok_state c (judge_passed c n e z), eqb-false s 0 h) in
-            rw (judged_done c (judge_passed c n e z), book_2 c two)
+  module _ (name : List ℕ) (f : Slot → Bool) where
+    pub list_refused : (why : Refusal) → r ≡ Err why → list_of name f (book_in c) ≡ []
+    list_refused why h =
+        rw (judge_refused c (number why) (ap (λ (q : Result Unit Refusal). number_of (told q)) (sym h) ∙ e) (some_number why))
 
-    module _ (t : ℕ) (g : s ≡ 1) (et : t ≡ (read_head c).total) where
-      pub list_pages : list_of name f (book_in c) ≡ list_line name f (read_pages 0 t c)
-      list_pages =
-          let b : read_book c ≡ collecting t (read_pages 0 96 c) = rw et (book_1 c (sym es ∙ g)) in
-          rw (judged_done c (judge_passed c n e z), b) (ap (list_line name f) (take_read 0 96 t c (list_most c n e z s es t g et)))
+    module _ (u : Unit) (h : r ≡ Ok u) (s : ℕ) (es : s ≡ (read_head c).state) where
+      pub list_pageless : (s ≡ 1 → ⊥) → list_of name f (book_in c) ≡ []
+      list_pageless g = go (eqb s 0) refl
+        where
+          go : (w : Bool) → eqb s 0 ≡ w → list_of name f (book_in c) ≡ []
+          go true z = rw (judged_done c (sound u h), book_0 c (sym es ∙ eqb-true s 0 z))
+          go false z =
+              let two : (read_head c).state ≡ 2 = omega (arith, ok_state c (sound u h), eqb-false s 0 z) in
+              rw (judged_done c (sound u h), book_2 c two)
+
+      module _ (t : ℕ) (g : s ≡ 1) (et : t ≡ (read_head c).total) where
+        pub list_pages : list_of name f (book_in c) ≡ list_line name f (read_pages 0 t c)
+        list_pages =
+            let b : read_book c ≡ collecting t (read_pages 0 96 c) = rw et (book_1 c (sym es ∙ g)) in
+            rw (judged_done c (sound u h), b) (ap (list_line name f) (take_read 0 96 t c (list_most u h s es t g et)))
 
 -- ---- by what the number of a state means
 

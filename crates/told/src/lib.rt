@@ -12,7 +12,7 @@ ghost use Rattle.wire.specs.Writing.{Written};
 ghost use Rattle.digits.specs.Private.{Laid};
 ghost use Rattle.told.specs.Lines.{counted, counts_line};
 
-use wire::Wrote;
+use wire::Refusal;
 
 // Room for the line of the counts: the names, five numbers and the line feed.
 const ROOM: usize = 180;
@@ -20,10 +20,7 @@ const ROOM: usize = 180;
 fn at(notes: &[u64], k: usize) -> u64
     ensures { result ≡ get_or notes.now k 0 }
 {
-    if k < notes.len() {
-        return notes[k];
-    }
-    0
+    notes.get(k).copied().unwrap_or(0)
 }
 
 // A name and a number of the notes, from index `from` on. Answers the index behind them.
@@ -38,7 +35,7 @@ fn named(out: &mut [u8], from: usize, name: &[u8], notes: &[u64], k: usize) -> u
 
 // How many lines came to what, as notes say it, at the front of out, and the line's length; or 11
 // and nothing changed.
-pub fn lines(notes: &[u64], out: &mut [u8]) -> Wrote
+pub fn lines(notes: &[u64], out: &mut [u8]) -> Result<usize, Refusal>
     ensures { Written 0 (done (counts_line notes.now)) out.old out.new result }
 {
     let mut room = [0u8; ROOM];

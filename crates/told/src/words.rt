@@ -7,106 +7,86 @@ ghost use Rattle.digits.specs.Hex.{hex_of};
 ghost use Rattle.book.specs.Read.{id_of};
 ghost use Rattle.told.specs.Words.{advice as advice_of, first_advice, stranger_line};
 
-use wire::Wrote;
+use wire::Refusal;
 
 // Room for the line of two ids.
 const ROOM: usize = 128;
 
+// stays (1): no and fault are any number, since an enum would ask more of callers.
+
 // What finish or the kept file answered, 0 or a refusal's number, as a line at the front of out,
 // and its length; or 11 and nothing changed.
-pub fn advice(no: u8, out: &mut [u8]) -> Wrote
+pub fn advice(no: u8, out: &mut [u8]) -> Result<usize, Refusal>
     ensures { Written 0 (done (advice_of no)) out.old out.new result }
 {
-    if no == wire::DONE {
-        return lend::give(
+    match no {
+        0 => lend::give(
             b"complete: every page is here, and together they are the document\n",
             out,
-        );
-    }
-    if no == wire::NO_ROOM {
-        return lend::give(
+        ),
+        11 => lend::give(
             b"refused 11: the file named above cannot be read or written: mend that, and run pantry again on the same scans\n",
             out,
-        );
-    }
-    if no == wire::BAD_COLLECTION {
-        return lend::give(
+        ),
+        13 => lend::give(
             b"refused 13: the kept file is damaged, or no collection, and stays as it is: move it away, and scan every page again\n",
             out,
-        );
-    }
-    if no == wire::TOTALS_DISAGREE {
-        return lend::give(
+        ),
+        14 => lend::give(
             b"refused 14: the pages name different totals, so some are of another print: scan into a new collection without those\n",
             out,
-        );
-    }
-    if no == wire::PAGE_DISPUTED {
-        return lend::give(
+        ),
+        15 => lend::give(
             b"refused 15: a disputed page was read in two versions: scan every page into a new collection, and these with care\n",
             out,
-        );
-    }
-    if no == wire::PAGE_MISSING {
-        return lend::give(
+        ),
+        16 => lend::give(
             b"refused 16: not complete: scan the pages that are missing\n",
             out,
-        );
-    }
-    if no == wire::OTHER_CIPHERTEXT {
-        return lend::give(
+        ),
+        17 => lend::give(
             b"refused 17: every page is here, but they are not the document of this id: compare the id, and scan into a new collection\n",
             out,
-        );
+        ),
+        _ => digits::refused_line(no, out),
     }
-    digits::refused_line(no, out)
 }
 
 // What is wrong with the first line, as the notes of a session say it, or that there is none, as a
 // line at the front of out, and its length; or 11 and nothing changed.
-pub fn first_advice(fault: u64, out: &mut [u8]) -> Wrote
+pub fn first_advice(fault: u64, out: &mut [u8]) -> Result<usize, Refusal>
     ensures { Written 0 (done (first_advice fault)) out.old out.new result }
 {
-    if fault == 0 {
-        return lend::give(
+    match fault {
+        0 => lend::give(
             b"refused 19: the input is empty: the first line is the document's id, and each further one a scan\n",
             out,
-        );
-    }
-    if fault == 1 {
-        return lend::give(
+        ),
+        1 => lend::give(
             b"refused 19: the first line is not 16 digits long: it must be the document's id\n",
             out,
-        );
-    }
-    if fault == 2 {
-        return lend::give(
+        ),
+        2 => lend::give(
             b"refused 19: the first line has a carriage return: the document's id ends with a line feed alone\n",
             out,
-        );
-    }
-    if fault == 3 {
-        return lend::give(
+        ),
+        3 => lend::give(
             b"refused 19: the first line has a blank: the document's id is 16 digits and nothing else\n",
             out,
-        );
-    }
-    if fault == 4 {
-        return lend::give(
+        ),
+        4 => lend::give(
             b"refused 19: the first line has a capital letter: the document's id is in small letters\n",
             out,
-        );
-    }
-    if fault == 5 {
-        return lend::give(
+        ),
+        5 => lend::give(
             b"refused 19: the first line has a sign beyond ASCII, perhaps a byte order mark in front: it must be the document's id alone\n",
             out,
-        );
+        ),
+        _ => lend::give(
+            b"refused 19: the first line is not the document's id, which is 16 digits of 0 to 9 and a to f\n",
+            out,
+        ),
     }
-    lend::give(
-        b"refused 19: the first line is not the document's id, which is 16 digits of 0 to 9 and a to f\n",
-        out,
-    )
 }
 
 // An id in hex, from the index on. Answers the index behind it.
@@ -130,7 +110,7 @@ fn text(out: &mut [u8], at: usize, words: &[u8]) -> usize
 
 // That the kept file and what was scanned are of two documents, by their ids, as a line at the
 // front of out, and its length; or 11 and nothing changed.
-pub fn stranger(kept: &[u8], scanned: &[u8], out: &mut [u8]) -> Wrote
+pub fn stranger(kept: &[u8], scanned: &[u8], out: &mut [u8]) -> Result<usize, Refusal>
     ensures { Written 0 (done (stranger_line (id_of kept.now) (id_of scanned.now))) out.old out.new result }
 {
     let mut room = [0u8; ROOM];

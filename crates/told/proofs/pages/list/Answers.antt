@@ -4,8 +4,8 @@ use Rattle.told.proofs.Lists.{list_refused, list_pageless, list_most, list_pages
 use borrow.Author.Rules.{rules}
 use Rattle.told.proofs.pages.list.Goals as goal
 
-pub returns-then-judge-ne-DONE : goal.returns-then-judge-ne-DONE
-returns-then-judge-ne-DONE c = search (written_as, list_refused)
+pub returns-in_default : goal.returns-in_default
+returns-in_default c = search (written_as, list_refused)
 
 pub returns-then-state-ne-COLLECTING : goal.returns-then-state-ne-COLLECTING
 returns-then-state-ne-COLLECTING c = search (written_as, list_pageless)

@@ -1,33 +1,45 @@
 -- `told::words::first_advice` meets its contract. Assumes nothing.
+use mathlib.Core.Path.{◌≡◌, ap}
+use native.Mathlib.Omega.{arith}
 use Rattle.wire.proofs.Branch.{branch, tests}
 use Rattle.told.specs.Words.{first_advice}
 use Rattle.told.proofs.Speech.{written_as}
 use Rattle.told.proofs.words.first_advice.Goals as goal
 
-pub returns-then-fault-eq0 : goal.returns-then-fault-eq0
+pub returns-in-0 : goal.returns-in-0
 unfolding first_advice
-returns-then-fault-eq0 c = search (written_as, branch, tests) depth 14
+returns-in-0 c = search (written_as, branch, tests) depth 14
 
-pub returns-then-fault-eq1 : goal.returns-then-fault-eq1
+pub returns-in-1 : goal.returns-in-1
 unfolding first_advice
-returns-then-fault-eq1 c = search (written_as, branch, tests) depth 14
+returns-in-1 c =
+    let e : c.args.fault ≡ 1 = omega arith in
+    written_as _ _ _ _ _ (ap first_advice e) c.give-in-1.ensures
 
-pub returns-then-fault-eq2 : goal.returns-then-fault-eq2
+pub returns-in-2 : goal.returns-in-2
 unfolding first_advice
-returns-then-fault-eq2 c = search (written_as, branch, tests) depth 14
+returns-in-2 c =
+    let e : c.args.fault ≡ 2 = omega arith in
+    written_as _ _ _ _ _ (ap first_advice e) c.give-in-2.ensures
 
-pub returns-then-fault-eq3 : goal.returns-then-fault-eq3
+pub returns-in-3 : goal.returns-in-3
 unfolding first_advice
-returns-then-fault-eq3 c = search (written_as, branch, tests) depth 14
+returns-in-3 c =
+    let e : c.args.fault ≡ 3 = omega arith in
+    written_as _ _ _ _ _ (ap first_advice e) c.give-in-3.ensures
 
-pub returns-then-fault-eq4 : goal.returns-then-fault-eq4
+pub returns-in-4 : goal.returns-in-4
 unfolding first_advice
-returns-then-fault-eq4 c = search (written_as, branch, tests) depth 14
+returns-in-4 c =
+    let e : c.args.fault ≡ 4 = omega arith in
+    written_as _ _ _ _ _ (ap first_advice e) c.give-in-4.ensures
 
-pub returns-then-fault-eq5 : goal.returns-then-fault-eq5
+pub returns-in-5 : goal.returns-in-5
 unfolding first_advice
-returns-then-fault-eq5 c = search (written_as, branch, tests) depth 14
+returns-in-5 c =
+    let e : c.args.fault ≡ 5 = omega arith in
+    written_as _ _ _ _ _ (ap first_advice e) c.give-in-5.ensures
 
-pub returns : goal.returns
+pub returns-in_default : goal.returns-in_default
 unfolding first_advice
-returns c = search (written_as, branch, tests) depth 14
+returns-in_default c = search (written_as, branch, tests) depth 14
