@@ -8,32 +8,39 @@ ghost use Rattle.std.specs.Prelude.{◌≤◌};
 mod told;
 mod words;
 
-use wire::Wrote;
-use words::{Order, Task};
+use wire::Refusal;
+use words::{Order, Task, Wrong};
 
 // One byte more than can be printed: so many are enough to know that there are too many (R7.4).
 const INPUT: usize = 46_081;
 
 // What is told on descriptor 3, asked for with `--status-3` (R15.5).
-const DONE: u8 = b'0';
+#[derive(Clone, Copy)]
+enum Status {
+    Done,
+    Failed,
+    Wrong,
+}
 
-const FAILED: u8 = b'1';
-
-const WRONG: u8 = b'2';
+impl From<Status> for u8 {
+    fn from(status: Status) -> u8 {
+        match status {
+            Status::Done => b'0',
+            Status::Failed => b'1',
+            Status::Wrong => b'2',
+        }
+    }
+}
 
 // How many bytes show that pages of this size are too many (R15.8), of so many that there is room
 // for.
 fn enough(size: u16, room: usize) -> usize
     ensures { result ≤ room }
 {
-    let n = size as usize * wire::MOST_PAGES + 1;
-    if n < room {
-        return n;
-    }
-    room
+    (usize::from(size) * wire::MOST_PAGES + 1).min(room)
 }
 
-fn made(task: Task, c: &[u8], size: usize, out: &mut [u8]) -> Wrote {
+fn made(task: Task, c: &[u8], size: usize, out: &mut [u8]) -> Result<usize, Refusal> {
     match task {
         Task::Typed => sheet::typed(c, size, out),
         Task::TypedPage { k } => sheet::typed_page(c, size, k, out),
@@ -47,13 +54,13 @@ fn whole_input(rt: HostRuntime) -> u64 {
 }
 
 // The line of the refusal (R15.5).
-fn refuse(rt: HostRuntime, no: u8, size: u16, out: &mut [u8]) {
-    let given = if no == wire::TOO_LARGE {
+fn refuse(rt: HostRuntime, why: Refusal, size: u16, out: &mut [u8]) {
+    let given = if why == Refusal::TooLarge {
         whole_input(rt)
     } else {
         0
     };
-    let Wrote::Done { len } = sheet::refusal(no, size, given, out) else {
+    let Ok(len) = sheet::refusal(u8::from(why), size, given, out) else {
         return;
     };
     if len <= out.len() {
@@ -62,76 +69,73 @@ fn refuse(rt: HostRuntime, no: u8, size: u16, out: &mut [u8]) {
 }
 
 // A write can also fail at the end, when the file is closed.
-fn deliver(rt: HostRuntime, bytes: &[u8]) -> u8 {
+fn deliver(rt: HostRuntime, bytes: &[u8]) -> Status {
     if let Err(error) = edge::print(rt, bytes) {
         edge::fail(rt, b"standard output", error);
-        return FAILED;
+        return Status::Failed;
     }
     if let Err(error) = edge::finish_output(rt) {
         edge::fail(rt, b"standard output", error);
-        return FAILED;
+        return Status::Failed;
     }
-    DONE
+    Status::Done
 }
 
-fn answer(rt: HostRuntime, task: Task, c: &[u8], size: u16) -> u8 {
+fn answer(rt: HostRuntime, task: Task, c: &[u8], size: u16) -> Status {
     let mut out = [0u8; sheet::ROOM];
-    match made(task, c, size as usize, &mut out) {
-        Wrote::Done { len } => {
+    match made(task, c, usize::from(size), &mut out) {
+        Ok(len) => {
             if out.len() < len {
-                return FAILED;
+                return Status::Failed;
             }
             deliver(rt, &out[0..len])
         }
-        Wrote::Refused { no } => {
-            refuse(rt, no, size, &mut out);
-            FAILED
+        Err(why) => {
+            refuse(rt, why, size, &mut out);
+            Status::Failed
         }
     }
 }
 
-fn print(rt: HostRuntime, task: Task, size: u16, input: &mut [u8]) -> u8 {
+fn print(rt: HostRuntime, task: Task, size: u16, input: &mut [u8]) -> Status {
     told::waiting(rt);
     let most = enough(size, input.len());
     match edge::read_all(rt, &mut input[0..most]) {
         Ok(len) => {
             if input.len() < len {
-                return FAILED;
+                return Status::Failed;
             }
             answer(rt, task, &input[0..len], size)
         }
         // A document of which a part was not read is not printed (R15.8).
         Err(error) => {
             edge::fail(rt, b"standard input", error);
-            FAILED
+            Status::Failed
         }
     }
 }
 
 // A word that is wrong comes before the input (R15.5).
-fn obey(rt: HostRuntime, order: Order) -> u8 {
-    let size = if order.size < 1 {
-        words::MOST_SIZE
-    } else {
-        order.size
+fn obey(rt: HostRuntime, asked: Result<Order, Wrong>) -> Status {
+    let order = match asked {
+        Ok(order) => order,
+        Err(wrong) => {
+            told::wrong(rt, wrong);
+            return Status::Wrong;
+        }
     };
-    let task = order.task;
-    match task {
+    match order.task {
         Task::Help => {
             told::help(rt);
-            DONE
+            Status::Done
         }
         Task::Version => {
             told::version(rt);
-            DONE
+            Status::Done
         }
-        Task::Wrong { at, why } => {
-            told::wrong(rt, at, why);
-            WRONG
-        }
-        _ => {
+        task => {
             let mut input = [0u8; INPUT];
-            print(rt, task, size, &mut input)
+            print(rt, task, order.size.unwrap_or(words::MOST_SIZE), &mut input)
         }
     }
 }
@@ -140,7 +144,7 @@ fn main(rt: HostRuntime) {
     let mut word = io::buffer();
     let count = edge::arg_count(rt);
     if edge::asks_status(rt) {
-        edge::tell_status(obey(rt, words::asked(rt, 2, count, &mut word)));
+        edge::tell_status(u8::from(obey(rt, words::asked(rt, 2, count, &mut word))));
         return;
     }
     obey(rt, words::asked(rt, 1, count, &mut word));

@@ -1,5 +1,5 @@
 // What is told a person, on standard error, but for the refusals, which `sheet` lays out.
-use crate::words::Why;
+use crate::words::{Why, Wrong};
 
 const VERSION: u64 = 1;
 
@@ -82,11 +82,11 @@ fn right(rt: HostRuntime, why: Why) {
 }
 
 // The word with this index, and what would be right (R15.5).
-pub(crate) fn wrong(rt: HostRuntime, at: usize, why: Why) {
+pub(crate) fn wrong(rt: HostRuntime, wrong: Wrong) {
     let mut word = [0u8; SHOWN];
     say(rt, b"wrong word '");
-    show(rt, at, &mut word);
+    show(rt, wrong.at, &mut word);
     say(rt, b"': ");
-    right(rt, why);
+    right(rt, wrong.why);
     say(rt, b"\n");
 }

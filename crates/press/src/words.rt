@@ -1,6 +1,4 @@
 // The words of the command, and what they ask for (R15.4, R15.5).
-use sheet::Asked;
-
 // The most that a page of R7.2 holds.
 pub(crate) const MOST_SIZE: u16 = wire::MOST_DATA as u16;
 
@@ -23,152 +21,121 @@ pub(crate) enum Task {
     TypedPage { k: usize },
     Help,
     Version,
-    // The word with this index is wrong: the first that is.
-    Wrong { at: usize, why: Why },
 }
 
-// What the words ask for so far. A size of 0 is none. Where `--size` came last, and waits for its
-// number, there is its index, and else 0.
+// The word with this index is wrong: the first that is.
+#[derive(Clone, Copy)]
+pub(crate) struct Wrong {
+    pub(crate) at: usize,
+    pub(crate) why: Why,
+}
+
+// What the words ask for so far. Where `--size` came last, and waits for its number, there is its
+// index.
 #[derive(Clone, Copy)]
 pub(crate) struct Order {
     pub(crate) task: Task,
-    pub(crate) size: u16,
-    waits: usize,
+    pub(crate) size: Option<u16>,
+    waits: Option<usize>,
 }
 
-fn wrong(o: Order, at: usize, why: Why) -> Order {
-    Order {
-        task: Task::Wrong { at, why },
-        size: o.size,
-        waits: 0,
-    }
-}
-
-fn with(o: Order, task: Task) -> Order {
-    Order {
-        task,
-        size: o.size,
-        waits: 0,
-    }
-}
-
-fn is_wrong(task: Task) -> bool {
-    match task {
-        Task::Wrong { at: _, why: _ } => true,
-        _ => false,
-    }
-}
-
-// No word with a dash in front is a page: it is one that this program does not know (R15.5).
-fn has_dash(word: &[u8]) -> bool {
-    if word.len() < 1 {
-        return false;
-    }
-    word[0] == b'-'
-}
-
-fn page(o: Order, at: usize, word: &[u8]) -> Order {
-    match sheet::number_asked(word, wire::MOST_PAGES as u16) {
-        Asked::Number { n } => with(o, Task::TypedPage { k: n as usize }),
-        Asked::Nothing => wrong(o, at, Why::NoPage),
-    }
+fn page(o: Order, word: &[u8]) -> Result<Order, Why> {
+    let k = sheet::number_asked(word, wire::MOST_PAGES as u16).ok_or(Why::NoPage)?;
+    Ok(Order {
+        task: Task::TypedPage { k: usize::from(k) },
+        ..o
+    })
 }
 
 // The size is one of R7.2; the most that is asked for is one more, which is none.
-fn size(o: Order, at: usize, word: &[u8]) -> Order {
+fn size(o: Order, word: &[u8]) -> Result<Order, Why> {
     match sheet::number_asked(word, MOST_SIZE + 1) {
-        Asked::Number { n } => {
-            if n < 1 {
-                return wrong(o, at, Why::NoSize);
-            }
-            if MOST_SIZE < n {
-                return wrong(o, at, Why::NoSize);
-            }
-            let task = o.task;
-            Order {
-                task,
-                size: n,
-                waits: 0,
-            }
-        }
-        Asked::Nothing => wrong(o, at, Why::NoSize),
+        Some(n) if 0 < n && n <= MOST_SIZE => Ok(Order {
+            size: Some(n),
+            waits: None,
+            ..o
+        }),
+        _ => Err(Why::NoSize),
     }
 }
 
-fn wait(o: Order, at: usize) -> Order {
-    if 0 < o.size {
-        return wrong(o, at, Why::SizeTwice);
+fn wait(o: Order, at: usize) -> Result<Order, Why> {
+    if o.size.is_some() {
+        return Err(Why::SizeTwice);
     }
-    let task = o.task;
-    Order {
-        task,
-        size: o.size,
-        waits: at,
-    }
+    Ok(Order {
+        waits: Some(at),
+        ..o
+    })
 }
 
-// `typed`, and then the page.
-fn plain(o: Order, at: usize, word: &[u8]) -> Order {
-    if has_dash(word) {
-        return wrong(o, at, Why::Unknown);
+// `typed`, and then the page. No word with a dash in front is a page: it is one that this program
+// does not know (R15.5).
+fn plain(o: Order, word: &[u8]) -> Result<Order, Why> {
+    if word.starts_with(b"-") {
+        return Err(Why::Unknown);
     }
-    let task = o.task;
-    match task {
+    match o.task {
         Task::Scans => {
             if lend::equal(word, b"typed") {
-                return with(o, Task::Typed);
+                return Ok(Order {
+                    task: Task::Typed,
+                    ..o
+                });
             }
-            wrong(o, at, Why::Unknown)
+            Err(Why::Unknown)
         }
-        Task::Typed => page(o, at, word),
-        _ => wrong(o, at, Why::TooMany),
+        Task::Typed => page(o, word),
+        _ => Err(Why::TooMany),
     }
 }
 
-fn single(o: Order, at: usize, alone: bool, task: Task) -> Order {
+fn single(o: Order, alone: bool, task: Task) -> Result<Order, Why> {
     if alone {
-        return with(o, task);
+        return Ok(Order { task, ..o });
     }
-    wrong(o, at, Why::NotAlone)
+    Err(Why::NotAlone)
 }
 
-fn next(o: Order, at: usize, alone: bool, word: &[u8]) -> Order {
-    if 0 < o.waits {
-        return size(o, at, word);
+fn next(o: Order, at: usize, alone: bool, word: &[u8]) -> Result<Order, Why> {
+    if o.waits.is_some() {
+        return size(o, word);
     }
     if lend::equal(word, b"--size") {
         return wait(o, at);
     }
     if lend::equal(word, b"--help") {
-        return single(o, at, alone, Task::Help);
+        return single(o, alone, Task::Help);
     }
     if lend::equal(word, b"--version") {
-        return single(o, at, alone, Task::Version);
+        return single(o, alone, Task::Version);
     }
-    plain(o, at, word)
+    plain(o, word)
 }
 
 // What all words ask for: those from index first on, of so many. A word that the buffer has no room
 // for comes back empty, so a K of too many digits is none.
-pub(crate) fn asked(rt: HostRuntime, first: usize, count: usize, buffer: &mut [u8]) -> Order {
+pub(crate) fn asked(
+    rt: HostRuntime,
+    first: usize,
+    count: usize,
+    buffer: &mut [u8],
+) -> Result<Order, Wrong> {
     let mut o = Order {
         task: Task::Scans,
-        size: 0,
-        waits: 0,
+        size: None,
+        waits: None,
     };
-    let mut at = first;
-    while at < count {
-        let task = o.task;
-        if is_wrong(task) {
-            return o;
-        }
+    for at in first..count {
         let alone = at == first && count - at == 1;
         let len = edge::arg(rt, at, buffer).unwrap_or(0);
-        o = next(o, at, alone, &buffer[..len]);
-        at += 1;
+        o = next(o, at, alone, &buffer[..len]).map_err(|why| Wrong { at, why })?;
     }
-    if 0 < o.waits {
-        return wrong(o, o.waits, Why::SizeLacks);
+    match o.waits {
+        Some(at) => Err(Wrong {
+            at,
+            why: Why::SizeLacks,
+        }),
+        None => Ok(o),
     }
-    o
 }
