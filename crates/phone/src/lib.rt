@@ -154,7 +154,7 @@ pub extern "C" fn stilt_typed(text: &[u8], out: &mut [u8]) -> u64
     ensures out_after { out.new ≡ bytes_after out.old (writing 0 out.old (read_typed text.now)) }
 {
     match typed::read(text, out) {
-        Ok(len) => pack(0, 0, len as u64),
+        Ok(n) => pack(0, 0, n as u64),
         Err(e) => refused_at(e),
     }
 }
