@@ -2,6 +2,7 @@
 // again where it is wrong (R15.15).
 use crate::told;
 use std::io::{Error, ErrorKind};
+use std::ops::ControlFlow;
 use typing::Fault;
 
 // Room for a line: more bytes than these are told as too long.
@@ -23,13 +24,6 @@ struct Page {
     len: usize,
     start: usize,
     count: usize,
-}
-
-// What came of one question.
-#[derive(Drop)]
-enum Turned {
-    More { page: Page },
-    Last { page: Page },
 }
 
 // Reads a line, byte by byte: what is behind it stays for the next. Bytes that there is no room for
@@ -60,13 +54,7 @@ fn endless() -> Error {
 
 // The page with one more line, which is right, and its line feed. There is room for 20.
 fn with_line(p: Page, line: &[u8], page: &mut [u8]) -> Page {
-    if typed::MOST_LINES <= p.n {
-        return p;
-    }
-    if page.len() < p.len {
-        return p;
-    }
-    if page.len() - p.len <= line.len() {
+    if typed::MOST_LINES <= p.n || page.len() < p.len || page.len() - p.len <= line.len() {
         return p;
     }
     lend::copy(page, p.len, line);
@@ -132,31 +120,33 @@ fn long(rt: HostRuntime, n: u8) {
     }
 }
 
-fn whole_page(p: Page) -> usize {
-    p.len
-}
-
 // The page after a line of so many bytes.
 fn judged(rt: HostRuntime, p: Page, len: usize, line: &[u8], page: &mut [u8]) -> Page {
     if line.len() < len {
         long(rt, p.n);
         return p;
     }
-    taken(rt, p, &line[0..len], page)
+    taken(rt, p, &line[..len], page)
 }
 
-// Asks for a line, and takes it. An empty one ends the page, and so does the end of the input.
-fn turn(rt: HostRuntime, p: Page, line: &mut [u8], page: &mut [u8]) -> Result<Turned, Error> {
+// Asks for a line, and takes it. An empty one ends the page, and so does the end of the input: then
+// it breaks off with all of the page.
+fn turn(
+    rt: HostRuntime,
+    p: Page,
+    line: &mut [u8],
+    page: &mut [u8],
+) -> Result<ControlFlow<Page, Page>, Error> {
     asks(rt, p.n);
     let typed = read_line(rt, line)?;
     if typed.len < 1 {
-        return Ok(Turned::Last { page: p });
+        return Ok(ControlFlow::Break(p));
     }
     let next = judged(rt, p, typed.len, line, page);
     if typed.end {
-        return Ok(Turned::Last { page: next });
+        return Ok(ControlFlow::Break(next));
     }
-    Ok(Turned::More { page: next })
+    Ok(ControlFlow::Continue(next))
 }
 
 // Asks for lines until the page has ended: 20 are all that it can have. Answers how many bytes of
@@ -170,13 +160,11 @@ fn lines(rt: HostRuntime, line: &mut [u8], page: &mut [u8]) -> Result<usize, Err
     };
     for _ in 0..u64::MAX {
         if typed::MOST_LINES <= p.n {
-            return Ok(whole_page(p));
+            return Ok(p.len);
         }
         match turn(rt, p, line, page)? {
-            Turned::More { page: next } => {
-                p = next;
-            }
-            Turned::Last { page: last } => return Ok(whole_page(last)),
+            ControlFlow::Continue(next) => p = next,
+            ControlFlow::Break(last) => return Ok(last.len),
         }
     }
     Err(endless())

@@ -1,6 +1,5 @@
 // What is told a person, on standard error; what is wrong with lines is what `typing` lays out.
 use typing::Fault;
-use wire::Wrote;
 
 const VERSION: u64 = 1;
 
@@ -49,11 +48,11 @@ pub(crate) fn version(rt: HostRuntime) {
 // What is wrong with lines (R15.14).
 pub(crate) fn fault(rt: HostRuntime, f: Fault) {
     let mut out = [0u8; typing::WORDS_ROOM];
-    let Wrote::Done { len } = typing::words(f, &mut out) else {
+    let Ok(len) = typing::words(f, &mut out) else {
         return;
     };
     if len <= out.len() {
-        say(rt, &out[0..len]);
+        say(rt, &out[..len]);
     }
 }
 
@@ -72,7 +71,7 @@ pub(crate) fn begin(rt: HostRuntime) {
 
 pub(crate) fn number(rt: HostRuntime, line: u8) {
     say(rt, b"line ");
-    edge::tell_decimal(rt, line as u64);
+    edge::tell_decimal(rt, u64::from(line));
 }
 
 pub(crate) fn prompt(rt: HostRuntime, line: u8) {
