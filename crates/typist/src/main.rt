@@ -44,45 +44,26 @@ fn lines(rt: HostRuntime, input: &[u8]) -> Status {
     }
 }
 
-// Lines that come through a pipe, or from a file. Of a part of them nothing is printed.
-fn piped(rt: HostRuntime, input: &mut [u8]) -> Status {
-    match edge::read_all(rt, input) {
-        Ok(len) => {
-            if input.len() <= len {
-                told::too_much(rt);
-                return Status::Failed;
-            }
-            lines(rt, &input[..len])
-        }
-        Err(error) => {
-            edge::fail(rt, b"standard input", error);
-            Status::Failed
-        }
-    }
-}
-
-// Lines that are typed at a terminal: then they go the way of the others.
-fn typed_in(rt: HostRuntime, input: &mut [u8]) -> Status {
-    match ask::all(rt, input) {
-        Ok(len) => {
-            if input.len() < len {
-                return Status::Failed;
-            }
-            lines(rt, &input[..len])
-        }
-        Err(error) => {
-            edge::fail(rt, b"standard input", error);
-            Status::Failed
-        }
-    }
-}
-
+// Lines that are typed at a terminal, or that come through a pipe or from a file: of a part of these
+// nothing is printed. A page that is typed never fills the input.
 fn read_page(rt: HostRuntime) -> Status {
     let mut input = [0u8; INPUT];
-    if edge::input_is_terminal(rt) {
-        return typed_in(rt, &mut input);
+    let read = if edge::input_is_terminal(rt) {
+        ask::all(rt, &mut input)
+    } else {
+        edge::read_all(rt, &mut input)
+    };
+    match read {
+        Ok(len) if len < INPUT => lines(rt, &input[..len]),
+        Ok(_) => {
+            told::too_much(rt);
+            Status::Failed
+        }
+        Err(error) => {
+            edge::fail(rt, b"standard input", error);
+            Status::Failed
+        }
     }
-    piped(rt, &mut input)
 }
 
 // A word that is wrong comes before the input (R15.16).
