@@ -2,9 +2,9 @@
 // come in: whoever signs is at the other end of both pipes.
 ghost use Rattle.std.specs.Prelude.{◌≤◌};
 
-use crate::{FAILED, closed, gather, print, told};
+use crate::{Failed, closed, print, told};
 use std::random::RandomSource;
-use wire::{Span, Wrote};
+use wire::Span;
 
 // The secret, and a line of 129 bytes for each of 255 signatures, have fewer.
 const INPUT: usize = 65_536;
@@ -25,90 +25,64 @@ const SIGNATURE: usize = 64;
 // 255 signatures.
 const SIGNATURES: usize = 16_320;
 
-// What all slips of a split share.
+// What all slips of a split share: how many give the secret back, how many there are, whether the
+// secret is a seed, the key that signs, and the digest of the document.
 #[derive(Clone, Copy)]
-pub(crate) struct Deal {
+pub(crate) struct Deal<'a> {
     pub(crate) threshold: u64,
     pub(crate) count: u64,
     pub(crate) seed: bool,
-}
-
-// How many bytes came, and whether the input could be read.
-#[derive(Clone, Copy)]
-struct Taken {
-    good: bool,
-    len: usize,
+    pub(crate) key: &'a [u8],
+    pub(crate) document: &'a [u8],
 }
 
 // Reads until there are so many lines, and not further than what comes with their last line feed;
-// or to the end of the input, or until the buffer is full. A fault is told.
-fn fill(rt: HostRuntime, input: &mut [u8], held: usize, lines: usize) -> Taken {
+// or to the end of the input, or until the buffer is full. How many bytes there are then, those
+// held before among them. A fault is told.
+//
+// stays (3): how far a turn comes, the read says, so it is no `for`.
+fn fill(rt: HostRuntime, input: &mut [u8], held: usize, lines: usize) -> Result<usize, Failed> {
     if input.len() < held {
-        return Taken {
-            good: false,
-            len: 0,
-        };
+        return Err(Failed {});
     }
     let mut len = held;
     while len < input.len() {
-        if lines <= slips::feeds(&input[0..len]) {
-            return Taken { good: true, len };
+        if lines <= slips::feeds(&input[..len]) {
+            return Ok(len);
         }
-        let n = match edge::read(rt, &mut input[len..]) {
-            Ok(n) => n,
+        match edge::read(rt, &mut input[len..]) {
+            Ok(0) => return Ok(len),
+            Ok(n) => len += n,
             Err(error) => {
                 edge::fail(rt, b"standard input", error);
-                return Taken { good: false, len };
+                return Err(Failed {});
             }
-        };
-        if n < 1 {
-            return Taken { good: true, len };
         }
-        len += n;
     }
-    Taken { good: true, len }
+    Ok(len)
 }
 
-// How long the secret is that the first line says; 0 where it is none.
-fn secret_in(line: &[u8], seed: bool, secret: &mut [u8]) -> usize {
+// How long the secret is that the first line says.
+fn secret_in(line: &[u8], seed: bool, secret: &mut [u8]) -> Option<usize> {
     if seed {
-        return match slips::hex(line, SEED_SIZE, secret) {
-            Wrote::Done { len } => len,
-            Wrote::Refused { no: _ } => 0,
-        };
+        return slips::hex(line, SEED_SIZE, secret).ok();
     }
-    if wire::MOST_SHARE < line.len() {
-        return 0;
+    if line.is_empty() || wire::MOST_SHARE < line.len() {
+        return None;
     }
     lend::copy(secret, 0, line);
-    line.len()
+    Some(line.len())
 }
 
-// How many bytes are drawn at once, where so many are left.
-fn drawn(left: usize) -> usize
-    requires { 1 ≤ left }
-    ensures { (1 ≤ result) × (result ≤ left) }
-{
-    if left < DRAWN {
-        return left;
-    }
-    DRAWN
-}
-
-// Random bytes, so many, at the front of out.
-fn draw(rt: HostRuntime, out: &mut [u8], need: usize) -> bool {
-    if out.len() < need {
-        return false;
-    }
-    let mut at = 0;
-    while at < need {
-        let end = at + drawn(need - at);
-        if rt.fill_bytes(&mut out[at..end]).is_err() {
-            return false;
+// Random bytes.
+fn draw(rt: HostRuntime, out: &mut [u8]) -> Result<(), Failed> {
+    for some in out.chunks_mut(DRAWN) {
+        if rt.fill_bytes(some).is_err() {
+            told::no_chance(rt);
+            return Err(Failed {});
         }
-        at = end;
     }
-    true
+    Ok(())
 }
 
 // ---- all slips
@@ -120,35 +94,34 @@ fn padded(len: usize) -> usize
     (len % 225 + 15) / 16 * 16
 }
 
-fn ask_all(
-    rt: HostRuntime,
-    d: Deal,
+// For each slip of the split its number, from 0 on, and its share.
+fn each<F: FnMut(usize, &[u8]) -> Result<(), Failed> + Drop>(
+    d: &Deal,
     len: usize,
-    key: &[u8],
-    document: &[u8],
     shares: &[u8],
-) -> bool {
+    mut say: F,
+) -> Result<(), Failed>
+    requires { F.IsAlwaysCallable say }
+{
     let size = padded(len);
-    let mut at = 0;
-    let mut i = 0;
-    while (i as u64) < d.count {
-        let share = lend::part(
-            shares,
-            Span {
-                start: at,
-                len: size,
-            },
-        );
-        if !print::ask(rt, d, i, len, key, document, share) {
-            return false;
-        }
-        at = gather::behind(at, size);
-        i += 1;
+    let mut at: usize = 0;
+    for i in 0..d.count as usize {
+        say(
+            i,
+            lend::part(
+                shares,
+                Span {
+                    start: at,
+                    len: size,
+                },
+            ),
+        )?;
+        at = at.saturating_add(size);
     }
-    true
+    Ok(())
 }
 
-// The signature of slip i.
+// Where the signature of slip i stands among them.
 fn signature(i: usize) -> Span {
     Span {
         start: (i % 255) * SIGNATURE,
@@ -156,56 +129,14 @@ fn signature(i: usize) -> Span {
     }
 }
 
-fn slip_all(
-    rt: HostRuntime,
-    d: Deal,
-    len: usize,
-    key: &[u8],
-    document: &[u8],
-    shares: &[u8],
-    signatures: &[u8],
-) -> bool {
-    let size = padded(len);
-    let mut at = 0;
-    let mut i = 0;
-    while (i as u64) < d.count {
-        let share = lend::part(
-            shares,
-            Span {
-                start: at,
-                len: size,
-            },
-        );
-        let name = lend::part(signatures, signature(i));
-        if !print::slip(rt, d, i, len, key, document, share, name) {
-            return false;
-        }
-        at = gather::behind(at, size);
-        i += 1;
-    }
-    true
-}
-
 // Signature i, which is this line.
 fn sign(i: usize, line: &[u8], signatures: &mut [u8]) -> bool {
     let mut out = [0u8; SIGNATURE];
-    match slips::hex(line, SIGNATURE, &mut out) {
-        Wrote::Refused { no: _ } => false,
-        Wrote::Done { len: _ } => {
-            lend::copy(signatures, (i % 255) * SIGNATURE, &out);
-            true
-        }
+    if slips::hex(line, SIGNATURE, &mut out).is_err() {
+        return false;
     }
-}
-
-fn between(at: usize, end: usize) -> Span {
-    if end < at {
-        return Span { start: at, len: 0 };
-    }
-    Span {
-        start: at,
-        len: end - at,
-    }
+    lend::copy(signatures, signature(i).start, &out);
+    true
 }
 
 // Where the next line begins, behind one that ends at this index.
@@ -218,74 +149,58 @@ fn past(input: &[u8], end: usize) -> usize {
 
 // The signatures of all slips, a line each, from this index of the input on. The first that lacks
 // or is none is told.
-fn sign_all(rt: HostRuntime, count: u64, input: &[u8], from: usize, signatures: &mut [u8]) -> bool {
+fn sign_all(
+    rt: HostRuntime,
+    count: usize,
+    input: &[u8],
+    from: usize,
+    signatures: &mut [u8],
+) -> Result<(), Failed> {
     let mut at = from;
-    let mut i = 0;
-    while (i as u64) < count {
+    for i in 0..count {
         if input.len() <= at {
             told::no_signature(rt, i, false);
-            return false;
+            return Err(Failed {});
         }
         let end = slips::line_end(input, at);
-        if !sign(i, lend::part(input, between(at, end)), signatures) {
+        let line = lend::part(
+            input,
+            Span {
+                start: at,
+                len: end.saturating_sub(at),
+            },
+        );
+        if !sign(i, line, signatures) {
             told::no_signature(rt, i, true);
-            return false;
+            return Err(Failed {});
         }
         at = past(input, end);
-        i += 1;
     }
-    true
+    Ok(())
 }
 
 // ---- the whole
 
-// So many times a step, and at most the room for coefficients.
-fn times(step: usize, n: usize) -> usize
-    ensures { result ≤ 56896 }
-{
-    let mut sum = 0;
-    let mut i = 0;
-    while i < n {
-        if COEFFICIENTS - sum < step {
-            return COEFFICIENTS;
-        }
-        sum += step;
-        i += 1;
-    }
-    sum
-}
-
-// How many powers above 0 a curve has.
-fn powers(threshold: u64) -> usize {
-    if threshold < 1 {
-        return 0;
-    }
-    (threshold - 1) as usize
-}
-
-// The shares of a secret, from random coefficients: for each power as many bytes as the secret's
-// blocks have.
-fn shares_of(rt: HostRuntime, d: Deal, secret: &[u8], shares: &mut [u8]) -> bool {
+// The shares of a secret, from random coefficients: for each power above 0 as many bytes as the
+// secret's blocks have.
+fn shares_of(rt: HostRuntime, d: &Deal, secret: &[u8], shares: &mut [u8]) -> Result<(), Failed> {
     let mut coefficients = [0u8; COEFFICIENTS];
-    let need = times(padded(secret.len()), powers(d.threshold));
-    if !draw(rt, &mut coefficients, need) {
-        told::no_chance(rt);
-        return false;
-    }
-    let given = lend::part(
-        &coefficients,
-        Span {
-            start: 0,
-            len: need,
-        },
+    let powers = d.threshold.saturating_sub(1) as usize;
+    let need = padded(secret.len()).saturating_mul(powers).min(COEFFICIENTS);
+    draw(rt, &mut coefficients[..need])?;
+    let r = split::split(
+        secret,
+        d.threshold,
+        d.count,
+        &coefficients[..need],
+        shares,
     );
-    let r = split::split(secret, d.threshold, d.count, given, shares);
     lend::clear(&mut coefficients, 0, COEFFICIENTS);
     match r {
-        Wrote::Done { len: _ } => true,
-        Wrote::Refused { no } => {
-            told::not_split(rt, no);
-            false
+        Ok(_) => Ok(()),
+        Err(why) => {
+            told::not_split(rt, why);
+            Err(Failed {})
         }
     }
 }
@@ -294,80 +209,54 @@ fn shares_of(rt: HostRuntime, d: Deal, secret: &[u8], shares: &mut [u8]) -> bool
 // ends at this index.
 fn finish(
     rt: HostRuntime,
-    d: Deal,
+    d: &Deal,
     len: usize,
-    key: &[u8],
-    document: &[u8],
     shares: &[u8],
     input: &mut [u8],
     held: usize,
     end: usize,
-) -> u8 {
+) -> Result<(), Failed> {
     let mut signatures = [0u8; SIGNATURES];
-    let taken = fill(rt, input, held, (d.count % 256) as usize + 1);
-    if !taken.good {
-        return FAILED;
-    }
+    let taken = fill(rt, input, held, (d.count % 256) as usize + 1)?;
     let all = lend::part(
         input,
         Span {
             start: 0,
-            len: taken.len,
+            len: taken,
         },
     );
-    if !sign_all(rt, d.count, all, past(all, end), &mut signatures) {
-        return FAILED;
-    }
-    if !slip_all(rt, d, len, key, document, shares, &signatures) {
-        return FAILED;
-    }
+    sign_all(rt, d.count as usize, all, past(all, end), &mut signatures)?;
+    each(d, len, shares, |i, share| {
+        print::slip(rt, d, i, len, share, lend::part(&signatures, signature(i)))
+    })?;
     closed(rt)
 }
 
 // Splits, once the secret is there.
 fn split_up(
     rt: HostRuntime,
-    d: Deal,
+    d: &Deal,
     secret: &[u8],
-    key: &[u8],
-    document: &[u8],
     input: &mut [u8],
     held: usize,
     end: usize,
-) -> u8 {
+) -> Result<(), Failed> {
+    let len = secret.len();
     let mut shares = [0u8; SHARES];
-    if !shares_of(rt, d, secret, &mut shares) {
-        return FAILED;
-    }
-    if !ask_all(rt, d, secret.len(), key, document, &shares) {
-        return FAILED;
-    }
-    let status = finish(
-        rt,
-        d,
-        secret.len(),
-        key,
-        document,
-        &shares,
-        input,
-        held,
-        end,
-    );
+    shares_of(rt, d, secret, &mut shares)?;
+    each(d, len, &shares, |i, share| print::ask(rt, d, i, len, share))?;
+    let done = finish(rt, d, len, &shares, input, held, end);
     lend::clear(&mut shares, 0, SHARES);
-    status
+    done
 }
 
 // What held the secret, its shares and the coefficients is cleared at the end; the compiler may
 // leave that out, since nobody reads it any more, and nothing is proved of it.
-pub(crate) fn run(rt: HostRuntime, d: Deal, key: &[u8], document: &[u8]) -> u8 {
+pub(crate) fn run(rt: HostRuntime, d: Deal) -> Result<(), Failed> {
     let mut input = [0u8; INPUT];
     let mut secret = [0u8; wire::MOST_SHARE];
     told::waiting(rt, false);
-    let taken = fill(rt, &mut input, 0, 1);
-    if !taken.good {
-        return FAILED;
-    }
-    let held = taken.len;
+    let held = fill(rt, &mut input, 0, 1)?;
     let first = lend::part(
         &input,
         Span {
@@ -376,20 +265,14 @@ pub(crate) fn run(rt: HostRuntime, d: Deal, key: &[u8], document: &[u8]) -> u8 {
         },
     );
     let end = slips::line_end(first, 0);
-    let len = secret_in(
-        lend::part(first, Span { start: 0, len: end }),
-        d.seed,
-        &mut secret,
-    );
-    if len < 1 {
+    let line = lend::part(first, Span { start: 0, len: end });
+    let Some(len) = secret_in(line, d.seed, &mut secret) else {
         told::no_secret(rt, d.seed);
-        return FAILED;
-    }
-    if secret.len() < len {
-        return FAILED;
-    }
-    let status = split_up(rt, d, &secret[0..len], key, document, &mut input, held, end);
+        return Err(Failed {});
+    };
+    let said = lend::part(&secret, Span { start: 0, len });
+    let done = split_up(rt, &d, said, &mut input, held, end);
     lend::clear(&mut input, 0, INPUT);
     lend::clear(&mut secret, 0, wire::MOST_SHARE);
-    status
+    done
 }

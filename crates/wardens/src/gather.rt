@@ -1,7 +1,8 @@
 // The slips of an input, each read and kept in a cell of its own (R15.18, R15.19).
-use crate::told;
-use shard::Quorum;
-use slips::{Found, SlipRead};
+ghost use Rattle.std.specs.Prelude.{◌≤◌};
+
+use crate::{Failed, told};
+use slips::{NoSlip, Share, Slip};
 use wire::Span;
 
 // No input has more slips; no secret has more than 255.
@@ -10,24 +11,41 @@ pub(crate) const MOST: usize = 300;
 // Room for the frame of a slip.
 pub(crate) const CELL: usize = 512;
 
-// How many slips there are, and whether each of them was one.
+// The slips that were kept, n of them: for each where it began in the input, where its payload
+// stands among the cells, how long that is, and the number of its share.
+//
+// stays (6): `recover` takes where the payloads start and how long they are as two lists (R19.6),
+// and `repeated` takes the numbers as one.
 #[derive(Clone, Copy)]
-pub(crate) struct Gathered {
-    pub(crate) good: bool,
+pub(crate) struct Slips {
     pub(crate) n: usize,
+    pub(crate) places: [usize; MOST],
+    pub(crate) starts: [usize; MOST],
+    pub(crate) lens: [usize; MOST],
+    pub(crate) numbers: [u8; MOST],
+    ghost few: { n ≤ 300 },
+}
+
+pub(crate) fn none() -> Slips {
+    Slips {
+        n: 0,
+        places: [0; MOST],
+        starts: [0; MOST],
+        lens: [0; MOST],
+        numbers: [0; MOST],
+    }
 }
 
 // The number at a place; 0 where there is none.
 pub(crate) fn at(list: &[usize], i: usize) -> usize {
-    if i < list.len() {
-        return list[i];
-    }
-    0
+    list.get(i).copied().unwrap_or(0)
 }
 
-pub(crate) fn set(list: &mut [usize], i: usize, v: usize) {
-    if i < list.len() {
-        list[i] = v;
+// Where the payload of slip i stands.
+pub(crate) fn payload(slips: &Slips, i: usize) -> Span {
+    Span {
+        start: at(&slips.starts, i),
+        len: at(&slips.lens, i),
     }
 }
 
@@ -42,115 +60,82 @@ pub(crate) fn feeds(input: &[u8], start: usize) -> usize {
     ))
 }
 
-// Where the payload of slip n stands among the cells, and which share it is.
-fn note(
-    n: usize,
-    payload: Span,
-    quorum: Quorum,
-    starts: &mut [usize],
-    lens: &mut [usize],
-    numbers: &mut [u8],
-) -> bool {
-    if MOST <= n {
-        return false;
+// One more slip, which began at this place of the input: where its payload stands among the cells,
+// and which share it is.
+fn keep(slips: &mut Slips, place: usize, share: Share) -> Result<(), Failed> {
+    let n = slips.n;
+    if MOST <= n || CELL < share.payload.start {
+        return Err(Failed {});
     }
-    if CELL < payload.start {
-        return false;
-    }
-    if 255 < quorum.index {
-        return false;
-    }
-    set(starts, n, n * CELL + payload.start);
-    set(lens, n, payload.len);
-    lend::put(numbers, n, quorum.index as u8);
-    true
+    let Ok(number) = u8::try_from(share.quorum.index) else {
+        return Err(Failed {});
+    };
+    slips.places[n] = place;
+    slips.starts[n] = n * CELL + share.payload.start;
+    slips.lens[n] = share.payload.len;
+    slips.numbers[n] = number;
+    slips.n = n + 1;
+    Ok(())
 }
 
 // What a text is instead of a slip.
-fn tell(rt: HostRuntime, feeds: usize, typed: bool, r: SlipRead) {
-    match r {
-        SlipRead::Text { no, line } => told::text(rt, feeds, no, line, typed),
-        SlipRead::Frame { no } => told::frame(rt, feeds, no),
-        SlipRead::Other { kind } => told::other(rt, feeds, kind),
-        SlipRead::Shard { no } => told::shard(rt, feeds, no),
-        _ => told::short(rt, feeds),
+fn tell(rt: HostRuntime, feeds: usize, typed: bool, why: NoSlip) {
+    match why {
+        NoSlip::Text(why) => told::text(rt, feeds, why, typed),
+        NoSlip::Frame(why) => told::frame(rt, feeds, why),
+        NoSlip::Other(kind) => told::other(rt, feeds, kind),
+        NoSlip::Shard(why) => told::shard(rt, feeds, why),
+        NoSlip::Short => told::short(rt, feeds),
     }
 }
 
-// Slip n, which stands in the input from start on.
+// The next slip, which stands there in the input.
 fn one(
     rt: HostRuntime,
     input: &[u8],
-    start: usize,
-    len: usize,
-    typed: bool,
-    n: usize,
+    slip: Slip,
     cells: &mut [u8],
-    starts: &mut [usize],
-    lens: &mut [usize],
-    numbers: &mut [u8],
-) -> bool {
+    slips: &mut Slips,
+) -> Result<(), Failed> {
     let mut room = [0u8; CELL];
-    if MOST <= n {
-        return false;
+    let text = lend::part(
+        input,
+        Span {
+            start: slip.start,
+            len: slip.len,
+        },
+    );
+    match slips::read(text, slip.typed, &mut room) {
+        Ok(share) => {
+            lend::copy(cells, slips.n * CELL, &room);
+            keep(slips, slip.start, share)
+        }
+        Err(why) => {
+            tell(rt, feeds(input, slip.start), slip.typed, why);
+            Err(Failed {})
+        }
     }
-    let r = slips::read(lend::part(input, Span { start, len }), typed, &mut room);
-    if let SlipRead::Slip {
-        len: _,
-        payload,
-        quorum,
-    } = r
-    {
-        lend::copy(cells, n * CELL, &room);
-        return note(n, payload, quorum, starts, lens, numbers);
-    }
-    tell(rt, feeds(input, start), typed, r);
-    false
 }
 
-fn bad() -> Gathered {
-    Gathered { good: false, n: 0 }
-}
-
-// Where the next slip is looked for.
-pub(crate) fn behind(start: usize, len: usize) -> usize {
-    if len <= usize::MAX - start {
-        return start + len;
-    }
-    usize::MAX
-}
-
-// All slips of an input: their frames in the cells, and for each where it began in the input, where
-// its payload stands among the cells, how long that is, and the number of the share. The first that
-// is none is told, and so is one too many.
+// All slips of an input: their frames in the cells, and where they stand. The first that is none is
+// told, and so is one too many.
 pub(crate) fn all(
     rt: HostRuntime,
     input: &[u8],
     cells: &mut [u8],
-    places: &mut [usize],
-    starts: &mut [usize],
-    lens: &mut [usize],
-    numbers: &mut [u8],
-) -> Gathered {
+    slips: &mut Slips,
+) -> Result<(), Failed> {
     let mut from = 0;
-    let mut n = 0;
-    while n <= MOST {
-        let found = slips::next(input, from);
-        let Found::Slip { start, len, typed } = found else {
-            return Gathered { good: true, n };
+    for _ in 0..MOST {
+        let Some(slip) = slips::next(input, from) else {
+            return Ok(());
         };
-        if n == MOST {
-            told::too_many(rt);
-            return bad();
-        }
-        if !one(
-            rt, input, start, len, typed, n, cells, starts, lens, numbers,
-        ) {
-            return bad();
-        }
-        set(places, n, start);
-        from = behind(start, len);
-        n += 1;
+        one(rt, input, slip, cells, slips)?;
+        from = slip.start.saturating_add(slip.len);
     }
-    bad()
+    if slips::next(input, from).is_some() {
+        told::too_many(rt);
+        return Err(Failed {});
+    }
+    Ok(())
 }

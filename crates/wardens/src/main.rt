@@ -12,7 +12,6 @@ mod unite;
 mod words;
 
 use deal::Deal;
-use wire::Span;
 use words::{Order, Task};
 
 // One byte more than is read: so many are enough to know that there are too many (R15.18).
@@ -27,88 +26,51 @@ const NAME_SIZE: usize = 32;
 const WORD: usize = 4_096;
 
 // The status (R15.17).
-const DONE: u8 = b'0';
-
-pub(crate) const FAILED: u8 = b'1';
-
-const WRONG: u8 = b'2';
-
-// How many bytes came, and whether the input ended without a fault.
 #[derive(Clone, Copy)]
-struct Taken {
-    good: bool,
-    len: usize,
+enum Status {
+    Done = 48,
+    Failed = 49,
+    Wrong = 50,
 }
 
-// Reads to the end of the input, or until the buffer is full. A fault is told.
-fn take_all(rt: HostRuntime, input: &mut [u8]) -> Taken {
-    let mut len = 0;
-    while len < input.len() {
-        let n = match edge::read(rt, &mut input[len..]) {
-            Ok(n) => n,
-            Err(error) => {
-                edge::fail(rt, b"standard input", error);
-                return Taken { good: false, len };
-            }
-        };
-        if n < 1 {
-            return Taken { good: true, len };
-        }
-        len += n;
-    }
-    Taken { good: true, len }
-}
+// What went wrong was told a person already.
+#[derive(Clone, Copy)]
+pub(crate) struct Failed {}
 
-pub(crate) fn wrote(rt: HostRuntime, bytes: &[u8]) -> bool {
+pub(crate) fn wrote(rt: HostRuntime, bytes: &[u8]) -> Result<(), Failed> {
     match edge::print(rt, bytes) {
-        Ok(()) => true,
+        Ok(()) => Ok(()),
         Err(error) => {
             edge::fail(rt, b"standard output", error);
-            false
+            Err(Failed {})
         }
     }
 }
 
 // A write can also fail at the end, when the system hands the bytes on.
-pub(crate) fn closed(rt: HostRuntime) -> u8 {
+pub(crate) fn closed(rt: HostRuntime) -> Result<(), Failed> {
     match edge::finish_output(rt) {
-        Ok(()) => DONE,
+        Ok(()) => Ok(()),
         Err(error) => {
             edge::fail(rt, b"standard output", error);
-            FAILED
+            Err(Failed {})
         }
     }
 }
 
-pub(crate) fn deliver(rt: HostRuntime, bytes: &[u8]) -> u8 {
-    if !wrote(rt, bytes) {
-        return FAILED;
-    }
+pub(crate) fn deliver(rt: HostRuntime, bytes: &[u8]) -> Result<(), Failed> {
+    wrote(rt, bytes)?;
     closed(rt)
 }
 
 // Slips that were read, for `recover` or `typed`.
-fn answer(rt: HostRuntime, typed: bool, input: &[u8], cells: &mut [u8]) -> u8 {
-    let mut places = [0usize; gather::MOST];
-    let mut starts = [0usize; gather::MOST];
-    let mut lens = [0usize; gather::MOST];
-    let mut numbers = [0u8; gather::MOST];
-    let g = gather::all(
-        rt,
-        input,
-        cells,
-        &mut places,
-        &mut starts,
-        &mut lens,
-        &mut numbers,
-    );
-    if !g.good {
-        return FAILED;
-    }
+fn answer(rt: HostRuntime, typed: bool, input: &[u8], cells: &mut [u8]) -> Result<(), Failed> {
+    let mut slips = gather::none();
+    gather::all(rt, input, cells, &mut slips)?;
     if typed {
-        return show::typed(rt, g.n, cells, &starts, &lens);
+        return show::typed(rt, &slips, cells);
     }
-    unite::recover(rt, g.n, input, cells, &places, &starts, &lens, &numbers)
+    unite::recover(rt, &slips, input, cells)
 }
 
 // A call gives the array, since one of this length that is written out where it is lent as a slice
@@ -117,59 +79,68 @@ fn blank() -> [u8; INPUT] {
     [0; INPUT]
 }
 
-fn read_slips(rt: HostRuntime, typed: bool) -> u8 {
+// Reads to the end of the input, or until the buffer is full. A fault is told.
+fn take_all(rt: HostRuntime, input: &mut [u8]) -> Result<usize, Failed> {
+    match edge::read_all(rt, input) {
+        Ok(len) => Ok(len),
+        Err(error) => {
+            edge::fail(rt, b"standard input", error);
+            Err(Failed {})
+        }
+    }
+}
+
+fn read_slips(rt: HostRuntime, typed: bool) -> Result<(), Failed> {
     let mut input = blank();
     let mut cells = [0u8; CELLS];
     told::waiting(rt, true);
-    let taken = take_all(rt, &mut input);
-    if !taken.good {
-        return FAILED;
-    }
-    let len = taken.len;
+    let len = take_all(rt, &mut input)?;
     if input.len() <= len {
         told::too_much(rt);
-        return FAILED;
+        return Err(Failed {});
     }
-    answer(
-        rt,
-        typed,
-        lend::part(&input, Span { start: 0, len }),
-        &mut cells,
-    )
+    answer(rt, typed, &input[..len], &mut cells)
 }
 
-fn split_with(rt: HostRuntime, o: Order, key: &[u8], document: &[u8]) -> u8 {
-    let d = Deal {
-        threshold: o.threshold as u64,
-        count: o.count as u64,
-        seed: o.seed,
-    };
-    deal::run(rt, d, key, document)
+// The status of what was asked for and done, or could not be.
+fn status(done: Result<(), Failed>) -> Status {
+    match done {
+        Ok(()) => Status::Done,
+        Err(_) => Status::Failed,
+    }
 }
 
 // A word that is wrong comes before the input (R15.17).
-fn obey(rt: HostRuntime, o: Order, key: &[u8], document: &[u8]) -> u8 {
-    let task = o.task;
-    match task {
+fn obey(rt: HostRuntime, o: Order, key: &[u8], document: &[u8]) -> Status {
+    match o.task {
         Task::Nothing => {
             told::nothing(rt);
-            WRONG
+            Status::Wrong
         }
         Task::Help => {
             told::help(rt);
-            DONE
+            Status::Done
         }
         Task::Version => {
             told::version(rt);
-            DONE
+            Status::Done
         }
         Task::Wrong { at, why } => {
             told::wrong(rt, at, why);
-            WRONG
+            Status::Wrong
         }
-        Task::Recover => read_slips(rt, false),
-        Task::Typed => read_slips(rt, true),
-        Task::Split => split_with(rt, o, key, document),
+        Task::Recover => status(read_slips(rt, false)),
+        Task::Typed => status(read_slips(rt, true)),
+        Task::Split => {
+            let deal = Deal {
+                threshold: u64::from(o.threshold.unwrap_or(0)),
+                count: u64::from(o.count.unwrap_or(0)),
+                seed: o.seed,
+                key,
+                document,
+            };
+            status(deal::run(rt, deal))
+        }
     }
 }
 
@@ -180,7 +151,7 @@ fn main(rt: HostRuntime) {
     let count = edge::arg_count(rt);
     if edge::asks_status(rt) {
         let o = words::asked(rt, 2, count, &mut word, &mut key, &mut document);
-        edge::tell_status(obey(rt, o, &key, &document));
+        edge::tell_status(obey(rt, o, &key, &document) as u8);
         return;
     }
     let o = words::asked(rt, 1, count, &mut word, &mut key, &mut document);

@@ -1,8 +1,8 @@
 // One slip of a split: what is to be signed of it, and the slip itself, a line each (R15.20).
 use crate::deal::Deal;
-use crate::{told, wrote};
+use crate::{Failed, told, wrote};
 use shard::Quorum;
-use wire::{Span, Wrote};
+use wire::{Refusal, Span};
 
 // More than the bytes that get signed, a payload, or a frame have.
 const ROOM: usize = 512;
@@ -10,7 +10,7 @@ const ROOM: usize = 512;
 // Such bytes as hex, or as base64, and a line feed.
 const LINE: usize = 1_025;
 
-fn quorum(d: Deal, i: usize) -> Quorum {
+fn quorum(d: &Deal, i: usize) -> Quorum {
     Quorum {
         threshold: d.threshold,
         count: d.count,
@@ -18,76 +18,68 @@ fn quorum(d: Deal, i: usize) -> Quorum {
     }
 }
 
-fn kind(seed: bool, out: &mut [u8]) -> usize {
-    if seed {
-        lend::copy(out, 0, b"signing-seed");
-        return 12;
+fn kind(seed: bool) -> &'static [u8] {
+    if seed { b"signing-seed" } else { b"passphrase" }
+}
+
+// What was written at the front of a buffer; or why it was not, which is told.
+fn made(rt: HostRuntime, out: &[u8], r: Result<usize, Refusal>) -> Result<&[u8], Failed> {
+    match r {
+        Ok(len) => Ok(lend::part(out, Span { start: 0, len })),
+        Err(why) => {
+            told::not_split(rt, why);
+            Err(Failed {})
+        }
     }
-    lend::copy(out, 0, b"passphrase");
-    10
 }
 
 // A line of hex.
-fn hex_line(rt: HostRuntime, bytes: &[u8]) -> bool {
+fn hex_line(rt: HostRuntime, bytes: &[u8]) -> Result<(), Failed> {
     let mut line = [0u8; LINE];
     if ROOM < bytes.len() {
-        return false;
+        return Err(Failed {});
     }
     let len = 2 * bytes.len();
     digits::hex(&mut line, 0, bytes);
     lend::put(&mut line, len, b'\n');
-    let end = len + 1;
-    wrote(rt, &line[0..end])
+    wrote(rt, &line[..len + 1])
 }
 
-// What is to be signed of slip i, as a line.
+// What is to be signed of slip i, of a secret of so many bytes, as a line.
 pub(crate) fn ask(
     rt: HostRuntime,
-    d: Deal,
+    d: &Deal,
     i: usize,
     len: usize,
-    key: &[u8],
-    document: &[u8],
     share: &[u8],
-) -> bool {
-    let mut type_room = [0u8; 12];
+) -> Result<(), Failed> {
     let mut out = [0u8; ROOM];
-    let n = kind(d.seed, &mut type_room);
-    let name = lend::part(&type_room, Span { start: 0, len: n });
-    match shard::signed(
-        key,
-        document,
-        name,
+    let r = shard::signed(
+        d.key,
+        d.document,
+        kind(d.seed),
         share,
         len as u64,
         quorum(d, i),
         &mut out,
-    ) {
-        Wrote::Refused { no } => {
-            told::not_split(rt, no);
-            false
-        }
-        Wrote::Done { len: m } => hex_line(rt, lend::part(&out, Span { start: 0, len: m })),
-    }
+    );
+    hex_line(rt, made(rt, &out, r)?)
 }
 
 // A slip's line.
-fn scan_line(rt: HostRuntime, frame: &[u8]) -> bool {
+fn scan_line(rt: HostRuntime, frame: &[u8]) -> Result<(), Failed> {
     let mut line = [0u8; LINE];
-    match text::base64_write(frame, &mut line) {
-        Wrote::Refused { no: _ } => false,
-        Wrote::Done { len } => {
-            if LINE <= len {
-                return false;
-            }
-            lend::put(&mut line, len, b'\n');
-            let end = len + 1;
-            wrote(rt, &line[0..end])
-        }
+    let Ok(len) = text::base64_write(frame, &mut line) else {
+        return Err(Failed {});
+    };
+    if LINE <= len {
+        return Err(Failed {});
     }
+    lend::put(&mut line, len, b'\n');
+    wrote(rt, &line[..len + 1])
 }
 
-fn frame_line(rt: HostRuntime, document: &[u8], payload: &[u8]) -> bool {
+fn frame_line(rt: HostRuntime, document: &[u8], payload: &[u8]) -> Result<(), Failed> {
     let mut out = [0u8; ROOM];
     let id = lend::part(
         document,
@@ -96,48 +88,29 @@ fn frame_line(rt: HostRuntime, document: &[u8], payload: &[u8]) -> bool {
             len: wire::ID_SIZE,
         },
     );
-    match payload_frame::key(id, payload, &mut out) {
-        Wrote::Refused { no } => {
-            told::not_split(rt, no);
-            false
-        }
-        Wrote::Done { len } => scan_line(rt, lend::part(&out, Span { start: 0, len })),
-    }
+    let r = payload_frame::key(id, payload, &mut out);
+    scan_line(rt, made(rt, &out, r)?)
 }
 
 // Slip i, with its signature, as a line.
 pub(crate) fn slip(
     rt: HostRuntime,
-    d: Deal,
+    d: &Deal,
     i: usize,
     len: usize,
-    key: &[u8],
-    document: &[u8],
     share: &[u8],
     signature: &[u8],
-) -> bool {
-    let mut type_room = [0u8; 12];
+) -> Result<(), Failed> {
     let mut out = [0u8; ROOM];
-    let n = kind(d.seed, &mut type_room);
-    let name = lend::part(&type_room, Span { start: 0, len: n });
-    match shard::write(
-        key,
+    let r = shard::write(
+        d.key,
         signature,
-        document,
-        name,
+        d.document,
+        kind(d.seed),
         share,
         len as u64,
         quorum(d, i),
         &mut out,
-    ) {
-        Wrote::Refused { no } => {
-            told::not_split(rt, no);
-            false
-        }
-        Wrote::Done { len: m } => frame_line(
-            rt,
-            document,
-            lend::part(&out, Span { start: 0, len: m }),
-        ),
-    }
+    );
+    frame_line(rt, d.document, made(rt, &out, r)?)
 }

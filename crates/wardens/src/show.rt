@@ -1,7 +1,8 @@
 // Slips as they are typed: for each which it is, and its lines (R15.21).
-use crate::{FAILED, closed, gather, unite, wrote};
-use shard::{Quorum, ShardRead};
-use wire::{Span, Wrote};
+use crate::gather::Slips;
+use crate::{Failed, closed, gather, wrote};
+use shard::Quorum;
+use wire::Span;
 
 // Twenty lines, each of 42 characters, 6 spaces and a line feed.
 const LINES_ROOM: usize = 980;
@@ -12,57 +13,37 @@ const TITLE_ROOM: usize = 16;
 // A frame ends with its checksum, four bytes behind its data.
 const SUM: usize = 4;
 
-fn no_share() -> Quorum {
-    Quorum {
-        threshold: 0,
-        count: 0,
-        index: 0,
-    }
-}
-
 fn share(payload: &[u8]) -> Quorum {
     match shard::read(payload) {
-        ShardRead::Refused { no: _ } => no_share(),
-        ShardRead::Value {
-            public: _,
-            sig: _,
-            hash: _,
-            content: _,
-            quorum,
-            next: _,
-        } => quorum,
+        Ok(shard) => shard.quorum,
+        Err(_) => Quorum {
+            threshold: 0,
+            count: 0,
+            index: 0,
+        },
     }
 }
 
 // `slip I of N`.
-fn title(rt: HostRuntime, q: Quorum) -> bool {
+fn title(rt: HostRuntime, q: Quorum) -> Result<(), Failed> {
     let mut line = [0u8; TITLE_ROOM];
-    if 255 < q.index {
-        return false;
-    }
-    if 255 < q.count {
-        return false;
-    }
+    let (Ok(index), Ok(count)) = (u8::try_from(q.index), u8::try_from(q.count)) else {
+        return Err(Failed {});
+    };
     lend::copy(&mut line, 0, b"slip ");
-    let after = 5 + digits::decimal(&mut line, 5, q.index as u8);
+    let after = 5 + digits::decimal(&mut line, 5, index);
     lend::copy(&mut line, after, b" of ");
-    let end = after + 4 + digits::decimal(&mut line, after + 4, q.count as u8);
+    let end = after + 4 + digits::decimal(&mut line, after + 4, count);
     lend::put(&mut line, end, b'\n');
-    let len = end + 1;
-    wrote(rt, &line[0..len])
+    wrote(rt, &line[..end + 1])
 }
 
-fn lines(rt: HostRuntime, frame: &[u8]) -> bool {
+fn lines(rt: HostRuntime, frame: &[u8]) -> Result<(), Failed> {
     let mut out = [0u8; LINES_ROOM];
-    match sheet::in_groups(frame, &mut out) {
-        Wrote::Refused { no: _ } => false,
-        Wrote::Done { len } => {
-            if out.len() < len {
-                return false;
-            }
-            wrote(rt, &out[0..len])
-        }
-    }
+    let Ok(len) = sheet::in_groups(frame, &mut out) else {
+        return Err(Failed {});
+    };
+    wrote(rt, lend::part(&out, Span { start: 0, len }))
 }
 
 // Where the frame of slip n stands in its cell, whose payload stands there too.
@@ -76,10 +57,7 @@ fn framed(n: usize, payload: Span) -> Span {
         return none;
     }
     let front = payload.start - cell;
-    if gather::CELL < front {
-        return none;
-    }
-    if gather::CELL < payload.len {
+    if gather::CELL < front || gather::CELL < payload.len {
         return none;
     }
     Span {
@@ -88,32 +66,18 @@ fn framed(n: usize, payload: Span) -> Span {
     }
 }
 
-fn one(rt: HostRuntime, n: usize, cells: &[u8], payload: Span) -> bool {
+fn one(rt: HostRuntime, n: usize, cells: &[u8], payload: Span) -> Result<(), Failed> {
     if 0 < n {
-        if !wrote(rt, b"\n") {
-            return false;
-        }
+        wrote(rt, b"\n")?;
     }
-    if !title(rt, share(lend::part(cells, payload))) {
-        return false;
-    }
+    title(rt, share(lend::part(cells, payload)))?;
     lines(rt, lend::part(cells, framed(n, payload)))
 }
 
 // All slips, with an empty line between two.
-pub(crate) fn typed(
-    rt: HostRuntime,
-    n: usize,
-    cells: &[u8],
-    starts: &[usize],
-    lens: &[usize],
-) -> u8 {
-    let mut i = 0;
-    while i < n {
-        if !one(rt, i, cells, unite::place(starts, lens, i)) {
-            return FAILED;
-        }
-        i += 1;
+pub(crate) fn typed(rt: HostRuntime, slips: &Slips, cells: &[u8]) -> Result<(), Failed> {
+    for i in 0..slips.n {
+        one(rt, i, cells, gather::payload(slips, i))?;
     }
     closed(rt)
 }

@@ -1,5 +1,7 @@
 // What is told a person, on standard error (R15.17, R15.19, R15.20).
 use crate::words::Why;
+use frame::Kind;
+use wire::{Refusal, RefusedAt};
 
 const VERSION: u64 = 1;
 
@@ -92,9 +94,8 @@ fn number(rt: HostRuntime, n: u64) {
 
 // A number that is counted from 0, as one from 1 on.
 fn from_one(rt: HostRuntime, n: usize) {
-    let m = n as u64;
-    if m < u64::MAX {
-        number(rt, m + 1);
+    if let Some(m) = (n as u64).checked_add(1) {
+        number(rt, m);
     }
 }
 
@@ -105,9 +106,9 @@ pub(crate) fn line(rt: HostRuntime, feeds: usize) {
 
 // ---- a slip that is none (R15.19)
 
-fn refused(rt: HostRuntime, no: u8) {
+fn refused(rt: HostRuntime, why: Refusal) {
     say(rt, b": refused ");
-    number(rt, no as u64);
+    number(rt, u64::from(u8::from(why)));
     say(rt, b": ");
 }
 
@@ -117,25 +118,25 @@ fn mistyped(rt: HostRuntime, feeds: usize, behind: u8) {
     let m = feeds as u64;
     if m < u64::MAX - 255 {
         say(rt, b"line ");
-        number(rt, m + behind as u64);
-        refused(rt, wire::MISTYPED);
+        number(rt, m + u64::from(behind));
+        refused(rt, Refusal::Mistyped);
         say(rt, b"it was mistyped: type it again\n");
     }
 }
 
-pub(crate) fn text(rt: HostRuntime, feeds: usize, no: u8, behind: u8, typed: bool) {
-    if no == wire::MISTYPED {
-        mistyped(rt, feeds, behind);
+pub(crate) fn text(rt: HostRuntime, feeds: usize, r: RefusedAt, typed: bool) {
+    if r.why == Refusal::Mistyped {
+        mistyped(rt, feeds, r.place);
         return;
     }
     line(rt, feeds);
-    if no == wire::NO_ROOM {
-        refused(rt, wire::TOO_LARGE);
+    if r.why == Refusal::NoRoom {
+        refused(rt, Refusal::TooLarge);
         say(rt, b"it has more bytes than a slip\n");
         return;
     }
-    refused(rt, no);
-    if no == wire::BAD_CHARACTER {
+    refused(rt, r.why);
+    if r.why == Refusal::BadCharacter {
         say(rt, b"it has a character that a slip may not have\n");
         return;
     }
@@ -146,28 +147,27 @@ pub(crate) fn text(rt: HostRuntime, feeds: usize, no: u8, behind: u8, typed: boo
     say(rt, b"the scan is cut, or has too much\n");
 }
 
-pub(crate) fn frame(rt: HostRuntime, feeds: usize, no: u8) {
+pub(crate) fn frame(rt: HostRuntime, feeds: usize, why: Refusal) {
     line(rt, feeds);
-    refused(rt, no);
-    if no == wire::BAD_CHECKSUM {
+    refused(rt, why);
+    if why == Refusal::BadChecksum {
         say(rt, b"its checksum differs: scan or type it again\n");
         return;
     }
     say(rt, b"it is no frame\n");
 }
 
-pub(crate) fn other(rt: HostRuntime, feeds: usize, kind: u8) {
+pub(crate) fn other(rt: HostRuntime, feeds: usize, kind: Kind) {
     line(rt, feeds);
-    if kind == frame::MAIN {
-        say(rt, b" is no slip: it is a page of a document\n");
-        return;
+    match kind {
+        Kind::Main => say(rt, b" is no slip: it is a page of a document\n"),
+        _ => say(rt, b" is no slip: it is an auth frame\n"),
     }
-    say(rt, b" is no slip: it is an auth frame\n");
 }
 
-pub(crate) fn shard(rt: HostRuntime, feeds: usize, no: u8) {
+pub(crate) fn shard(rt: HostRuntime, feeds: usize, why: Refusal) {
     line(rt, feeds);
-    refused(rt, no);
+    refused(rt, why);
     say(rt, b"it is a key frame, but no share is in it\n");
 }
 
@@ -214,13 +214,13 @@ pub(crate) fn no_slip(rt: HostRuntime) {
 
 pub(crate) fn unlike(rt: HostRuntime, feeds: usize) {
     line(rt, feeds);
-    refused(rt, wire::UNLIKE_SLIPS);
+    refused(rt, Refusal::UnlikeSlips);
     say(rt, b"it is a slip of another secret than the first\n");
 }
 
 pub(crate) fn twice(rt: HostRuntime, first: usize, second: usize) {
     line(rt, second);
-    refused(rt, wire::SLIP_TWICE);
+    refused(rt, Refusal::SlipTwice);
     say(rt, b"it has the same number as the slip on line ");
     from_one(rt, first);
     say(rt, b"\n");
@@ -228,7 +228,7 @@ pub(crate) fn twice(rt: HostRuntime, first: usize, second: usize) {
 
 pub(crate) fn misfit(rt: HostRuntime, feeds: usize) {
     line(rt, feeds);
-    refused(rt, wire::OFF_THE_CURVE);
+    refused(rt, Refusal::OffTheCurve);
     say(
         rt,
         b"it does not fit the slips before it: one of them is damaged or false\n",
@@ -242,9 +242,9 @@ pub(crate) fn damaged(rt: HostRuntime) {
     );
 }
 
-pub(crate) fn refusal(rt: HostRuntime, no: u8) {
+pub(crate) fn refusal(rt: HostRuntime, why: Refusal) {
     say(rt, b"refused ");
-    number(rt, no as u64);
+    number(rt, u64::from(u8::from(why)));
     say(rt, b": the slips give no secret\n");
 }
 
@@ -271,9 +271,9 @@ pub(crate) fn no_chance(rt: HostRuntime) {
     );
 }
 
-pub(crate) fn not_split(rt: HostRuntime, no: u8) {
+pub(crate) fn not_split(rt: HostRuntime, why: Refusal) {
     say(rt, b"refused ");
-    number(rt, no as u64);
+    number(rt, u64::from(u8::from(why)));
     say(rt, b": this cannot be split\n");
 }
 
@@ -297,24 +297,18 @@ fn show(rt: HostRuntime, at: usize, word: &mut [u8]) {
     edge::tell_word(rt, at, word, lend::plain);
 }
 
-fn right(rt: HostRuntime, why: Why) {
+fn right(why: Why) -> &'static [u8] {
     match why {
-        Why::Unknown => say(
-            rt,
-            b"wardens takes recover, typed, split, --help or --version",
-        ),
-        Why::NoNumber => say(rt, b"here belongs a number from 1 to 255"),
-        Why::NoQuorum => say(rt, b"there are no fewer slips than are needed"),
-        Why::NoHex => say(rt, b"here belong 64 lower-case hex digits"),
-        Why::Twice => say(rt, b"it is said once"),
-        Why::Lacks => say(rt, b"behind it belong 64 lower-case hex digits"),
+        Why::Unknown => b"wardens takes recover, typed, split, --help or --version",
+        Why::NoNumber => b"here belongs a number from 1 to 255",
+        Why::NoQuorum => b"there are no fewer slips than are needed",
+        Why::NoHex => b"here belong 64 lower-case hex digits",
+        Why::Twice => b"it is said once",
+        Why::Lacks => b"behind it belong 64 lower-case hex digits",
         Why::SplitLacks => {
-            say(
-                rt,
-                b"it takes THRESHOLD COUNT --key HEX --document HEX, and maybe --signing-seed",
-            )
+            b"it takes THRESHOLD COUNT --key HEX --document HEX, and maybe --signing-seed"
         }
-        Why::NotAlone => say(rt, b"nothing belongs behind recover or typed"),
+        Why::NotAlone => b"nothing belongs behind recover or typed",
     }
 }
 
@@ -330,6 +324,6 @@ pub(crate) fn wrong(rt: HostRuntime, at: usize, why: Why) {
     say(rt, b"wrong word '");
     show(rt, at, &mut word);
     say(rt, b"': ");
-    right(rt, why);
+    say(rt, right(why));
     say(rt, b"\n");
 }

@@ -1,66 +1,53 @@
 // The secret of slips, or why they give none (R15.19).
-use crate::{FAILED, deliver, gather, told};
-use shard::ShardRead;
-use slips::Repeat;
-use wire::{Span, Wrote};
+use crate::gather::Slips;
+use crate::{Failed, deliver, gather, told};
+use wire::{Refusal, Span};
 
 // One more than the most that are needed (R11.6).
 const TRIED: usize = 256;
 
-// Where the payload of slip i stands.
-pub(crate) fn place(starts: &[usize], lens: &[usize], i: usize) -> Span {
-    Span {
-        start: gather::at(starts, i),
-        len: gather::at(lens, i),
-    }
+// The payload of slip i.
+fn payload<'a>(slips: &Slips, cells: &'a [u8], i: usize) -> &'a [u8] {
+    lend::part(cells, gather::payload(slips, i))
 }
 
 // How many slips are needed, as the first one says.
-fn needed(cells: &[u8], starts: &[usize], lens: &[usize]) -> u64 {
-    match shard::read(lend::part(cells, place(starts, lens, 0))) {
-        ShardRead::Refused { no: _ } => 0,
-        ShardRead::Value {
-            public: _,
-            sig: _,
-            hash: _,
-            content: _,
-            quorum,
-            next: _,
-        } => quorum.threshold,
+fn needed(slips: &Slips, cells: &[u8]) -> u64 {
+    match shard::read(payload(slips, cells, 0)) {
+        Ok(shard) => shard.quorum.threshold,
+        Err(_) => 0,
     }
 }
 
-fn too_few(rt: HostRuntime, n: usize, cells: &[u8], starts: &[usize], lens: &[usize]) {
-    if n < 1 {
+fn too_few(rt: HostRuntime, slips: &Slips, cells: &[u8]) {
+    if slips.n < 1 {
         told::no_slip(rt);
         return;
     }
-    told::too_few(rt, n, needed(cells, starts, lens));
+    told::too_few(rt, slips.n, needed(slips, cells));
 }
 
 // The first slip that is none of the first one's secret; where there is none, how many there are.
-fn stranger(n: usize, cells: &[u8], starts: &[usize], lens: &[usize]) -> usize {
-    let mut i = 1;
-    while i < n {
-        let first = lend::part(cells, place(starts, lens, 0));
-        if !recover::alike(first, lend::part(cells, place(starts, lens, i))) {
+fn stranger(slips: &Slips, cells: &[u8]) -> usize {
+    for i in 1..slips.n {
+        if !recover::alike(payload(slips, cells, 0), payload(slips, cells, i)) {
             return i;
         }
-        i += 1;
     }
-    i
+    slips.n.max(1)
 }
 
-fn twice(rt: HostRuntime, n: usize, input: &[u8], places: &[usize], numbers: &[u8]) {
-    let held = lend::part(numbers, Span { start: 0, len: n });
-    let Repeat::Twice { first, second } = slips::repeated(held) else {
+// Where in the input, as a line, slip i began.
+fn line(slips: &Slips, input: &[u8], i: usize) -> usize {
+    gather::feeds(input, gather::at(&slips.places, i))
+}
+
+fn twice(rt: HostRuntime, slips: &Slips, input: &[u8]) {
+    let n = slips.n;
+    let Some((first, second)) = slips::repeated(&slips.numbers[..n]) else {
         return;
     };
-    told::twice(
-        rt,
-        gather::feeds(input, gather::at(places, first)),
-        gather::feeds(input, gather::at(places, second)),
-    );
+    told::twice(rt, line(slips, input, first), line(slips, input, second));
 }
 
 // Whether the slips at these places are refused since one does not fit.
@@ -68,144 +55,74 @@ fn off(cells: &[u8], starts: &[usize], lens: &[usize]) -> bool {
     let mut secret = [0u8; wire::MOST_SHARE];
     let r = recover::recover(cells, starts, lens, &mut secret);
     lend::clear(&mut secret, 0, wire::MOST_SHARE);
-    match r {
-        Wrote::Done { len: _ } => false,
-        Wrote::Refused { no } => no == wire::OFF_THE_CURVE,
-    }
+    r == Err(Refusal::OffTheCurve)
 }
 
-// The first of them go to the front of others.
+// The first of them, so many, go to the front of others.
 fn front(from: &[usize], n: usize, others: &mut [usize]) {
-    let mut i = 0;
-    while i < n {
-        gather::set(others, i, gather::at(from, i));
-        i += 1;
+    for (to, x) in others.iter_mut().zip(from).take(n) {
+        *to = *x;
     }
-}
-
-// Whether slip i does not fit the needed ones, which stand in front of the two lists already.
-fn fits_not(
-    i: usize,
-    needed: usize,
-    cells: &[u8],
-    starts: &[usize],
-    lens: &[usize],
-    some: &mut [usize],
-    long: &mut [usize],
-) -> bool {
-    gather::set(some, needed, gather::at(starts, i));
-    gather::set(long, needed, gather::at(lens, i));
-    if some.len() <= needed {
-        return false;
-    }
-    if long.len() <= needed {
-        return false;
-    }
-    off(cells, &some[0..needed + 1], &long[0..needed + 1])
 }
 
 // The first slip that does not fit the needed ones before it; where there is none, how many there
 // are.
-fn misfit(
-    n: usize,
-    needed: usize,
-    cells: &[u8],
-    starts: &[usize],
-    lens: &[usize],
-    some: &mut [usize],
-    long: &mut [usize],
-) -> usize {
-    front(starts, needed, some);
-    front(lens, needed, long);
-    let mut i = needed;
-    while i < n {
-        if fits_not(i, needed, cells, starts, lens, some, long) {
+fn misfit(slips: &Slips, cells: &[u8], needed: usize) -> usize {
+    let mut starts = [0usize; TRIED];
+    let mut lens = [0usize; TRIED];
+    front(&slips.starts, needed, &mut starts);
+    front(&slips.lens, needed, &mut lens);
+    for i in needed..slips.n {
+        if TRIED <= needed {
+            return slips.n;
+        }
+        starts[needed] = gather::at(&slips.starts, i);
+        lens[needed] = gather::at(&slips.lens, i);
+        if off(cells, &starts[..needed + 1], &lens[..needed + 1]) {
             return i;
         }
-        i += 1;
     }
-    i
-}
-
-// Where the first slip begins that does not fit.
-fn misfit_at(n: usize, cells: &[u8], places: &[usize], starts: &[usize], lens: &[usize]) -> usize {
-    let mut some = [0usize; TRIED];
-    let mut long = [0usize; TRIED];
-    let first = needed(cells, starts, lens) as usize;
-    let i = misfit(n, first, cells, starts, lens, &mut some, &mut long);
-    gather::at(places, i)
+    slips.n.max(needed)
 }
 
 // Why these slips give no secret.
-fn tell(
-    rt: HostRuntime,
-    no: u8,
-    n: usize,
-    input: &[u8],
-    cells: &[u8],
-    places: &[usize],
-    starts: &[usize],
-    lens: &[usize],
-    numbers: &[u8],
-) {
-    if no == wire::TOO_FEW_SLIPS {
-        too_few(rt, n, cells, starts, lens);
-        return;
+fn tell(rt: HostRuntime, why: Refusal, slips: &Slips, input: &[u8], cells: &[u8]) {
+    match why {
+        Refusal::TooFewSlips => too_few(rt, slips, cells),
+        Refusal::UnlikeSlips => {
+            told::unlike(rt, line(slips, input, stranger(slips, cells)));
+        }
+        Refusal::SlipTwice => twice(rt, slips, input),
+        Refusal::OffTheCurve => {
+            let i = misfit(slips, cells, needed(slips, cells) as usize);
+            told::misfit(rt, line(slips, input, i));
+        }
+        Refusal::BadPadding => told::damaged(rt),
+        _ => told::refusal(rt, why),
     }
-    if no == wire::UNLIKE_SLIPS {
-        let i = stranger(n, cells, starts, lens);
-        told::unlike(rt, gather::feeds(input, gather::at(places, i)));
-        return;
-    }
-    if no == wire::SLIP_TWICE {
-        twice(rt, n, input, places, numbers);
-        return;
-    }
-    if no == wire::OFF_THE_CURVE {
-        let start = misfit_at(n, cells, places, starts, lens);
-        told::misfit(rt, gather::feeds(input, start));
-        return;
-    }
-    if no == wire::BAD_PADDING {
-        told::damaged(rt);
-        return;
-    }
-    told::refusal(rt, no);
 }
 
 // The secret goes to standard output. Its bytes are cleared at the end; the compiler may leave that
 // out, since nobody reads them any more, and nothing is proved of it.
-fn give(rt: HostRuntime, len: usize, secret: &mut [u8]) -> u8 {
-    if secret.len() < len {
-        return FAILED;
-    }
-    let status = deliver(rt, &secret[0..len]);
+fn give(rt: HostRuntime, len: usize, secret: &mut [u8]) -> Result<(), Failed> {
+    let done = deliver(rt, lend::part(secret, Span { start: 0, len }));
     lend::clear(secret, 0, wire::MOST_SHARE);
-    status
+    done
 }
 
 pub(crate) fn recover(
     rt: HostRuntime,
-    n: usize,
+    slips: &Slips,
     input: &[u8],
     cells: &[u8],
-    places: &[usize],
-    starts: &[usize],
-    lens: &[usize],
-    numbers: &[u8],
-) -> u8 {
+) -> Result<(), Failed> {
     let mut secret = [0u8; wire::MOST_SHARE];
-    if starts.len() < n {
-        return FAILED;
-    }
-    if lens.len() < n {
-        return FAILED;
-    }
-    match recover::recover(cells, &starts[0..n], &lens[0..n], &mut secret) {
-        Wrote::Done { len } => give(rt, len, &mut secret),
-        Wrote::Refused { no } => {
-            tell(rt, no, n, input, cells, places, starts, lens, numbers);
-            FAILED
+    let n = slips.n;
+    match recover::recover(cells, &slips.starts[..n], &slips.lens[..n], &mut secret) {
+        Ok(len) => give(rt, len, &mut secret),
+        Err(why) => {
+            tell(rt, why, slips, input, cells);
+            Err(Failed {})
         }
     }
 }

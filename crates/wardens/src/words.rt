@@ -1,6 +1,4 @@
 // The words of the command, and what they ask for (R15.17, R15.20).
-use sheet::Asked;
-use wire::Wrote;
 
 // A key and a digest have so many bytes (R11.2).
 const NAME_SIZE: usize = 32;
@@ -34,30 +32,30 @@ pub(crate) enum Task {
     Wrong { at: usize, why: Why },
 }
 
-// What the words ask for so far. A number of 0 is none. Where `--key` or `--document` came last,
-// and waits for its digits, there is its index, and else 0.
+// `--key` or `--document`, which came last and waits for its digits, with its index.
+#[derive(Clone, Copy)]
+enum Waiting {
+    Key { at: usize },
+    Document { at: usize },
+}
+
+// What the words ask for so far.
 #[derive(Clone, Copy)]
 pub(crate) struct Order {
     pub(crate) task: Task,
-    pub(crate) threshold: u16,
-    pub(crate) count: u16,
+    pub(crate) threshold: Option<u16>,
+    pub(crate) count: Option<u16>,
     pub(crate) seed: bool,
     key: bool,
     document: bool,
-    waits: usize,
-    for_key: bool,
+    waits: Option<Waiting>,
 }
 
 fn with(o: Order, task: Task) -> Order {
     Order {
         task,
-        threshold: o.threshold,
-        count: o.count,
-        seed: o.seed,
-        key: o.key,
-        document: o.document,
-        waits: 0,
-        for_key: false,
+        waits: None,
+        ..o
     }
 }
 
@@ -65,141 +63,79 @@ fn wrong(o: Order, at: usize, why: Why) -> Order {
     with(o, Task::Wrong { at, why })
 }
 
-fn is_wrong(task: Task) -> bool {
-    match task {
-        Task::Wrong { at: _, why: _ } => true,
-        _ => false,
-    }
-}
-
-fn is_split(task: Task) -> bool {
-    match task {
-        Task::Split => true,
-        _ => false,
-    }
+fn is(word: &[u8], said: &[u8]) -> bool {
+    word == said
 }
 
 fn with_seed(o: Order, at: usize) -> Order {
     if o.seed {
         return wrong(o, at, Why::Twice);
     }
-    let task = o.task;
-    Order {
-        task,
-        threshold: o.threshold,
-        count: o.count,
-        seed: true,
-        key: o.key,
-        document: o.document,
-        waits: 0,
-        for_key: false,
-    }
+    Order { seed: true, ..o }
 }
 
-// `--key` or `--document`, whose digits come next.
-fn wait(o: Order, at: usize, for_key: bool) -> Order {
-    let said = if for_key { o.key } else { o.document };
-    if said {
+// `--key`, whose digits come next.
+fn with_key(o: Order, at: usize) -> Order {
+    if o.key {
         return wrong(o, at, Why::Twice);
     }
-    let task = o.task;
     Order {
-        task,
-        threshold: o.threshold,
-        count: o.count,
-        seed: o.seed,
-        key: o.key || for_key,
-        document: o.document || !for_key,
-        waits: at,
-        for_key,
+        key: true,
+        waits: Some(Waiting::Key { at }),
+        ..o
     }
 }
 
-fn hex(word: &[u8], out: &mut [u8]) -> bool {
-    match slips::hex(word, NAME_SIZE, out) {
-        Wrote::Done { len: _ } => true,
-        Wrote::Refused { no: _ } => false,
+// `--document`, whose digits come next.
+fn with_document(o: Order, at: usize) -> Order {
+    if o.document {
+        return wrong(o, at, Why::Twice);
     }
-}
-
-fn checked(o: Order, at: usize, good: bool) -> Order {
-    if !good {
-        return wrong(o, at, Why::NoHex);
+    Order {
+        document: true,
+        waits: Some(Waiting::Document { at }),
+        ..o
     }
-    let task = o.task;
-    with(o, task)
 }
 
 // The digits that were waited for.
-fn digits(o: Order, at: usize, word: &[u8], key: &mut [u8], document: &mut [u8]) -> Order {
-    if o.for_key {
-        return checked(o, at, hex(word, key));
-    }
-    checked(o, at, hex(word, document))
-}
-
-fn with_threshold(o: Order, n: u16) -> Order {
-    let task = o.task;
-    Order {
-        task,
-        threshold: n,
-        count: 0,
-        seed: o.seed,
-        key: o.key,
-        document: o.document,
-        waits: 0,
-        for_key: false,
-    }
-}
-
-fn with_count(o: Order, at: usize, n: u16) -> Order {
-    if n < o.threshold {
-        return wrong(o, at, Why::NoQuorum);
-    }
-    let task = o.task;
-    Order {
-        task,
-        threshold: o.threshold,
-        count: n,
-        seed: o.seed,
-        key: o.key,
-        document: o.document,
-        waits: 0,
-        for_key: false,
+fn digits(o: Order, at: usize, word: &[u8], out: &mut [u8]) -> Order {
+    match slips::hex(word, NAME_SIZE, out) {
+        Ok(_) => Order { waits: None, ..o },
+        Err(_) => wrong(o, at, Why::NoHex),
     }
 }
 
 // THRESHOLD, and then COUNT. The most that is asked for is one more, which is none.
 fn number(o: Order, at: usize, word: &[u8]) -> Order {
-    if 0 < o.count {
+    if o.count.is_some() {
         return wrong(o, at, Why::Unknown);
     }
     match sheet::number_asked(word, MOST_SLIPS + 1) {
-        Asked::Number { n } => {
-            if n < 1 {
-                return wrong(o, at, Why::NoNumber);
-            }
-            if MOST_SLIPS < n {
-                return wrong(o, at, Why::NoNumber);
-            }
-            if o.threshold < 1 {
-                return with_threshold(o, n);
-            }
-            with_count(o, at, n)
-        }
-        Asked::Nothing => wrong(o, at, Why::NoNumber),
+        Some(n) if 1 <= n && n <= MOST_SLIPS => match o.threshold {
+            None => Order {
+                threshold: Some(n),
+                ..o
+            },
+            Some(threshold) if n < threshold => wrong(o, at, Why::NoQuorum),
+            Some(_) => Order {
+                count: Some(n),
+                ..o
+            },
+        },
+        _ => wrong(o, at, Why::NoNumber),
     }
 }
 
 // A word behind `split`.
 fn part(o: Order, at: usize, word: &[u8]) -> Order {
-    if lend::equal(word, b"--key") {
-        return wait(o, at, true);
+    if is(word, b"--key") {
+        return with_key(o, at);
     }
-    if lend::equal(word, b"--document") {
-        return wait(o, at, false);
+    if is(word, b"--document") {
+        return with_document(o, at);
     }
-    if lend::equal(word, b"--signing-seed") {
+    if is(word, b"--signing-seed") {
         return with_seed(o, at);
     }
     number(o, at, word)
@@ -207,22 +143,19 @@ fn part(o: Order, at: usize, word: &[u8]) -> Order {
 
 // The first word.
 fn verb(o: Order, at: usize, alone: bool, word: &[u8]) -> Order {
-    if lend::equal(word, b"split") {
+    if is(word, b"split") {
         return with(o, Task::Split);
     }
-    if lend::equal(word, b"recover") {
+    if is(word, b"recover") {
         return with(o, Task::Recover);
     }
-    if lend::equal(word, b"typed") {
+    if is(word, b"typed") {
         return with(o, Task::Typed);
     }
-    if !alone {
-        return wrong(o, at, Why::Unknown);
-    }
-    if lend::equal(word, b"--help") {
+    if alone && is(word, b"--help") {
         return with(o, Task::Help);
     }
-    if lend::equal(word, b"--version") {
+    if alone && is(word, b"--version") {
         return with(o, Task::Version);
     }
     wrong(o, at, Why::Unknown)
@@ -236,36 +169,29 @@ fn next(
     key: &mut [u8],
     document: &mut [u8],
 ) -> Order {
-    if 0 < o.waits {
-        return digits(o, at, word, key, document);
-    }
-    let task = o.task;
-    match task {
-        Task::Nothing => verb(o, at, alone, word),
-        Task::Split => part(o, at, word),
-        _ => wrong(o, at, Why::NotAlone),
+    match o.waits {
+        Some(Waiting::Key { at: _ }) => digits(o, at, word, key),
+        Some(Waiting::Document { at: _ }) => digits(o, at, word, document),
+        None => match o.task {
+            Task::Nothing => verb(o, at, alone, word),
+            Task::Split => part(o, at, word),
+            _ => wrong(o, at, Why::NotAlone),
+        },
     }
 }
 
 // What lacks behind `split`, which is the word at index first.
 fn whole(o: Order, first: usize) -> Order {
-    if 0 < o.waits {
-        return wrong(o, o.waits, Why::Lacks);
+    match o.waits {
+        Some(Waiting::Key { at }) | Some(Waiting::Document { at }) => wrong(o, at, Why::Lacks),
+        None => {
+            let said = o.count.is_some() && o.key && o.document;
+            if matches!(o.task, Task::Split) && !said {
+                return wrong(o, first, Why::SplitLacks);
+            }
+            o
+        }
     }
-    let task = o.task;
-    if !is_split(task) {
-        return o;
-    }
-    if o.count < 1 {
-        return wrong(o, first, Why::SplitLacks);
-    }
-    if !o.key {
-        return wrong(o, first, Why::SplitLacks);
-    }
-    if !o.document {
-        return wrong(o, first, Why::SplitLacks);
-    }
-    o
 }
 
 // What all words ask for: those from index first on, of so many. The key and the digest are put
@@ -280,24 +206,20 @@ pub(crate) fn asked(
 ) -> Order {
     let mut o = Order {
         task: Task::Nothing,
-        threshold: 0,
-        count: 0,
+        threshold: None,
+        count: None,
         seed: false,
         key: false,
         document: false,
-        waits: 0,
-        for_key: false,
+        waits: None,
     };
-    let mut at = first;
-    while at < count {
-        let task = o.task;
-        if is_wrong(task) {
+    for at in first..count {
+        if matches!(o.task, Task::Wrong { at: _, why: _ }) {
             return o;
         }
         let alone = at == first && count - at == 1;
         let len = edge::arg(rt, at, buffer).unwrap_or(0);
         o = next(o, at, alone, &buffer[..len], key, document);
-        at += 1;
     }
     whole(o, first)
 }
