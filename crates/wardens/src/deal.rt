@@ -186,15 +186,11 @@ fn sign_all(
 fn shares_of(rt: HostRuntime, d: &Deal, secret: &[u8], shares: &mut [u8]) -> Result<(), Failed> {
     let mut coefficients = [0u8; COEFFICIENTS];
     let powers = d.threshold.saturating_sub(1) as usize;
-    let need = padded(secret.len()).saturating_mul(powers).min(COEFFICIENTS);
+    let need = padded(secret.len())
+        .saturating_mul(powers)
+        .min(COEFFICIENTS);
     draw(rt, &mut coefficients[..need])?;
-    let r = split::split(
-        secret,
-        d.threshold,
-        d.count,
-        &coefficients[..need],
-        shares,
-    );
+    let r = split::split(secret, d.threshold, d.count, &coefficients[..need], shares);
     lend::clear(&mut coefficients, 0, COEFFICIENTS);
     match r {
         Ok(_) => Ok(()),

@@ -103,7 +103,7 @@ fn read_slips(rt: HostRuntime, typed: bool) -> Result<(), Failed> {
 }
 
 // The status of what was asked for and done, or could not be.
-fn status(done: Result<(), Failed>) -> Status {
+fn ended(done: Result<(), Failed>) -> Status {
     match done {
         Ok(()) => Status::Done,
         Err(_) => Status::Failed,
@@ -129,8 +129,8 @@ fn obey(rt: HostRuntime, o: Order, key: &[u8], document: &[u8]) -> Status {
             told::wrong(rt, at, why);
             Status::Wrong
         }
-        Task::Recover => status(read_slips(rt, false)),
-        Task::Typed => status(read_slips(rt, true)),
+        Task::Recover => ended(read_slips(rt, false)),
+        Task::Typed => ended(read_slips(rt, true)),
         Task::Split => {
             let deal = Deal {
                 threshold: u64::from(o.threshold.unwrap_or(0)),
@@ -139,7 +139,7 @@ fn obey(rt: HostRuntime, o: Order, key: &[u8], document: &[u8]) -> Status {
                 key,
                 document,
             };
-            status(deal::run(rt, deal))
+            ended(deal::run(rt, deal))
         }
     }
 }
