@@ -1,5 +1,6 @@
 // The fields of a frame, from left to right: the first fault decides (R6.4). Each answer is taken
-// apart with `let .. else`, and a refusal leaves at once (R18.4): so that stays, and not `?` (1).
+// apart with `let .. else`, and a refusal leaves at once (R18.4).
+// stays (1): R18.4 wants `let .. else` of each field, and not `?`
 ghost use Rattle.std.specs.Prelude.{◌≡◌, ◌≤◌, length, take, drop};
 ghost use Rattle.wire.specs.Number.{big_endian};
 ghost use Rattle.wire.specs.Reading.{told, step_told};

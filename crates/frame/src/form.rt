@@ -1,4 +1,5 @@
 // The layout of a frame, where there is room for it.
+// stays (1): any byte may be laid as the type, so `kind` is no `Kind` here
 ghost use Rattle.std.specs.Prelude.{◌≡◌, ◌+◌, ◌≤◌, length, take};
 ghost use Rattle.wire.specs.Sizes.{id_size};
 ghost use Rattle.wire.specs.Number.{big_endian};

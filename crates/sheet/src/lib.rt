@@ -215,6 +215,7 @@ pub fn number_asked(word: &[u8], most: u16) -> Option<u16>
 }
 
 // ---- the words beside a refusal
+// stays (1): any number may be told, so `no` is no `Refusal` in this part
 
 fn say(out: &mut [u8], at: usize, words: &[u8]) -> usize
     requires { at + length words.now ≤ length out.old }
@@ -298,7 +299,6 @@ fn refused(out: &mut [u8], no: u8, size: u16, given: u64) -> usize
 // The line that tells a refusal of what is printed in pages of this size, and what to do, at the
 // front of out, and its length; or 11 and nothing changed. How many bytes were given is 0 where
 // nobody knows.
-// stays (1): any number may be told, so `no` is no `Refusal` here
 pub fn refusal(no: u8, size: u16, given: u64, out: &mut [u8]) -> Result<usize, Refusal>
     ensures { Written 0 (done (refusal_words no size given)) out.old out.new result }
 {
