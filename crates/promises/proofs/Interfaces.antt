@@ -16,7 +16,7 @@ use Rattle.book.specs.Read.{read_book, ok_book}
 use Rattle.collection.specs.Collection.{opening, offering, joining}
 use Rattle.collection.specs.Answer as answers
 use Rattle.collection.proofs.Placeless.{open_placeless, join_placeless}
-use Rattle.finish.specs.Finish.{finished, finishing}
+use Rattle.finish.specs.Finish.{finished, delivering, finishing}
 use Rattle.wire.specs.Reading.{told_at}
 use Rattle.promises.proofs.Offered.{offer_answer}
 use Rattle.promises.proofs.Answered.{can_change, can_tell_at, kept_named, finishing_named}

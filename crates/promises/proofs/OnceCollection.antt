@@ -1,5 +1,15 @@
 -- One answer, by each contract itself: blocks, the collection and its status. Assumes nothing.
-use mathlib.Core.Path.{refl, sym, ◌∙◌}
+use mathlib.Core.Path.{◌≡◌, refl, sym, ap, ◌∙◌}
+use native.Mathlib.Omega.{arith}
+use Rattle.std.specs.Prelude.{Result, Ok, Err}
+use Rattle.wire.specs.Answer.{number_of}
+use Rattle.wire.specs.Reading.{told}
+use Rattle.wire.specs.declared.Refusal.{Refusal}
+use Rattle.wire.proofs.Answers.{number_injective}
+use Rattle.block.specs.Block.{state_number}
+use Rattle.block.specs.declared.PageState.{PageState}
+use Rattle.block.specs.declared.PageState.TheVariants as page
+use Rattle.book.proofs.Judging.{some_number}
 use Rattle.promises.specs.Once.{Once, OnceSeen}
 use Rattle.promises.proofs.Lasts.{here, past}
 use Rattle.wire.proofs.Writes.{written_once, kept_once}
@@ -35,6 +45,24 @@ use Rattle.status.proofs.status as status-status
 use Rattle.status.proofs.standing.of as status-standing-of
 use Rattle.status.proofs.Standings as standings
 
+-- a state is its number, and what a judge answers is that of its refusal, or 0
+state_same : (a b : PageState) → state_number a ≡ state_number b → a ≡ b
+state_same page.Absent page.Absent e = refl
+state_same page.Held page.Held e = refl
+state_same page.Disputed page.Disputed e = refl
+state_same page.Absent page.Held e = absurd (omega arith)
+state_same page.Absent page.Disputed e = absurd (omega arith)
+state_same page.Held page.Absent e = absurd (omega arith)
+state_same page.Held page.Disputed e = absurd (omega arith)
+state_same page.Disputed page.Absent e = absurd (omega arith)
+state_same page.Disputed page.Held e = absurd (omega arith)
+
+judged_same : (r q : Result Unit Refusal) → number_of (told r) ≡ number_of (told q) → r ≡ q
+judged_same (Ok a) (Ok b) e = refl
+judged_same (Ok a) (Err n) e = absurd (some_number n (sym e))
+judged_same (Err m) (Ok b) e = absurd (some_number m e)
+judged_same (Err m) (Err n) e = ap Err (number_injective m n e)
+
 pub block_seal_once : Once block-seal.Kinds.ps block-seal.Kinds.r block-seal.Reads.Learnt
 block_seal_once κs args x y u v p q = (refl, here (p ∙ sym q))
 
@@ -48,7 +76,7 @@ pub block_vacate_once : Once block-vacate.Kinds.ps block-vacate.Kinds.r block-va
 block_vacate_once κs args x y u v p q = (refl, here (p ∙ sym q))
 
 pub block_state_once : Once block-state.Kinds.ps block-state.Kinds.r block-state.Reads.Learnt
-block_state_once κs args x y u v p q = (p ∙ sym q, refl)
+block_state_once κs args x y u v p q = (state_same x y (p ∙ sym q), refl)
 
 -- a part of the collection is lent back, the data of a block: its bytes are fixed, not its place
 pub block_contents_once : OnceSeen block-contents.Kinds.ps block-contents.Kinds.r (λ κs x. x.now) block-contents.Reads.Learnt
@@ -80,13 +108,13 @@ pub book_id_copy_once : Once book-id-copy.Kinds.ps book-id-copy.Kinds.r book-id-
 book_id_copy_once κs args x y u v p q = (p ∙ sym q, refl)
 
 pub book_judge_head_once : Once book-judge-head.Kinds.ps book-judge-head.Kinds.r book-judge-head.Reads.Learnt
-book_judge_head_once κs args x y u v p q = (p ∙ sym q, refl)
+book_judge_head_once κs args x y u v p q = (judged_same x y (p ∙ sym q), refl)
 
 pub book_page_ok_once : Once book-page-ok.Kinds.ps book-page-ok.Kinds.r book-page-ok.Reads.Learnt
 book_page_ok_once κs args x y u v p q = (p ∙ sym q, refl)
 
 pub book_judge_once : Once book-judge.Kinds.ps book-judge.Kinds.r book-judge.Reads.Learnt
-book_judge_once κs args x y u v p q = (p ∙ sym q, refl)
+book_judge_once κs args x y u v p q = (judged_same x y (p ∙ sym q), refl)
 
 pub book_blank_once : Once book-blank.Kinds.ps book-blank.Kinds.r book-blank.Reads.Learnt
 book_blank_once κs args x y u v p q = (refl, here (p ∙ sym q))

@@ -40,7 +40,7 @@ use Rattle.phone.proofs.stilt_status as phone-stilt-status
 use Rattle.phone.proofs.stilt_frame as phone-stilt-frame
 use Rattle.phone.proofs.stilt_base64 as phone-stilt-base64
 use Rattle.phone.proofs.stilt_typed as phone-stilt-typed
-use Rattle.typed.proofs.Once.{told_injective as typed-injective}
+use Rattle.wire.proofs.Answers.{told_at_injective}
 use Rattle.typing.proofs.scan as typing-scan
 use Rattle.typing.proofs.page_fault as typing-page-fault
 use Rattle.typing.proofs.line_fault as typing-line-fault
@@ -176,7 +176,7 @@ pub speed_speed_base64_write_once : Once speed-speed-base64-write.Kinds.ps speed
 speed_speed_base64_write_once κs args x y u v p q = (p.0 ∙ sym q.0, past (here (p.1 ∙ sym q.1)))
 
 pub typing_scan_once : Once typing-scan.Kinds.ps typing-scan.Kinds.r typing-scan.Reads.Learnt
-typing_scan_once κs args x y u v p q = let e = kept_once p q in (typed-injective x y e.0, past (here e.1))
+typing_scan_once κs args x y u v p q = let e = kept_once p q in (told_at_injective x y e.0, past (here e.1))
 
 pub typing_page_fault_once : Once typing-page-fault.Kinds.ps typing-page-fault.Kinds.r typing-page-fault.Reads.Learnt
 typing_page_fault_once κs args x y u v p q = (p ∙ sym q, refl)

@@ -10,7 +10,8 @@ use Rattle.wire.specs.Answer.{Answer, done, refused_at, refused, then, Got, valu
 use Rattle.wire.specs.Over.{over}
 use Rattle.std.specs.Prelude.{Result, Ok, Err}
 use Rattle.wire.proofs.Cases.{not_done, then_done, done_value, got_value, value_passed}
-use Rattle.cover.specs.Cover.{Cover, cover_of}
+use Rattle.cover.specs.Cover.{cover_of}
+use Rattle.cover.specs.declared.Cover.{Cover}
 use Rattle.envelope.specs.Envelope.{judged, envelope_at, verdict}
 use Rattle.envelope.proofs.Rounds.{Accepted, envelope_back, envelope_only}
 use Rattle.manifest.specs.Manifest.{Listing, manifest_at}

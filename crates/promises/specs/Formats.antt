@@ -14,7 +14,7 @@ use Rattle.typed.specs.Typed.{plain, read_typed, most_typed}
 use Rattle.frame.specs.Frame as F
 use Rattle.frame.specs.Allowed.{Allowed}
 use Rattle.frame.specs.Answer as frame
-use Rattle.cover.specs.Cover.{Cover}
+use Rattle.cover.specs.declared.Cover.{Cover}
 use Rattle.envelope.specs.Envelope.{envelope_at}
 use Rattle.wire.specs.Refusal.{number}
 use Rattle.wire.specs.Reading.{told_at}
