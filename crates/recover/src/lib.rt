@@ -112,6 +112,9 @@ fn combine(slips: &Slips, first: Needs, out: &mut [u8]) -> Result<usize, Refusal
 // two the rest is not looked at. First comes the refusal of the first slip that is none; then 26
 // for too few, 27 for slips of two secrets, 28 for a number twice, 29 for a slip that does not fit
 // the first ones, 30 for a last block that is not filled with zeros, and 11.
+//
+// stays (6): one list of spans would ask more of callers, who may lend two lists of unlike lengths
+// (`slips_at`, in this clause).
 pub fn recover(s: &[u8], starts: &[usize], lens: &[usize], out: &mut [u8]) -> Result<usize, Refusal>
     ensures { Written 0 (recovered (slips_at s.now starts.now lens.now)) out.old out.new result }
 {
