@@ -62,6 +62,8 @@ fn g(v: &mut [u64; 16], a: usize, b: usize, c: usize, d: usize, x: u64, y: u64)
     turn(v, b, c, 63);
 }
 
+// stays (5): a struct of m and sg would still need r beside it, and r < 12 in each contract.
+
 // The message's word that round r takes at place i. The table is lent, since naming the constant
 // here would copy it.
 fn word(m: &[u64; 16], sg: &[[u8; 16]; 12], r: usize, i: usize) -> u64

@@ -52,6 +52,8 @@ fn raise(notes: &mut [u64], k: usize)
     }
 }
 
+// stays (5): the buffers stand beside the session, as in `session::feed` and `session::close`.
+
 // Notes what the line that now ends is, before the session takes it.
 fn note(s: Session, line: &[u8], c: &[u8], notes: &mut [u64])
     ensures { notes.new ≡ noted (at s line.now c.now) notes.old }

@@ -58,6 +58,8 @@ pub fn line_of(s: Session, line: &[u8]) -> &[u8]
     &line[0..0]
 }
 
+// stays (5): the buffers stand beside the session, since `feed` and `close` are lent them anew.
+
 // The first line opens the collection (R15.1).
 fn start(first: &[u8], s: Session, c: &mut [u8]) -> Session
     ensures { at result [] c.new ≡ started (at s [] c.old) (id_verdict first.now) }
