@@ -1,11 +1,11 @@
 -- Characters and counts, as the code tests them. Assumes nothing.
-use Prim.Native.Nat.{ℕ, suc, ◌+◌, ◌-◌, ◌≤◌, ◌<◌}
+use Prim.Native.Nat.{ℕ, suc, ◌+◌, ◌≤◌, ◌<◌}
 use mathlib.Core.Path.{◌≡◌, refl, sym, ap, ◌∙◌}
 use mathlib.Core.Bool.{Bool, true, false, not, ◌&&◌, ◌||◌}
 use mathlib.Core.List.{List, [], ◌∷◌, ◌++◌}
 use native.Mathlib.Omega.{arith}
-use borrow.Author.Tests.{eq-eqb, ne_eqb, le-leb, lt-leb}
-use lib.Dec.{ltb, leb, eqb}
+use borrow.Author.Tests.{le-leb, lt-leb}
+use lib.Dec.{leb, eqb}
 use native.Mathlib.Numerals.{add-one}
 use lib.ListN.{length, get_or, take, drop, length-append}
 use lib.Seq.{take-suc, take_all, take_at, length-take-le}
@@ -16,7 +16,6 @@ use Rattle.wire.specs.declared.RefusedAt.{RefusedAt}
 use Rattle.wire.specs.Every.{every}
 use Rattle.wire.specs.Over.{over}
 use Rattle.wire.proofs.Overs.{over_none, over_fits, length_over}
-use Rattle.text.specs.Text.{zbase32, zooko32, place, value}
 use Rattle.typed.specs.Typed.{feed, skipped, plain, is_letter, count_right, right, read_line}
 use Rattle.typed.specs.Private.{typable, possible}
 use Rattle.wire.proofs.Cases.{said_yes, said_no, both_hold}

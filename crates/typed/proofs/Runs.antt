@@ -13,7 +13,8 @@ use Rattle.wire.specs.Answer.{choose, Answer, done, refused, refused_at, then, d
 use Rattle.wire.proofs.Cases.{lt_or_le, eq_or_ne}
 use Rattle.wire.proofs.Both.{and_true}
 use Rattle.typed.specs.Typed.{feed, skipped, plain, cut, none, count_right, counts_right, data_of, right, joined_from}
-use Rattle.typed.specs.Private.{Held, wrong_after, closed, stepped, ran, start, verdict, ending}
+use Rattle.std.specs.Prelude.{Option, Some, None}
+use Rattle.typed.specs.Private.{Held, wrong_after, closed, stepped, ran, start, unless, verdict, ending}
 use Rattle.typed.proofs.Letters.{feed_unskipped}
 
 -- ---- there is always a line, and one that is too long stays so
@@ -44,7 +45,7 @@ cut_long l (c ∷ t) h = go (eqb c feed) (cut_long (l ++ (c ∷ [])) t (omega (a
 -- ---- what the lines before say, and what is still to come
 
 carried : Held → Answer (List ℕ) → Answer (List ℕ)
-carried h a = choose (eqb h.wrong 0) (then a (λ rest. done (h.contents ++ rest))) (refused_at 23 h.wrong)
+carried h a = unless h.wrong (then a (λ rest. done (h.contents ++ rest)))
 
 -- the verdict, h being all that was read and `lines` what is left
 awaited : Held → List (List ℕ) → Answer (List ℕ)
@@ -54,17 +55,23 @@ joining : (xs ys : List ℕ) (a : Answer (List ℕ)) → then a (λ rest. done (
 joining xs ys (done rest) = ap done (append_assoc xs ys rest)
 joining xs ys (refused_at e k) = refl
 
-carried_on : (h : Held) (a : Answer (List ℕ)) → 1 ≤ h.number
-    → carried (closed h) a ≡ carried h (demand_at (right h.number h.line) 23 h.number (then a (λ rest. done (data_of h.line ++ rest))))
+carried_on : (h : Held) (a : Answer (List ℕ)) → carried (closed h) a ≡ carried h (demand_at (right h.number h.line) 23 h.number (then a (λ rest. done (data_of h.line ++ rest))))
 unfolding carried closed wrong_after
-carried_on h a first = go (eqb h.wrong 0) refl (right h.number h.line)
+carried_on h a = go h.wrong
   where
-    go : (t : Bool) → eqb h.wrong 0 ≡ t → (u : Bool)
-        → choose (eqb (choose t (choose u 0 h.number) h.wrong) 0) (then a (λ rest. done (h.contents ++ data_of h.line ++ rest))) (refused_at 23 (choose t (choose u 0 h.number) h.wrong))
-        ≡ choose t (then (choose u (then a (λ rest. done (data_of h.line ++ rest))) (refused_at 23 h.number)) (λ rest. done (h.contents ++ rest))) (refused_at 23 h.wrong)
-    go true e true = joining h.contents (data_of h.line) a
-    go true e false = rw (ne_eqb h.number 0 (λ q. omega (arith, q)))
-    go false e u = rw e
+    all : Answer (List ℕ)
+    all = then a (λ rest. done (h.contents ++ data_of h.line ++ rest))
+
+    left : Bool → Answer (List ℕ)
+    left u = then (choose u (then a (λ rest. done (data_of h.line ++ rest))) (refused_at 23 h.number)) (λ rest. done (h.contents ++ rest))
+
+    none : (u : Bool) → unless (choose u None (Some h.number)) all ≡ left u
+    none true = joining h.contents (data_of h.line) a
+    none false = refl
+
+    go : (w : Option ℕ) → unless (wrong_after h.number w h.line) all ≡ unless w (left (right h.number h.line))
+    go (Some k) = refl
+    go None = none (right h.number h.line)
 
 -- ---- the end of the text, and of a line
 
@@ -77,9 +84,9 @@ module _ (h : Held) (first : 1 ≤ h.number) where
   unfolding ending verdict awaited carried counts_right count_right joined_from
   text_ends few short =
       rw (le-leb (h.number + 1) 21 (omega arith), le-leb (length h.line) 42 short, and_true (leb 3 (length h.line)), and_true (leb 3 (length h.line)))
-      (ap (λ (a : Answer (List ℕ)). demand (leb 3 (length h.line)) 2 a) (last (closed h) ∙ carried_on h (done []) first))
+      (ap (λ (a : Answer (List ℕ)). demand (leb 3 (length h.line)) 2 a) (last (closed h) ∙ carried_on h (done [])))
     where
-      last : (k : Held) → choose (eqb k.wrong 0) (done k.contents) (refused_at 23 k.wrong) ≡ choose (eqb k.wrong 0) (done (k.contents ++ [])) (refused_at 23 k.wrong)
+      last : (k : Held) → unless k.wrong (done k.contents) ≡ unless k.wrong (done (k.contents ++ []))
       last k = rw (append-nil k.contents)
 
   module _ (lines : List (List ℕ)) (some : 1 ≤ length lines) (more : none lines ≡ false) where
@@ -96,7 +103,7 @@ module _ (h : Held) (first : 1 ≤ h.number) where
     line_full e =
         let m : h.number + suc (length lines) ≡ suc h.number + length lines = omega arith in
         rw (more, eq-eqb (length h.line) 42 e, m)
-        (ap (λ (a : Answer (List ℕ)). demand (leb (suc h.number + length lines) 21 && counts_right lines) 2 a) (carried_on h (joined_from (suc h.number) lines) first))
+        (ap (λ (a : Answer (List ℕ)). demand (leb (suc h.number + length lines) 21 && counts_right lines) 2 a) (carried_on h (joined_from (suc h.number) lines)))
 
 -- ---- one character more
 

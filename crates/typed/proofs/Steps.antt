@@ -2,14 +2,15 @@
 -- of a line. Assumes nothing.
 use Prim.Native.Nat.{ℕ, ◌+◌, ◌-◌, ◌≤◌, ◌<◌}
 use mathlib.Core.Path.{◌≡◌, refl, sym, ap, ◌∙◌, subst}
-use mathlib.Core.Bool.{Bool, true, false}
+use mathlib.Core.Bool.{Bool, true, false, false≢true}
 use mathlib.Core.List.{List, ◌++◌}
 use native.Mathlib.Numerals.{add-one}
 use native.Mathlib.Omega.{arith}
 use borrow.Author.Tests.{eq-eqb, ne_eqb, le-leb, lt-leb, lt-ltb, le-ltb}
 use lib.ListN.{length, get_or, set, take, drop, drop_of_length-le}
 use lib.Seq.{take-take, take-suc-set, length-take-le, drop-cons}
-use Rattle.std.specs.Prelude.{Result, Ok, Err}
+use Rattle.std.specs.Prelude.{Option, Some, None, Result, Ok, Err}
+use Rattle.std.specs.Option.{is_some}
 use Rattle.std.specs.Result.{IsErr, IsErrAnd}
 use Rattle.std.proofs.lemmas.Result.{err_from_is_err_and}
 use Rattle.wire.specs.Refusal.{number, Placeless}
@@ -25,23 +26,34 @@ use Rattle.typed.proofs.Judging.{front_over}
 
 -- ---- the first wrong line
 
-module _ (n wrong : ℕ) (l : List ℕ) where
-  pub wrong_before : (wrong ≡ 0 → ⊥) → wrong ≡ wrong_after n wrong l
+module _ (n : ℕ) (wrong : Option ℕ) (l : List ℕ) where
+  pub wrong_before : is_some wrong ≡ true → wrong ≡ wrong_after n wrong l
   unfolding wrong_after
-  wrong_before h = rw (ne_eqb wrong 0 h)
+  wrong_before h = go wrong h
+    where
+      go : (w : Option ℕ) → is_some w ≡ true → w ≡ wrong_after n w l
+      go (Some k) h = refl
+      go None h = absurd (false≢true h)
 
-  module _ (none : wrong ≡ 0) (r : Bool) (e : r ≡ right n l) where
-    pub wrong_none : r ≡ true → 0 ≡ wrong_after n wrong l
-    unfolding wrong_after
-    wrong_none h = rw (eq-eqb wrong 0 none, ← e, h)
+  pub none_wrong : is_some wrong ≡ false → wrong ≡ None
+  none_wrong h = go wrong h
+    where
+      go : (w : Option ℕ) → is_some w ≡ false → w ≡ None
+      go (Some k) h = absurd (false≢true (sym h))
+      go None h = refl
 
-    pub wrong_here : r ≡ false → n ≡ wrong_after n wrong l
+  module _ (none : wrong ≡ None) (r : Bool) (e : r ≡ right n l) where
+    pub wrong_none : r ≡ true → None ≡ wrong_after n wrong l
     unfolding wrong_after
-    wrong_here h = rw (eq-eqb wrong 0 none, ← e, h)
+    wrong_none h = rw (none, ← e, h)
+
+    pub wrong_here : r ≡ false → Some n ≡ wrong_after n wrong l
+    unfolding wrong_after
+    wrong_here h = rw (none, ← e, h)
 
 -- ---- the end of a line
 
-same_held : {a b c d : ℕ} {l m x y : List ℕ} → a ≡ b → c ≡ d → l ≡ m → x ≡ y
+same_held : {a b : ℕ} {c d : Option ℕ} {l m x y : List ℕ} → a ≡ b → c ≡ d → l ≡ m → x ≡ y
     → ◌≡◌ {A = Held} (record { number = a; wrong = c; line = l; contents = x }) (record { number = b; wrong = d; line = m; contents = y })
 same_held p q r s = rw (p, q, r, s)
 
@@ -50,7 +62,7 @@ module _ (t : Typing) (line contents : List ℕ) (fit : Fits t) (size : length l
   line_length_lem = length-take-le t.at line (omega (arith, fit.short))
 
   -- the data is copied behind that of the lines before
-  pub close_held : (x : List ℕ) (w : ℕ) → 2 ≤ t.at → length contents ≡ 800 → w ≡ wrong_after t.n t.wrong (take t.at line)
+  pub close_held : (x : List ℕ) (w : Option ℕ) → 2 ≤ t.at → length contents ≡ 800 → w ≡ wrong_after t.n t.wrong (take t.at line)
       → x ≡ over t.made (take (t.at - 2) line) contents
       → held (record { n = t.n + 1; at = 0; wrong = w; made = t.made + (t.at - 2) }) line x ≡ closed (held t line contents)
   unfolding held closed data_of
@@ -140,10 +152,10 @@ module _ (text : List ℕ) (r : Result Typing Refusal) (x y : List ℕ) (e : ste
       unfolding ending held
       at_end = rw (sym e, q, line_length_lem t x y fit size, le-leb 3 t.at long) (ap verdict (sym c))
 
-      pub gather_wrong : (k.wrong ≡ 0 → ⊥) → refused_at 23 k.wrong ≡ then (ran (start 1) text) ending
+      pub gather_wrong : (first : ℕ) → k.wrong ≡ Some first → refused_at 23 first ≡ then (ran (start 1) text) ending
       unfolding verdict held
-      gather_wrong n = sym (at_end ∙ rw (ne_eqb k.wrong 0 n))
+      gather_wrong first n = sym (at_end ∙ rw n)
 
-      pub gather_all : k.wrong ≡ 0 → done (take k.made z) ≡ then (ran (start 1) text) ending
+      pub gather_all : k.wrong ≡ None → done (take k.made z) ≡ then (ran (start 1) text) ending
       unfolding verdict held
-      gather_all n = sym (at_end ∙ rw (eq-eqb k.wrong 0 n))
+      gather_all n = sym (at_end ∙ rw n)

@@ -1,6 +1,6 @@
 -- What the parts of the code answer, for the contracts of private functions: nothing here is
 -- promised to a caller.
-use Rattle.std.specs.Prelude.{ℕ, Result, Ok, Err, suc, ◌-◌, ◌*◌, ◌≤◌, Bool, ◌&&◌, ◌||◌, List, [], ◌∷◌, ◌++◌, ltb, leb, eqb, length, take}
+use Rattle.std.specs.Prelude.{ℕ, Option, Some, None, Result, Ok, Err, suc, ◌-◌, ◌*◌, ◌≤◌, Bool, ◌&&◌, ◌||◌, List, [], ◌∷◌, ◌++◌, ltb, leb, eqb, length, take}
 use Rattle.wire.specs.Answer.{choose, Answer, done, refused, refused_at, then, demand}
 use Rattle.wire.specs.Refusal.{number}
 use Rattle.wire.specs.declared.Refusal.{Refusal}
@@ -18,10 +18,10 @@ possible last number n = (leb 1 number && leb number most_lines) && count_right 
 
 -- what is known of a text's first characters: the number of the line that they end in and its
 -- characters so far; of the lines before it the data, and the number of the first whose check is
--- wrong, or 0
+-- wrong, if one is
 pub record Held : Type 0 where
   pub number : ℕ
-  pub wrong : ℕ
+  pub wrong : Option ℕ
   pub line : List ℕ
   pub contents : List ℕ
 
@@ -38,8 +38,9 @@ pub record Fits (t : Typing) : Type 0 where
   pub made : t.made ≤ full_data * (t.n - 1)
 
 -- the first wrong line, once line n has ended
-unfoldable pub wrong_after : (n wrong : ℕ) → List ℕ → ℕ
-wrong_after n wrong l = choose (eqb wrong 0) (choose (right n l) 0 n) wrong
+unfoldable pub wrong_after : ℕ → Option ℕ → List ℕ → Option ℕ
+wrong_after n (Some k) l = Some k
+wrong_after n None l = choose (right n l) None (Some n)
 
 -- the line ends
 unfoldable pub closed : Held → Held
@@ -73,11 +74,15 @@ Going (Ok t) = Fits t
 Going (Err e) = Unit
 
 abbrev pub start : ℕ → Held
-start n = record { number = n; wrong = 0; line = []; contents = [] }
+start n = record { number = n; wrong = None; line = []; contents = [] }
 
 -- the verdict on all lines, once the last has ended
+abbrev pub unless : {A : Type 0} → Option ℕ → Answer A → Answer A
+unless None a = a
+unless (Some line) a = refused_at 23 line
+
 unfoldable pub verdict : Held → Answer (List ℕ)
-verdict h = choose (eqb h.wrong 0) (done h.contents) (refused_at 23 h.wrong)
+verdict h = unless h.wrong (done h.contents)
 
 unfoldable pub ending : Held → Answer (List ℕ)
 ending h = demand (leb 3 (length h.line)) 2 (verdict (closed h))

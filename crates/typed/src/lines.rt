@@ -71,27 +71,28 @@ pub(super) fn possible(number: u8, last: bool, n: usize) -> bool
 }
 
 // What has been read so far: the number of this line and how many characters it has; the number of
-// the first line whose check is wrong, or 0; and how many characters of data the lines before have.
+// the first line whose check is wrong, if one is; and how many characters of data the lines before
+// have.
 #[derive(Clone, Copy)]
 pub struct Typing {
     pub n: u8,
     pub at: usize,
-    pub wrong: u8,
+    pub wrong: Option<u8>,
     pub made: usize,
 }
 
-// The number of the first wrong line, once this one has ended, or 0.
-fn first_wrong(t: Typing, line: &[u8]) -> u8
+// The number of the first wrong line, once this one has ended.
+fn first_wrong(t: Typing, line: &[u8]) -> Option<u8>
     requires { Fits t × (2 ≤ t.at) × (length line.now ≡ 42) }
     ensures { result ≡ wrong_after t.n t.wrong (take t.at line.now) }
 {
-    if t.wrong != 0 {
+    if t.wrong.is_some() {
         return t.wrong;
     }
     if check::right(t.n, &line[..t.at]) {
-        return 0;
+        return None;
     }
-    t.n
+    Some(t.n)
 }
 
 // The line ends.
@@ -144,7 +145,7 @@ fn run(text: &[u8], line: &mut [u8], contents: &mut [u8]) -> Result<Typing, Refu
     let mut t = Typing {
         n: 1,
         at: 0,
-        wrong: 0,
+        wrong: None,
         made: 0,
     };
     for c in text {
@@ -165,11 +166,11 @@ pub(super) fn gather(text: &[u8], contents: &mut [u8]) -> Result<usize, RefusedA
         return Err(RefusedAt::from(Refusal::BadTextLength));
     }
     let end = close(typing, &line, contents);
-    if end.wrong != 0 {
-        return Err(RefusedAt {
+    match end.wrong {
+        Some(first) => Err(RefusedAt {
             why: Refusal::Mistyped,
-            place: end.wrong,
-        });
+            place: first,
+        }),
+        None => Ok(end.made),
     }
-    Ok(end.made)
 }

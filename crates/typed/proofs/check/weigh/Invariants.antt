@@ -1,6 +1,6 @@
 -- `typed::check::weigh` meets its contract: what is left is still to be added. Assumes nothing.
 use mathlib.Core.Path.{◌≡◌}
-use Prim.Native.Nat.{◌+◌, ◌-◌, ◌*◌, ◌≤◌}
+use Prim.Native.Nat.{◌+◌, ◌*◌, ◌≤◌}
 use lib.ListN.{length, drop}
 use Rattle.typed.specs.Typed.{weighed}
 use Rattle.typed.proofs.check.weigh.Given as goal

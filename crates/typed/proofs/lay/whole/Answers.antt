@@ -1,7 +1,6 @@
 -- `typed::lay::whole` meets its contract. Assumes nothing.
 use mathlib.Core.Path.{refl, sym}
 use native.Mathlib.Omega.{arith}
-use Prim.Native.Nat.{◌-◌}
 use lib.Seq.{length-take-le}
 use Rattle.typed.proofs.Laying.{never_refused, chars_few, whole_given}
 use Rattle.typed.proofs.lay.whole.Goals as goal

@@ -16,11 +16,11 @@ pub close-end-requires : goal.close-end-requires
 close-end-requires c =
     (goes_on _ _ c.run.ensures.1 c.in_ok-typing.was, omega arith, search rules, search rules)
 
-pub returns-then-end-ne0 : goal.returns-then-end-ne0
-returns-then-end-ne0 c =
-    (gather_wrong _ _ _ _ c.run.ensures.0 c.in_ok-typing.typing c.in_ok-typing.was (goes_on _ _ c.run.ensures.1 c.in_ok-typing.was) (search rules) _ _ c.close-end.ensures.0 c.if-typing-lt3.false c.if-end-ne0.true, tt)
+pub returns-in-Some : goal.returns-in-Some
+returns-in-Some c =
+    (gather_wrong _ _ _ _ c.run.ensures.0 c.in_ok-typing.typing c.in_ok-typing.was (goes_on _ _ c.run.ensures.1 c.in_ok-typing.was) (search rules) _ _ c.close-end.ensures.0 c.if-typing-lt3.false _ c.in-Some.is, tt)
 
-pub returns : goal.returns
-returns c =
+pub returns-in-None : goal.returns-in-None
+returns-in-None c =
     let f = goes_on _ _ c.run.ensures.1 c.in_ok-typing.was in
-    (gather_all _ _ _ _ c.run.ensures.0 c.in_ok-typing.typing c.in_ok-typing.was (goes_on _ _ c.run.ensures.1 c.in_ok-typing.was) (search rules) _ _ c.close-end.ensures.0 c.if-typing-lt3.false c.if-end-ne0.false, omega (arith, c.close-end.ensures.3, f.made, f.last, f.short))
+    (gather_all _ _ _ _ c.run.ensures.0 c.in_ok-typing.typing c.in_ok-typing.was (goes_on _ _ c.run.ensures.1 c.in_ok-typing.was) (search rules) _ _ c.close-end.ensures.0 c.if-typing-lt3.false c.in-None.is, omega (arith, c.close-end.ensures.3, f.made, f.last, f.short))

@@ -1,6 +1,6 @@
 -- `typed::lines::run` meets its contract: what is left decides. Assumes nothing.
 use mathlib.Core.Path.{◌≡◌}
-use Prim.Native.Nat.{◌-◌, ◌≤◌}
+use Prim.Native.Nat.{◌≤◌}
 use lib.ListN.{length, drop}
 use Rattle.typed.specs.Private.{Fits, held, ran, start}
 use Rattle.typed.proofs.lines.run.Given as goal

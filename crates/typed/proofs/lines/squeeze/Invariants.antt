@@ -1,5 +1,5 @@
 -- `typed::lines::squeeze` meets its contract. Assumes nothing.
-use Prim.Native.Nat.{◌≤◌, ◌-◌}
+use Prim.Native.Nat.{◌≤◌}
 use lib.ListN.{length}
 use Rattle.typed.proofs.Judging.{Squeezed}
 use Rattle.typed.proofs.lines.squeeze.Given as goal
