@@ -29,8 +29,8 @@ const OUTPUT_PATH: &str = "/proc/self/fd/1";
 
 // ---- the words of the command
 
-// The word with this index, at the start of the buffer, and how many bytes it has. Of one that has no
-// room only the first bytes are there.
+// The word with this index, at the start of the buffer, and how many bytes it has. Of one that has
+// no room only the first bytes are there.
 pub fn arg(rt: HostRuntime, i: usize, buffer: &mut [u8]) -> Result<usize, FillError>
     ensures { WritesAtMost result buffer.new }
 {
@@ -178,13 +178,11 @@ pub fn tell(rt: HostRuntime, bytes: &[u8]) {
     let _told = write(&rt.stderr(), bytes);
 }
 
-// Tells the word with this index, as `plain` leaves it; of one that there is no room for the first
-// bytes, and three dots.
-pub fn tell_word<F: FnOnce(&mut [u8])>(rt: HostRuntime, i: usize, word: &mut [u8], plain: F)
-    requires { F.IsAlwaysCallable plain }
-{
+// Tells the word with this index, as `lend::plain` leaves it; of one that there is no room for the
+// first bytes, and three dots.
+pub fn tell_word(rt: HostRuntime, i: usize, word: &mut [u8]) {
     let given = arg(rt, i, word);
-    plain(word);
+    lend::plain(word);
     match given {
         Ok(len) => tell(rt, &word[..len]),
         Err(FillError::TooLong) => {

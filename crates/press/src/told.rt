@@ -60,7 +60,7 @@ pub(crate) fn waiting(rt: HostRuntime) {
 
 // A word can hold anything, also what a terminal takes for an order: lend::plain shows that as `?`.
 fn show(rt: HostRuntime, at: usize, word: &mut [u8]) {
-    edge::tell_word(rt, at, word, lend::plain);
+    edge::tell_word(rt, at, word);
 }
 
 fn right(rt: HostRuntime, why: Why) {

@@ -88,7 +88,7 @@ pub(crate) fn too_long(rt: HostRuntime, line: u8) {
 
 // A word can hold anything, also what a terminal takes for an order: lend::plain shows that as `?`.
 fn show(rt: HostRuntime, at: usize, word: &mut [u8]) {
-    edge::tell_word(rt, at, word, lend::plain);
+    edge::tell_word(rt, at, word);
 }
 
 pub(crate) fn wrong(rt: HostRuntime, at: usize) {

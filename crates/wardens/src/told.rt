@@ -294,7 +294,7 @@ pub(crate) fn no_signature(rt: HostRuntime, i: usize, there: bool) {
 
 // A word can hold anything, also what a terminal takes for an order: lend::plain shows that as `?`.
 fn show(rt: HostRuntime, at: usize, word: &mut [u8]) {
-    edge::tell_word(rt, at, word, lend::plain);
+    edge::tell_word(rt, at, word);
 }
 
 fn right(why: Why) -> &'static [u8] {
