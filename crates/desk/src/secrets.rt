@@ -1,9 +1,10 @@
-// The verbs of shared secrets: one is split, and recovered from the wardens' slips (D2.14).
-ghost use Rattle.std.specs.Prelude.{◌≤◌};
+// The verb that recovers a secret from the wardens' slips (D2.14).
+ghost use Rattle.std.specs.Prelude.{◌≤◌, length};
 
-use crate::reply::Reply;
-use crate::{reply, words};
-use wire::Wrote;
+use crate::reply::Output;
+use crate::words::Call;
+use crate::words::Kind::{Bytes, Room};
+use wire::{Refusal, Span};
 
 // The most slips of a line (D2.14).
 const MOST: usize = 300;
@@ -11,74 +12,34 @@ const MOST: usize = 300;
 // The words before the first slip: the verb and ROOM.
 const BEFORE_SLIPS: usize = 2;
 
-// Whether the numbers and the coefficients go with the secret is the library's to say.
-pub(crate) fn split(line: &[u8], starts: &[usize], pool: &[u8], room: &mut [u8]) -> Wrote {
-    split::split(
-        words::bytes(pool, starts, 1),
-        words::number(line, starts, 2),
-        words::number(line, starts, 3),
-        words::bytes(pool, starts, 4),
-        room,
-    )
-}
-
-// How many words follow ROOM; 0 where there is none.
-fn count(starts: &[usize]) -> usize {
-    if starts.len() < BEFORE_SLIPS + 1 {
-        return 0;
-    }
-    starts.len() - BEFORE_SLIPS - 1
-}
-
-// Whether the words are ROOM, and then bytes for each of n slips.
-fn fit(line: &[u8], starts: &[usize], n: usize) -> bool
-    requires { n ≤ 300 }
-{
-    let mut form = [words::BYTES; MOST + 1];
-    form[0] = words::ROOM;
-    words::all_fit(line, starts, &form[0..n + 1])
-}
-
-// Where the bytes of each slip stand in the pool, and how many they are. Both tables are lent as
-// slices, since parts of them are lent on: after a call it is known how long a slice is, and not
-// that an array is as long as before.
-fn find(starts: &[usize], places: &mut [usize], lens: &mut [usize]) {
-    let mut i = 0;
-    while i < places.len() && i < lens.len() {
-        let slip = words::place(starts, BEFORE_SLIPS + i);
-        places[i] = slip.start;
-        lens[i] = slip.len;
-        i += 1;
+// Where the bytes of each slip stand in the pool, and how many they are. They are two tables, as
+// `recover::recover` takes them.
+fn find(call: Call, starts: &mut [usize], lens: &mut [usize]) {
+    for (i, (start, len)) in starts.iter_mut().zip(lens.iter_mut()).enumerate() {
+        let slip = call.place(BEFORE_SLIPS + i);
+        *start = slip.start;
+        *len = slip.len;
     }
 }
 
-fn recover(starts: &[usize], n: usize, pool: &[u8], room: &mut [u8]) -> Wrote
+fn recover(call: Call, n: usize, room: &mut [u8]) -> Result<usize, Refusal>
     requires { n ≤ 300 }
 {
-    let mut places = [0usize; MOST];
+    let mut starts = [0usize; MOST];
     let mut lens = [0usize; MOST];
-    find(starts, &mut places, &mut lens);
-    recover::recover(pool, &places[0..n], &lens[0..n], room)
+    find(call, &mut starts, &mut lens);
+    recover::recover(call.pool(), &starts[..n], &lens[..n], room)
 }
 
-// The reply to a line of recover; 0 for any other line.
-pub(crate) fn call(
-    line: &[u8],
-    starts: &[usize],
-    pool: &[u8],
-    room: &mut [u8],
-    out: &mut Reply,
-) -> usize {
-    if !words::recovers(line, starts) {
-        return 0;
+// The reply to a line of recover; false for any other line.
+pub(crate) fn call(call: Call, room: &mut [u8], out: &mut Output) -> bool {
+    if !matches!(call.word(0), b"recover") || !call.fits(1, &[Room]) {
+        return false;
     }
-    let n = count(starts);
-    if n > MOST {
-        return 0;
+    let n = call.count().saturating_sub(BEFORE_SLIPS);
+    if n > MOST || !call.fits(BEFORE_SLIPS, &[Bytes; MOST][..n]) {
+        return false;
     }
-    if !fit(line, starts, n) {
-        return 0;
-    }
-    let answer = recover(starts, n, pool, room);
-    reply::wrote(out, answer, room)
+    out.wrote(recover(call, n, room), room);
+    true
 }

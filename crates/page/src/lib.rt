@@ -20,7 +20,10 @@ use wire::Refusal;
 pub fn count(n: usize, size: usize) -> Result<usize, Refusal>
     ensures { told result ≡ count_of n size }
 {
-    if n == 0 || size == 0 || wire::MOST_DATA < size {
+    if n == 0 || size == 0 {
+        return Err(Refusal::OutOfRange);
+    }
+    if wire::MOST_DATA < size {
         return Err(Refusal::OutOfRange);
     }
     let before_last = (n - 1) / size;

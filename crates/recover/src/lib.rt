@@ -42,6 +42,9 @@ fn found(slips: &Slips, k: usize, curve: &mut [Point]) -> Option<[u64; 2]>
     Some(newton::value(curve, 0))
 }
 
+// stays (5): t, of which three contracts say that there are so many slips and at most 255, is read
+// from the first slip beside the secret's length, and goes down this one path.
+//
 // Block k of the secret, where every slip behind the first t is on its curve.
 fn block(slips: &Slips, t: usize, k: usize) -> Option<[u64; 2]>
     requires { (t ≤ length slips.now) × (t ≤ 255) × (k < 14) }

@@ -91,6 +91,9 @@ pub(super) fn index(payload: &[u8]) -> u8
 }
 
 // Block k of its share.
+//
+// stays (5): a type of its own for a number below 14, which five contracts ask for, would be taken
+// apart at each use, and is no plainer.
 pub(super) fn block(payload: &[u8], k: usize) -> [u64; 2]
     requires { k < 14 }
     ensures { joined result ≡ block_of k (slip_in payload.now) }

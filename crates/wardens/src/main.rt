@@ -12,7 +12,8 @@ mod unite;
 mod words;
 
 use deal::Deal;
-use words::{Order, Task};
+use std::io::Error;
+use words::{Order, Task, Wrong};
 
 // One byte more than is read: so many are enough to know that there are too many (R15.18).
 const INPUT: usize = 524_289;
@@ -37,25 +38,24 @@ enum Status {
 #[derive(Clone, Copy)]
 pub(crate) struct Failed {}
 
-pub(crate) fn wrote(rt: HostRuntime, bytes: &[u8]) -> Result<(), Failed> {
-    match edge::print(rt, bytes) {
-        Ok(()) => Ok(()),
+// What the system answered, or its fault, which is told.
+fn good<T: Drop>(rt: HostRuntime, what: &[u8], answer: Result<T, Error>) -> Result<T, Failed> {
+    match answer {
+        Ok(value) => Ok(value),
         Err(error) => {
-            edge::fail(rt, b"standard output", error);
+            edge::fail(rt, what, error);
             Err(Failed {})
         }
     }
 }
 
+pub(crate) fn wrote(rt: HostRuntime, bytes: &[u8]) -> Result<(), Failed> {
+    good(rt, b"standard output", edge::print(rt, bytes))
+}
+
 // A write can also fail at the end, when the system hands the bytes on.
 pub(crate) fn closed(rt: HostRuntime) -> Result<(), Failed> {
-    match edge::finish_output(rt) {
-        Ok(()) => Ok(()),
-        Err(error) => {
-            edge::fail(rt, b"standard output", error);
-            Err(Failed {})
-        }
-    }
+    good(rt, b"standard output", edge::finish_output(rt))
 }
 
 pub(crate) fn deliver(rt: HostRuntime, bytes: &[u8]) -> Result<(), Failed> {
@@ -79,22 +79,11 @@ fn blank() -> [u8; INPUT] {
     [0; INPUT]
 }
 
-// Reads to the end of the input, or until the buffer is full. A fault is told.
-fn take_all(rt: HostRuntime, input: &mut [u8]) -> Result<usize, Failed> {
-    match edge::read_all(rt, input) {
-        Ok(len) => Ok(len),
-        Err(error) => {
-            edge::fail(rt, b"standard input", error);
-            Err(Failed {})
-        }
-    }
-}
-
 fn read_slips(rt: HostRuntime, typed: bool) -> Result<(), Failed> {
     let mut input = blank();
     let mut cells = [0u8; CELLS];
     told::waiting(rt, true);
-    let len = take_all(rt, &mut input)?;
+    let len = good(rt, b"standard input", edge::read_all(rt, &mut input))?;
     if input.len() <= len {
         told::too_much(rt);
         return Err(Failed {});
@@ -110,37 +99,42 @@ fn ended(done: Result<(), Failed>) -> Status {
     }
 }
 
+fn split(rt: HostRuntime, o: Order, key: &[u8], document: &[u8]) -> Result<(), Failed> {
+    let deal = Deal {
+        threshold: u64::from(o.threshold.unwrap_or(0)),
+        count: u64::from(o.count.unwrap_or(0)),
+        seed: o.seed,
+        key,
+        document,
+    };
+    deal::run(rt, deal)
+}
+
 // A word that is wrong comes before the input (R15.17).
-fn obey(rt: HostRuntime, o: Order, key: &[u8], document: &[u8]) -> Status {
+fn obey(rt: HostRuntime, asked: Result<Order, Wrong>, key: &[u8], document: &[u8]) -> Status {
+    let o = match asked {
+        Ok(o) => o,
+        Err(wrong) => {
+            told::wrong(rt, wrong.at, wrong.why);
+            return Status::Wrong;
+        }
+    };
     match o.task {
-        Task::Nothing => {
+        None => {
             told::nothing(rt);
             Status::Wrong
         }
-        Task::Help => {
+        Some(Task::Help) => {
             told::help(rt);
             Status::Done
         }
-        Task::Version => {
+        Some(Task::Version) => {
             told::version(rt);
             Status::Done
         }
-        Task::Wrong { at, why } => {
-            told::wrong(rt, at, why);
-            Status::Wrong
-        }
-        Task::Recover => ended(read_slips(rt, false)),
-        Task::Typed => ended(read_slips(rt, true)),
-        Task::Split => {
-            let deal = Deal {
-                threshold: u64::from(o.threshold.unwrap_or(0)),
-                count: u64::from(o.count.unwrap_or(0)),
-                seed: o.seed,
-                key,
-                document,
-            };
-            ended(deal::run(rt, deal))
-        }
+        Some(Task::Recover) => ended(read_slips(rt, false)),
+        Some(Task::Typed) => ended(read_slips(rt, true)),
+        Some(Task::Split) => ended(split(rt, o, key, document)),
     }
 }
 

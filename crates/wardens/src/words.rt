@@ -21,28 +21,37 @@ pub(crate) enum Why {
 
 #[derive(Clone, Copy)]
 pub(crate) enum Task {
-    // No word has said yet what to do.
-    Nothing,
     Recover,
     Typed,
     Split,
     Help,
     Version,
-    // The word with this index is wrong: the first that is.
-    Wrong { at: usize, why: Why },
 }
 
-// `--key` or `--document`, which came last and waits for its digits, with its index.
+// The word with this index is wrong: the first that is.
 #[derive(Clone, Copy)]
-enum Waiting {
-    Key { at: usize },
-    Document { at: usize },
+pub(crate) struct Wrong {
+    pub(crate) at: usize,
+    pub(crate) why: Why,
 }
 
-// What the words ask for so far.
+#[derive(Clone, Copy)]
+enum Name {
+    Key,
+    Document,
+}
+
+// `--key` or `--document`, which came last, with this index, and waits for its digits.
+#[derive(Clone, Copy)]
+struct Waiting {
+    at: usize,
+    name: Name,
+}
+
+// What the words ask for so far; with no task, no word has said yet what to do.
 #[derive(Clone, Copy)]
 pub(crate) struct Order {
-    pub(crate) task: Task,
+    pub(crate) task: Option<Task>,
     pub(crate) threshold: Option<u16>,
     pub(crate) count: Option<u16>,
     pub(crate) seed: bool,
@@ -51,89 +60,82 @@ pub(crate) struct Order {
     waits: Option<Waiting>,
 }
 
-fn with(o: Order, task: Task) -> Order {
-    Order {
-        task,
-        waits: None,
+fn with(o: Order, task: Task) -> Result<Order, Wrong> {
+    Ok(Order {
+        task: Some(task),
         ..o
-    }
+    })
 }
 
-fn wrong(o: Order, at: usize, why: Why) -> Order {
-    with(o, Task::Wrong { at, why })
+fn refuse(at: usize, why: Why) -> Result<Order, Wrong> {
+    Err(Wrong { at, why })
 }
 
 fn is(word: &[u8], said: &[u8]) -> bool {
     word == said
 }
 
-fn with_seed(o: Order, at: usize) -> Order {
+fn with_seed(o: Order, at: usize) -> Result<Order, Wrong> {
     if o.seed {
-        return wrong(o, at, Why::Twice);
+        return refuse(at, Why::Twice);
     }
-    Order { seed: true, ..o }
+    Ok(Order { seed: true, ..o })
 }
 
-// `--key`, whose digits come next.
-fn with_key(o: Order, at: usize) -> Order {
-    if o.key {
-        return wrong(o, at, Why::Twice);
-    }
-    Order {
-        key: true,
-        waits: Some(Waiting::Key { at }),
-        ..o
-    }
-}
-
-// `--document`, whose digits come next.
-fn with_document(o: Order, at: usize) -> Order {
-    if o.document {
-        return wrong(o, at, Why::Twice);
-    }
-    Order {
-        document: true,
-        waits: Some(Waiting::Document { at }),
-        ..o
+// `--key` or `--document`, whose digits come next.
+fn wait(o: Order, at: usize, name: Name) -> Result<Order, Wrong> {
+    let waits = Some(Waiting { at, name });
+    match name {
+        Name::Key if !o.key => Ok(Order {
+            key: true,
+            waits,
+            ..o
+        }),
+        Name::Document if !o.document => Ok(Order {
+            document: true,
+            waits,
+            ..o
+        }),
+        _ => refuse(at, Why::Twice),
     }
 }
 
 // The digits that were waited for.
-fn digits(o: Order, at: usize, word: &[u8], out: &mut [u8]) -> Order {
+fn digits(o: Order, at: usize, word: &[u8], out: &mut [u8]) -> Result<Order, Wrong> {
     match slips::hex(word, NAME_SIZE, out) {
-        Ok(_) => Order { waits: None, ..o },
-        Err(_) => wrong(o, at, Why::NoHex),
+        Ok(_) => Ok(Order { waits: None, ..o }),
+        Err(_) => refuse(at, Why::NoHex),
     }
 }
 
 // THRESHOLD, and then COUNT. The most that is asked for is one more, which is none.
-fn number(o: Order, at: usize, word: &[u8]) -> Order {
+fn number(o: Order, at: usize, word: &[u8]) -> Result<Order, Wrong> {
     if o.count.is_some() {
-        return wrong(o, at, Why::Unknown);
+        return refuse(at, Why::Unknown);
     }
     match sheet::number_asked(word, MOST_SLIPS + 1) {
         Some(n) if 1 <= n && n <= MOST_SLIPS => match o.threshold {
-            None => Order {
+            None => Ok(Order {
                 threshold: Some(n),
                 ..o
-            },
-            Some(threshold) if n < threshold => wrong(o, at, Why::NoQuorum),
-            Some(_) => Order {
+            }),
+            Some(threshold) if n < threshold => refuse(at, Why::NoQuorum),
+            Some(_) => Ok(Order {
                 count: Some(n),
                 ..o
-            },
+            }),
         },
-        _ => wrong(o, at, Why::NoNumber),
+        _ => refuse(at, Why::NoNumber),
     }
 }
 
 // A word behind `split`.
-fn part(o: Order, at: usize, word: &[u8]) -> Order {
+fn part(o: Order, at: usize, word: &[u8]) -> Result<Order, Wrong> {
     if is(word, b"--key") {
-        return with_key(o, at);
+        return wait(o, at, Name::Key);
     }
     if is(word, b"--document") {
-        return with_document(o, at);
+        return wait(o, at, Name::Document);
     }
     if is(word, b"--signing-seed") {
         return with_seed(o, at);
@@ -142,7 +144,7 @@ fn part(o: Order, at: usize, word: &[u8]) -> Order {
 }
 
 // The first word.
-fn verb(o: Order, at: usize, alone: bool, word: &[u8]) -> Order {
+fn verb(o: Order, at: usize, alone: bool, word: &[u8]) -> Result<Order, Wrong> {
     if is(word, b"split") {
         return with(o, Task::Split);
     }
@@ -158,7 +160,7 @@ fn verb(o: Order, at: usize, alone: bool, word: &[u8]) -> Order {
     if alone && is(word, b"--version") {
         return with(o, Task::Version);
     }
-    wrong(o, at, Why::Unknown)
+    refuse(at, Why::Unknown)
 }
 
 fn next(
@@ -168,30 +170,30 @@ fn next(
     word: &[u8],
     key: &mut [u8],
     document: &mut [u8],
-) -> Order {
+) -> Result<Order, Wrong> {
     match o.waits {
-        Some(Waiting::Key { at: _ }) => digits(o, at, word, key),
-        Some(Waiting::Document { at: _ }) => digits(o, at, word, document),
+        Some(waiting) => match waiting.name {
+            Name::Key => digits(o, at, word, key),
+            Name::Document => digits(o, at, word, document),
+        },
         None => match o.task {
-            Task::Nothing => verb(o, at, alone, word),
-            Task::Split => part(o, at, word),
-            _ => wrong(o, at, Why::NotAlone),
+            None => verb(o, at, alone, word),
+            Some(Task::Split) => part(o, at, word),
+            Some(_) => refuse(at, Why::NotAlone),
         },
     }
 }
 
 // What lacks behind `split`, which is the word at index first.
-fn whole(o: Order, first: usize) -> Order {
-    match o.waits {
-        Some(Waiting::Key { at }) | Some(Waiting::Document { at }) => wrong(o, at, Why::Lacks),
-        None => {
-            let said = o.count.is_some() && o.key && o.document;
-            if matches!(o.task, Task::Split) && !said {
-                return wrong(o, first, Why::SplitLacks);
-            }
-            o
-        }
+fn whole(o: Order, first: usize) -> Result<Order, Wrong> {
+    if let Some(waiting) = o.waits {
+        return refuse(waiting.at, Why::Lacks);
     }
+    let said = o.count.is_some() && o.key && o.document;
+    if matches!(o.task, Some(Task::Split)) && !said {
+        return refuse(first, Why::SplitLacks);
+    }
+    Ok(o)
 }
 
 // What all words ask for: those from index first on, of so many. The key and the digest are put
@@ -203,9 +205,9 @@ pub(crate) fn asked(
     buffer: &mut [u8],
     key: &mut [u8],
     document: &mut [u8],
-) -> Order {
+) -> Result<Order, Wrong> {
     let mut o = Order {
-        task: Task::Nothing,
+        task: None,
         threshold: None,
         count: None,
         seed: false,
@@ -214,12 +216,9 @@ pub(crate) fn asked(
         waits: None,
     };
     for at in first..count {
-        if matches!(o.task, Task::Wrong { at: _, why: _ }) {
-            return o;
-        }
         let alone = at == first && count - at == 1;
         let len = edge::arg(rt, at, buffer).unwrap_or(0);
-        o = next(o, at, alone, &buffer[..len], key, document);
+        o = next(o, at, alone, &buffer[..len], key, document)?;
     }
     whole(o, first)
 }

@@ -1,7 +1,7 @@
 -- `page::count` meets its contract. Assumes nothing.
 use native.Mathlib.Omega.{arith}
 use Rattle.page.proofs.Counts.{nothing, no_size, large_size, too_many, few_enough}
-use Rattle.page.proofs.count.Goals.{then-n-eq0-via-then-n-eq0, then-n-eq0-via-else-n-eq0+then-size-eq0, then-n-eq0-via-else-n-eq0+else-size-eq0+then-size-gt-MOST_DATA}
+use Rattle.page.proofs.count.Goals.{then-n-eq0-via-then-n-eq0, then-n-eq0-via-else-n-eq0+then-size-eq0}
 use Rattle.page.proofs.count.Goals as goal
 
 pub returns-then-n-eq0 : goal.returns-then-n-eq0
@@ -9,9 +9,10 @@ returns-then-n-eq0 c =
     elim c.then-n-eq0.branch [
       | then-n-eq0-via-then-n-eq0 w ↦ nothing _ _ w.if-n-eq0.true
       | then-n-eq0-via-else-n-eq0+then-size-eq0 w ↦ no_size _ _ (omega (arith, w.if-n-eq0.false)) w.if-size-eq0.true
-      | then-n-eq0-via-else-n-eq0+else-size-eq0+then-size-gt-MOST_DATA w ↦
-          large_size _ _ (omega (arith, w.if-n-eq0.false)) (omega (arith, w.if-size-eq0.false)) w.if-size-gt-MOST_DATA.true
     ]
+
+pub returns-then-size-gt-MOST_DATA : goal.returns-then-size-gt-MOST_DATA
+returns-then-size-gt-MOST_DATA c = large_size _ _ (omega (arith, c.if-n-eq0.false)) (omega (arith, c.if-size-eq0.false)) c.if-size-gt-MOST_DATA.true
 
 pub returns-then-before_last-ge-MOST_PAGES : goal.returns-then-before_last-ge-MOST_PAGES
 returns-then-before_last-ge-MOST_PAGES c =

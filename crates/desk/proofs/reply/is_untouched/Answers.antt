@@ -28,20 +28,20 @@ module _ (s : List ℕ) (i : ℕ) (h : i < length s) where
 untouched-end : (s : List ℕ) (i : ℕ) → length s ≤ i → same (drop i s) (drop i (fresh s)) ≡ true
 untouched-end s i h = same_end s (fresh s) i h (rw length-replicate h)
 
-pub loop-i-init : goal.loop-i-init
-loop-i-init c = (omega arith, refl)
+pub loop-b-init : goal.loop-b-init
+loop-b-init c = refl
 
-pub returns-then-s-i : goal.returns-then-s-i
-returns-then-s-i c =
-    let l = c.loop-i in
-    sym (l.invariant.1 ∙ touched-stop c.args.s.now l.i c.loop-i-test.true c.if-s-i.true)
+pub returns-then-b : goal.returns-then-b
+returns-then-b c =
+    let l = c.loop-b in
+    sym (l.invariant ∙ touched-stop c.args.s.now l.b-index c.loop-b-test.true c.if-b.true)
 
-pub loop-i-preserved : goal.loop-i-preserved
-loop-i-preserved c =
-    let l = c.loop-i in
-    (omega arith, l.invariant.1 ∙ untouched-step c.args.s.now l.i c.loop-i-test.true c.if-s-i.false)
+pub loop-b-preserved : goal.loop-b-preserved
+loop-b-preserved c =
+    let l = c.loop-b in
+    l.invariant ∙ untouched-step c.args.s.now l.b-index c.loop-b-test.true c.if-b.false
 
 pub returns : goal.returns
 returns c =
-    let l = c.loop-i in
-    sym (l.invariant.1 ∙ untouched-end c.args.s.now l.i c.loop-i-test.false)
+    let l = c.loop-b in
+    sym (l.invariant ∙ untouched-end c.args.s.now l.b-index c.loop-b-test.false)

@@ -1,9 +1,0 @@
--- Safe and ending: the files that are left fall.
-use Rattle.std.proofs.Common.{◌-◌, ◌≤◌}
-use Rattle.desk.proofs.said.files.Given as goal
-
-abbrev pub invariant-loop-i : goal.invariant-loop-i
-invariant-loop-i l = l.i ≤ 64
-
-abbrev pub decreases-loop-i : goal.decreases-loop-i
-decreases-loop-i l = 64 - l.i
