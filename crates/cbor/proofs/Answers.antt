@@ -19,12 +19,6 @@ use Rattle.wire.proofs.Answers.{told_injective, err_is, reads}
 
 -- ---- an answer says no more than its number and values do
 
-pub head_injective : (r q : Result (Head × ℕ) Refusal) → told r ≡ told q → r ≡ q
-head_injective = told_injective
-
-pub string_injective : (r q : Result (Span × ℕ) Refusal) → told r ≡ told q → r ≡ q
-string_injective = told_injective
-
 -- by whatever numbers, if each leads to one fault (trait `Fault`)
 pub told_by_injective : {A E : Type 0} (n : E → ℕ) → ((x y : E) → n x ≡ n y → x ≡ y) → (r q : Result A E) → told_by n r ≡ told_by n q → r ≡ q
 told_by_injective n one (Ok a) (Ok b) e = ap Ok (done_value e)

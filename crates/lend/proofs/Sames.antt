@@ -41,9 +41,6 @@ same_ne xs ys n = go (same xs ys) refl
     go true e = absurd (n (same_eq xs ys e))
     go false e = e
 
-pub same_lengths : (xs ys : List ℕ) → (length xs ≡ length ys → ⊥) → same xs ys ≡ false
-same_lengths xs ys n = same_ne xs ys (λ e. n (ap length e))
-
 -- what `==` of slices answers
 pub pointwise_same : (xs ys : List ℕ) → pointwise nat_eq xs ys ≡ same xs ys
 unfolding same

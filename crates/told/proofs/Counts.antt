@@ -13,12 +13,6 @@ use Rattle.digits.specs.Private.{Laid}
 use Rattle.digits.proofs.Laying.{laid_one, laid_then, laid_whole}
 use Rattle.told.specs.Lines.{counted, counts_line}
 
--- past the end there is no number
-pub none_past : (n : List ℕ) (k : ℕ) → length n ≤ k → 0 ≡ get_or n k 0
-none_past [] k h = refl
-none_past (x ∷ n) zero h = absurd (omega arith)
-none_past (x ∷ n) (suc k) h = none_past n k (omega arith)
-
 pub name_laid : (from v r k : ℕ) (name n l x y : List ℕ) → from + length name + 20 ≤ length l → x ≡ over from name l → v ≡ get_or n k 0
     → (r ≡ length (numeral v)) × (r ≤ 20) × (y ≡ over (from + length name) (numeral v) x)
     → Laid from (length name + 20) (counted name n k) l y (from + length name + r)

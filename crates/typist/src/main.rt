@@ -44,8 +44,8 @@ fn lines(rt: HostRuntime, input: &[u8]) -> Status {
     }
 }
 
-// Lines that are typed at a terminal, or that come through a pipe or from a file: of a part of these
-// nothing is printed. A page that is typed never fills the input.
+// Lines that are typed at a terminal, or that come through a pipe or from a file: of a part of
+// these nothing is printed. A page that is typed never fills the input.
 fn read_page(rt: HostRuntime) -> Status {
     let mut input = [0u8; INPUT];
     let read = if edge::input_is_terminal(rt) {

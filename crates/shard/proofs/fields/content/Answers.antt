@@ -1,4 +1,5 @@
--- `shard::fields::content` meets its contract: three fields, one after the other, and the rule over the last two.
+-- `shard::fields::content` meets its contract: three fields, one after the other, and the rule over
+-- the last two.
 -- Assumes nothing.
 use Rattle.shard.specs.Shard.{content_at}
 use Rattle.wire.proofs.Answers.{reads, handed}

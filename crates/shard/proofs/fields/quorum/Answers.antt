@@ -1,4 +1,5 @@
--- `shard::fields::quorum` meets its contract: three fields, one after the other, and the rules over them.
+-- `shard::fields::quorum` meets its contract: three fields, one after the other, and the rules
+-- over them.
 -- Assumes nothing.
 use Rattle.shard.specs.Shard.{quorum_at}
 use Rattle.wire.proofs.Answers.{reads, handed}

@@ -1,4 +1,5 @@
--- `split::Dealing::share` meets its contract. The loop's invariant: the first k blocks stand in the output.
+-- `split::Dealing::share` meets its contract. The loop's invariant: the first k blocks stand in the
+-- output.
 -- Assumes nothing.
 use Rattle.split.proofs.Turns.{Laid}
 use Rattle.split.proofs.Dealing.share.Given as goal

@@ -1,4 +1,5 @@
--- `split::Dealing::shares` meets its contract. The loop's invariant: the first i shares stand in the output.
+-- `split::Dealing::shares` meets its contract. The loop's invariant: the first i shares stand in
+-- the output.
 -- Assumes nothing.
 use Rattle.split.proofs.Turns.{Given}
 use Rattle.split.proofs.Dealing.shares.Given as goal
