@@ -1,6 +1,6 @@
 -- The slips among the lines of an input, found line by line. Assumes nothing.
 use Prim.Native.Nat.{ℕ, ◌+◌, ◌-◌, ◌≤◌, ◌<◌}
-use mathlib.Core.Path.{◌≡◌, refl, sym, ap, ◌∙◌}
+use mathlib.Core.Path.{◌≡◌, sym, ap, ◌∙◌}
 use mathlib.Core.Bool.{Bool, true, false, not}
 use mathlib.Core.List.{List, ◌∷◌}
 use native.Mathlib.Omega.{arith}
@@ -33,9 +33,6 @@ pub record Running (s : List ℕ) (end last : ℕ) : Type 0 where
   pub rest : end + run_on (behind s end) ≡ last + run_on (behind s last)
 
 module _ (s : List ℕ) (end : ℕ) where
-  pub running_none : end ≤ length s → Running s end end
-  running_none h = record { within = h; rest = refl }
-
   module _ (last : ℕ) (k : Running s end last) where
     module _ (h : last < length s) (stop : ℕ) (e : stop ≡ last + 1 + length (first_line (lines_from s (last + 1)))) where
       abbrev line : List ℕ
@@ -79,9 +76,6 @@ pub record Nexting (s : List ℕ) (at from : ℕ) : Type 0 where
   pub rest : next_from s at ≡ next_from s from
 
 module _ (s : List ℕ) (at : ℕ) where
-  pub nexting_none : Nexting s at at
-  nexting_none = record { rest = refl }
-
   module _ (from : ℕ) (k : Nexting s at from) where
     module _ (h : from < length s) (end : ℕ) (e : end ≡ from + length (first_line (lines_from s from))) where
       abbrev first : List ℕ

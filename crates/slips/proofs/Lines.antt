@@ -1,5 +1,5 @@
 -- One line of an input, found byte by byte, and the lines behind it. Assumes nothing.
-use Prim.Native.Nat.{ℕ, suc, ◌+◌, ◌-◌, ◌^◌, ◌≤◌, ◌<◌}
+use Prim.Native.Nat.{ℕ, suc, ◌+◌, ◌-◌, ◌≤◌, ◌<◌}
 use mathlib.Core.Path.{◌≡◌, refl, sym, ap, ◌∙◌}
 use mathlib.Core.Logic.{⊎_elim}
 use mathlib.Core.Bool.{Bool, true, false}
@@ -8,8 +8,6 @@ use native.Mathlib.Omega.{arith}
 use borrow.Author.Tests.{eq-eqb, ne_eqb, lt-ltb, le-ltb}
 use lib.Dec.{ltb, eqb}
 use lib.ListN.{length, take, drop, length-drop, drop_of_length-le}
-use mir.Syntax.{w64}
-use mir.Val.{Fits}
 use lib.Seq.{drop-drop, length-take-le, take_all, append_snoc}
 use Rattle.std.specs.Prelude.{Option, cond, ◌==◌}
 use Rattle.std.specs.Option.{unwrap_or}
@@ -95,9 +93,6 @@ module _ (s : List ℕ) (at : ℕ) where
     pub reached_feed : at + k ≡ at + length (first_line (lines_from s at))
     reached_feed = omega (arith, first_feed, first_length (drop at s))
 
-    pub feed_fits : length s < 2 ^ 64 → Fits w64 (at + k)
-    feed_fits l = record { fits = omega (arith, first_feed, line_most (drop at s), length-drop at s) }
-
   pub reached_end : length s ≤ at → at ≡ at + length (first_line (lines_from s at))
   unfolding line_length
   reached_end h =
@@ -140,15 +135,8 @@ module _ (s : List ℕ) (last stop : ℕ) (h : last < length s) (e : stop ≡ la
   pub stop_fits : stop ≤ length s
   stop_fits = line_fits s (last + 1) stop e (omega arith)
 
-  pub less_left : length s - stop < length s - last
-  less_left = omega (arith, line_behind s (last + 1) stop e)
-
 pub end_fits : (s : List ℕ) (from end : ℕ) → from < length s → end ≡ from + length (first_line (lines_from s from)) → end ≤ length s
 end_fits s from end h e = line_fits s from end e (omega arith)
-
--- behind the line feed less is left
-pub less_behind : (s : List ℕ) (from end : ℕ) → end ≡ from + length (first_line (lines_from s from)) → end < length s → length s - (end + 1) < length s - from
-less_behind s from end e h = omega (arith, line_behind s from end e)
 
 module _ (s : List ℕ) (end : ℕ) where
   pub behind_some : end < length s → behind s end ≡ lines_from s (end + 1)

@@ -66,9 +66,6 @@ module _ (bs part out out' : List ℕ) (at : Span) (g : part ≡ part_at bs at) 
   shard_is : shard_told r ≡ shard_at (part_at bs at)
   shard_is = h ∙ ap shard_at g
 
-  pub shard_refused : (e : Refusal) → r ≡ Err e → Told (shard_seen bs at (shard_at (part_at bs at))) out out (Err (N.Shard e))
-  shard_refused e q = rw (← shard_is, q) (record { answer = refl; bytes = refl })
-
   module _ (x : Shard) (q : r ≡ Ok x) (v : Result ℕ Refusal) (w : Written 0 (done bs) out out' v) where
     pub shard_given : (n : ℕ) → v ≡ Ok n → Told (shard_seen bs at (shard_at (part_at bs at))) out out' (Ok (record { len = n; payload = at; quorum = x.quorum }))
     shard_given n p =

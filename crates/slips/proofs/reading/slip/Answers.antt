@@ -1,9 +1,6 @@
 -- `slips::reading::slip` meets its contract. Assumes nothing.
-use Rattle.slips.proofs.Seeing.{shard_refused, shard_short, shard_given}
+use Rattle.slips.proofs.Seeing.{shard_short, shard_given}
 use Rattle.slips.proofs.reading.slip.Goals as goal
-
-pub returns-in-Err : goal.returns-in-Err
-returns-in-Err c = search shard_refused
 
 pub returns-in-Err-give : goal.returns-in-Err-give
 returns-in-Err-give c = search shard_short
