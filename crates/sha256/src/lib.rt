@@ -177,8 +177,8 @@ fn zeros(n: usize) -> usize
     (119 - n % 64) % 64
 }
 
-// The last one or two blocks of the padded message, from byte `at` on, where the whole blocks of the
-// message end. The shift drops what the length in bits has above 64 bits (R14.5).
+// The last one or two blocks of the padded message, from byte `at` on, where the whole blocks of
+// the message end. The shift drops what the length in bits has above 64 bits (R14.5).
 fn tail(s: &[u8], at: usize, len: usize) -> [u8; 128]
     requires { (at ≤ length s.now) × (at + len ≡ length s.now + M.zeros (length s.now) + 9) × (len ≤ 128) }
     ensures { (take len result ≡ drop at (M.pad s.now)) × (length result ≡ 128) }

@@ -14,8 +14,9 @@ pub(crate) const CELL: usize = 512;
 // The slips that were kept, n of them: for each where it began in the input, where its payload
 // stands among the cells, how long that is, and the number of its share.
 //
-// stays (6): there is no heap, so n says how much of each is meant; `recover::recover` takes where the payloads start and how long they are as two lists,
-// and `slips::repeated` takes the numbers as one.
+// stays (6): there is no heap, so n says how much of each is meant; `recover::recover` takes where
+// the payloads start and how long they are as two lists, and `slips::repeated` takes the numbers as
+// one.
 #[derive(Clone, Copy)]
 pub(crate) struct Slips {
     pub(crate) n: usize,
