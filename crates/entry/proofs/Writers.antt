@@ -6,72 +6,29 @@ use mathlib.Core.Bool.{Bool, true, false, not, ◌&&◌}
 use mathlib.Core.List.{List, [], ◌∷◌, ◌++◌}
 use native.Mathlib.Omega.{arith}
 use borrow.Author.Tests.{leb-true, eqb-true, le-leb, lt-leb, eq-eqb}
-use lib.Dec.{ltb, leb, eqb}
+use lib.Dec.{leb, eqb}
 use lib.ListN.{length}
 use Rattle.std.specs.Prelude.{Option, Some, None, Result, Ok, Err}
 use Rattle.wire.specs.Answer.{choose, Answer, done, refused_at, refused}
 use Rattle.wire.specs.Writing.{told, outcome}
 use Rattle.wire.specs.Refusal.{number}
 use Rattle.wire.specs.declared.Refusal.{Refusal}
-use Rattle.wire.proofs.Cases.{both_hold, said_no, said_yes, passed, not_done, done_value}
+use Rattle.wire.proofs.Cases.{both_hold, said_yes, passed, not_done, done_value}
 use Rattle.wire.proofs.Overs.{over_none, over_out}
 use Rattle.wire.specs.declared.Span.{Span}
 use Rattle.wire.specs.Span.{part_at}
 use Rattle.path.specs.Order.{below}
 use Rattle.path.specs.Path.{path_most, path_allowed}
 use Rattle.path.proofs.Paths.{allowed_length}
-use Rattle.cbor.specs.Form.{head_of, head_size, string_of, string_field_of, number_field_of}
+use Rattle.cbor.specs.Form.{string_of, string_field_of, number_field_of}
 use Rattle.wire.specs.Ascii.{ascii}
 use Rattle.cbor.specs.Put.{past, Put}
 use Rattle.cbor.proofs.Runs.{Left, left_all, left_on, left_last, put_none}
 use Rattle.entry.specs.Writing.{entry_in, entry_of, file_of, integer_of, mtime_of, held, digest_in, path_in, mtime_allowed, file_verdict, form_of}
-use Rattle.entry.specs.Private.{mtime_field_of, mtime_size, file_size}
+use Rattle.entry.specs.Private.{mtime_field_of, file_size}
 use Rattle.entry.specs.declared.Integer.{Integer}
 use Rattle.entry.specs.declared.File.{File}
 use Rattle.entry.proofs.Sizes.{part_length, file_length, file_most}
-
--- ---- the tests
-
-module _ (pool : List ℕ) (p : Span) where
-  pub held_outside : length pool < p.start → false ≡ held pool p
-  unfolding held
-  held_outside h = sym (lt-leb (p.start + p.len) (length pool) (omega arith))
-
-  module _ (h : p.start ≤ length pool) where
-    pub held_short : length pool - p.start < p.len → false ≡ held pool p
-    unfolding held
-    held_short l = sym (lt-leb (p.start + p.len) (length pool) (omega arith))
-
-    pub held_all : p.len ≤ length pool - p.start → true ≡ held pool p
-    unfolding held
-    held_all l = sym (le-leb (p.start + p.len) (length pool) (omega arith))
-
--- what the bytes at a place decide, by the bytes that the code looks at
-pub path_bad : (pool prev bs : List ℕ) (p : Span) (d a : Bool) → d ≡ held pool p → not d ≡ false → bs ≡ part_at pool p → a ≡ path_allowed bs → not a ≡ true → false ≡ path_in pool prev p
-unfolding path_in
-path_bad pool prev bs p d a h k e q l = rw (said_yes d _ h k, ← e, said_no a _ q l)
-
-pub path_decides : (pool prev bs : List ℕ) (p : Span) (d a b : Bool) → d ≡ held pool p → not d ≡ false → bs ≡ part_at pool p → a ≡ path_allowed bs → not a ≡ false → b ≡ below prev bs
-    → b ≡ path_in pool prev p
-unfolding path_in
-path_decides pool prev bs p d a b h k e q l w = rw (said_yes d _ h k, ← e, said_yes a _ q l) w
-
-module _ (t : Option Integer) where
-  pub null_allowed : t ≡ None → true ≡ mtime_allowed t
-  unfolding mtime_allowed
-  null_allowed e = rw e
-
-  pub integer_allowed : (v : Integer) (b : Bool) → t ≡ Some v → b ≡ ltb v.n 9223372036854775808 → b ≡ mtime_allowed t
-  unfolding mtime_allowed
-  integer_allowed v b e h = rw e h
-
-  pub null_size : t ≡ None → 1 ≡ mtime_size t
-  unfolding mtime_size
-  null_size e = rw e
-
-  pub integer_size : (v : Integer) (k : ℕ) → t ≡ Some v → k ≡ head_size v.n → k ≡ mtime_size t
-  unfolding mtime_size
-  integer_size v k e h = rw e h
 
 -- ---- what the tests say
 
@@ -232,15 +189,6 @@ module _ (pool prev : List ℕ) (f : File) (j : Result ℕ Refusal) (e : told j 
       rw (d.1, (verdict_good pool prev f d.1).1) w
 
 -- ---- the runs of writes
-
-module _ (at n : ℕ) (x z : List ℕ) (r : ℕ) (negative : Bool) where
-  pub minus_put : negative ≡ true → Put at (head_of 1 n) x z r → Put at (integer_of negative n) x z r
-  unfolding integer_of
-  minus_put e w = rw e w
-
-  pub plus_put : negative ≡ false → Put at (head_of 0 n) x z r → Put at (integer_of negative n) x z r
-  unfolding integer_of
-  plus_put e w = rw e w
 
 module _ (t : Option Integer) (at : ℕ) (x : List ℕ) (l : at + length (mtime_field_of t) ≤ length x) (a : ℕ) (y : List ℕ) (v : Put at (string_of 3 (ascii "mtime")) x y a) (z : List ℕ) (r : ℕ) where
   mtime_run : Put a (mtime_of t) y z r → Put at (mtime_field_of t) x z r

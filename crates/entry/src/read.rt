@@ -13,6 +13,7 @@ const END: u64 = 0x8000000000000000;
 
 // The head of an integer from -2^63 to 2^63 - 1, and the position past it; or 3, 18, 19. The major
 // type NEGATIVE tells that it is below 0.
+#[tactic(auto, using(wire::proofs::Answers::reads), unfolding(crate::specs::File::integer_at))]
 pub fn integer(s: &[u8], at: usize) -> Result<(Head, usize), Refusal>
     ensures { told result ≡ integer_at s.now at }
 {
@@ -24,6 +25,7 @@ pub fn integer(s: &[u8], at: usize) -> Result<(Head, usize), Refusal>
 }
 
 // An integer or null, and the position past it.
+#[tactic(auto, using(wire::proofs::Answers::reads), unfolding(crate::specs::File::mtime_at))]
 fn mtime_field(s: &[u8], at: usize) -> Result<(Option<Integer>, usize), Refusal>
     ensures { told result ≡ mtime_at s.now at }
 {
@@ -36,6 +38,7 @@ fn mtime_field(s: &[u8], at: usize) -> Result<(Option<Integer>, usize), Refusal>
 }
 
 // A path that is above prev, the path before it (R12.6).
+#[tactic(auto, using(wire::proofs::Answers::reads), unfolding(crate::specs::File::path_at))]
 fn path_field(s: &[u8], at: usize, prev: &[u8]) -> Result<(Span, usize), Refusal>
     ensures { told result ≡ path_at s.now at prev.now }
 {
@@ -60,6 +63,7 @@ fn path_field(s: &[u8], at: usize, prev: &[u8]) -> Result<(Span, usize), Refusal
 
 // The map of one file, whose path is above prev, the path before it, and the position past the map;
 // or the refusal of the first offending item.
+#[tactic(auto, using(wire::proofs::Answers::reads), unfolding(crate::specs::File::file_at))]
 pub fn file(s: &[u8], at: usize, prev: &[u8]) -> Result<(File, usize), Refusal>
     ensures { told result ≡ file_at s.now at prev.now }
 {

@@ -10,6 +10,7 @@ use super::{File, Integer};
 use cbor::{BYTES, INTEGER, NEGATIVE, TEXT};
 use wire::{Refusal, Span};
 
+#[tactic(auto, unfolding(crate::specs::Writing::held))]
 fn holds(pool: &[u8], p: Span) -> bool
     ensures { result ≡ held pool.now p }
 {
@@ -23,6 +24,7 @@ fn holds(pool: &[u8], p: Span) -> bool
 }
 
 // True exactly where 32 bytes of the pool are at the place, as of a hash or a seed.
+#[tactic(auto, unfolding(crate::specs::Writing::digest_in))]
 pub fn digest(pool: &[u8], p: Span) -> bool
     ensures { result ≡ digest_in pool.now p }
 {
@@ -32,6 +34,7 @@ pub fn digest(pool: &[u8], p: Span) -> bool
     p.len == 32
 }
 
+#[tactic(auto, unfolding(crate::specs::Writing::path_in))]
 fn path_fits(pool: &[u8], prev: &[u8], p: Span) -> bool
     ensures { result ≡ path_in pool.now prev.now p }
 {
@@ -45,6 +48,7 @@ fn path_fits(pool: &[u8], prev: &[u8], p: Span) -> bool
     path::ascends(prev, bs)
 }
 
+#[tactic(auto, unfolding(crate::specs::Writing::mtime_allowed))]
 fn mtime_allowed(t: Option<Integer>) -> bool
     ensures { result ≡ mtime_allowed t }
 {
@@ -54,6 +58,7 @@ fn mtime_allowed(t: Option<Integer>) -> bool
     }
 }
 
+#[tactic(auto, unfolding(crate::specs::Private::mtime_size))]
 fn mtime_size(t: Option<Integer>) -> usize
     ensures { result ≡ mtime_size t }
 {
@@ -64,6 +69,7 @@ fn mtime_size(t: Option<Integer>) -> usize
 }
 
 // How long a file is that may be written: 56 bytes are its head, its keys and its hash.
+#[tactic(auto, unfolding(crate::specs::Private::file_size))]
 fn size(f: File) -> usize
     requires { f.path.len ≤ path_most }
     ensures { result ≡ file_size f }
@@ -74,6 +80,7 @@ fn size(f: File) -> usize
 
 // The length of the written form of a file, where the file may be written behind prev, the path
 // before it; or 19, 20.
+#[tactic(auto, unfolding(crate::specs::Writing::file_verdict))]
 pub fn judge(pool: &[u8], prev: &[u8], f: File) -> Result<usize, Refusal>
     ensures { told result ≡ outcome (file_verdict pool.now prev.now f) }
 {
@@ -94,6 +101,7 @@ pub fn judge(pool: &[u8], prev: &[u8], f: File) -> Result<usize, Refusal>
 
 // An integer in its one form at the position, and the position past it. Where it does not fit,
 // nothing is written and the position stays.
+#[tactic(auto, unfolding(crate::specs::Writing::integer_of))]
 pub fn integer(out: &mut [u8], at: usize, v: Integer) -> usize
     ensures { Put at (integer_of v.negative v.n) out.old out.new result }
 {

@@ -2,14 +2,13 @@
 -- Assumes nothing.
 use Prim.Native.Nat.{ℕ, ◌-◌, ◌≤◌}
 use mathlib.Core.Path.{◌≡◌, refl, sym, ap, ap₂, ◌∙◌}
-use mathlib.Core.Bool.{Bool, true, false, not}
+use mathlib.Core.Bool.{Bool, true, false}
 use mathlib.Core.List.{List}
 use native.Mathlib.Omega.{arith}
-use borrow.Author.Tests.{eqb-true}
 use lib.Dec.{eqb}
 use lib.ListN.{length, take, length-append, replicate}
 use lib.Seq.{take_at}
-use Rattle.wire.proofs.Cases.{said_yes, not_done, got_value}
+use Rattle.wire.proofs.Cases.{not_done, got_value}
 use Rattle.wire.specs.Answer.{Answer, done, refused_at, refused, then, Got, got, value_of}
 use Rattle.entry.specs.declared.File.{File}
 use Rattle.manifest.specs.Manifest.{Listing, manifest_at}

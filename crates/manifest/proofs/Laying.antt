@@ -1,7 +1,6 @@
 -- What the writers go by: the loop of `form::list`, and the runs of writes. Assumes nothing.
 use Prim.Native.Nat.{ℕ, ◌+◌, ◌≤◌, ◌<◌}
 use mathlib.Core.Path.{◌≡◌, sym, ap, ap₂, ◌∙◌, subst}
-use mathlib.Core.Bool.{Bool, true, false}
 use mathlib.Core.List.{List, [], ◌∷◌, ◌++◌, append_assoc, map}
 use native.Mathlib.Omega.{arith}
 use lib.ListN.{length, take, drop, get_or, length-append, drop_of_length-le, length-map}
@@ -105,13 +104,6 @@ module _ (v : Created) (at : ℕ) (x : List ℕ) (l : at + length (created_field
   pub double_run : (bits : ℕ) → v ≡ created.Double bits → Put a (float_of bits) y z r → Put at (created_field_of v) x z r
   unfolding created_of
   double_run bits e u = created_run (rw e u)
-
-module _ (at : ℕ) (x z : List ℕ) (r : ℕ) (sealed : Bool) where
-  pub true_put : sealed ≡ true → Put at (0xF5 ∷ []) x z r → Put at (choose sealed 0xF5 0xF4 ∷ []) x z r
-  true_put e w = rw e w
-
-  pub false_put : sealed ≡ false → Put at (0xF4 ∷ []) x z r → Put at (choose sealed 0xF5 0xF4 ∷ []) x z r
-  false_put e w = rw e w
 
 -- ---- before and after the files
 

@@ -1,5 +1,4 @@
 pub mod Answers
-pub mod Simple
 pub mod Lists
 pub mod Judging
 pub mod Lengths

@@ -9,6 +9,7 @@ use cbor::BYTES;
 use entry::Integer;
 use wire::{Refusal, Span};
 
+#[tactic(auto, using(wire::proofs::Answers::reads), unfolding(crate::specs::Manifest::seed_at))]
 pub(super) fn seed_field(s: &[u8], at: usize) -> Result<(Option<Span>, usize), Refusal>
     ensures { told result ≡ seed_at s.now at }
 {
@@ -21,12 +22,14 @@ pub(super) fn seed_field(s: &[u8], at: usize) -> Result<(Option<Span>, usize), R
 }
 
 // Whether a manifest is sealed exactly when its seed is null (R13.3).
+#[tactic(auto, unfolding(crate::specs::Manifest::agrees))]
 pub(super) fn agree(seed: Option<Span>, sealed: bool) -> bool
     ensures { result ≡ agrees seed sealed }
 {
     seed.is_none() == sealed
 }
 
+#[tactic(auto, using(wire::proofs::Answers::reads), unfolding(crate::specs::Manifest::sealed_at))]
 fn sealed_field(s: &[u8], at: usize, seed: Option<Span>) -> Result<(bool, usize), Refusal>
     ensures { told result ≡ sealed_at s.now at seed }
 {
@@ -44,6 +47,7 @@ fn sealed_field(s: &[u8], at: usize, seed: Option<Span>) -> Result<(bool, usize)
     Ok((sealed, a + 1))
 }
 
+#[tactic(auto, using(wire::proofs::Answers::reads), unfolding(crate::specs::Manifest::created_at))]
 fn created_field(s: &[u8], at: usize) -> Result<(Created, usize), Refusal>
     ensures { told result ≡ created_at s.now at }
 {
@@ -57,6 +61,7 @@ fn created_field(s: &[u8], at: usize) -> Result<(Created, usize), Refusal>
 }
 
 // The fields after the files, and the input's end.
+#[tactic(auto, using(wire::proofs::Answers::reads), unfolding(crate::specs::Manifest::end_at))]
 pub(super) fn ending(s: &[u8], at: usize, seed: Option<Span>) -> Result<(Ending, usize), Refusal>
     ensures { told result ≡ end_at s.now at seed }
 {

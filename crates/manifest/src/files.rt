@@ -26,6 +26,7 @@ fn run(s: &[u8], at: usize, count: usize) -> Result<(FileList, usize), Refusal>
     Ok((FileList { all, count }, p))
 }
 
+#[tactic(auto, using(crate::proofs::Answers::under), unfolding(crate::specs::Manifest::list_at))]
 pub(super) fn list(s: &[u8], at: usize) -> Result<(FileList, usize), Refusal>
     ensures { told result ≡ files_answer (list_at s.now at) }
 {

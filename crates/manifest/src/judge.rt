@@ -10,6 +10,7 @@ ghost use Rattle.manifest.specs.Private.{seed_size, created_size};
 use super::{Created, Manifest, fields};
 use wire::{Refusal, Span};
 
+#[tactic(auto, unfolding(crate::specs::Writing::seed_allowed))]
 fn seed_allowed(pool: &[u8], seed: Option<Span>) -> bool
     ensures { result ≡ seed_allowed pool.now seed }
 {
@@ -19,6 +20,7 @@ fn seed_allowed(pool: &[u8], seed: Option<Span>) -> bool
     }
 }
 
+#[tactic(auto, unfolding(crate::specs::Writing::created_allowed))]
 fn created_allowed(created: Created) -> bool
     ensures { result ≡ created_allowed created }
 {
@@ -28,6 +30,7 @@ fn created_allowed(created: Created) -> bool
     }
 }
 
+#[tactic(auto, unfolding(crate::specs::Private::seed_size))]
 fn seed_size(seed: Option<Span>) -> usize
     ensures { result ≡ seed_size seed }
 {
@@ -37,6 +40,7 @@ fn seed_size(seed: Option<Span>) -> usize
     }
 }
 
+#[tactic(auto, unfolding(crate::specs::Private::created_size))]
 fn created_size(created: Created) -> usize
     ensures { result ≡ created_size created }
 {

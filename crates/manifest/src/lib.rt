@@ -55,6 +55,7 @@ struct Ending {
     created: Created,
 }
 
+#[tactic(auto, unfolding(crate::specs::Answer::padded, crate::specs::Answer::blank_file))]
 fn blank_files() -> [File; wire::MOST_FILES]
     ensures { result ≡ padded [] }
 {
@@ -71,6 +72,7 @@ fn blank_files() -> [File; wire::MOST_FILES]
 // The whole value of the manifest that s is, every field of it, and the position past it, which is
 // the input's length; or the refusal of the first offending item, 9 before all else. Each file past
 // the count is blank (R13.7).
+#[tactic(auto, using(crate::proofs::Answers::under), unfolding(crate::specs::Manifest::manifest_at))]
 pub fn read(s: &[u8]) -> Result<(Manifest, usize), Refusal>
     ensures { told result ≡ answer_for (manifest_at s.now) }
 {

@@ -55,6 +55,7 @@ fn are_names(s: &[u8]) -> bool
 
 // True exactly for a path that a manifest may name: 1 to 200 bytes of UTF-8 below U+0300, none of
 // them 00, and each part between slashes a name, not empty, `.` or `..`.
+#[tactic(auto, unfolding(crate::specs::Path::path_allowed))]
 pub fn allowed(s: &[u8]) -> bool
     ensures { result ≡ path_allowed s.now }
 {

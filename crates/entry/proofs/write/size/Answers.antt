@@ -2,8 +2,6 @@
 use native.Mathlib.Omega.{arith}
 use Rattle.cbor.proofs.Sizes.{size_most}
 use Rattle.entry.proofs.Sizes.{mtime_most}
-use Rattle.entry.specs.Private.{file_size}
-use borrow.Author.Rules.{rules}
 use Rattle.entry.proofs.write.size.Goals as goal
 
 pub overflow_add-result : goal.overflow_add-result
@@ -17,7 +15,3 @@ overflow_add-result-3 c = omega (arith, size_most c.args.f.path.len, size_most c
 
 pub overflow_add-result-4 : goal.overflow_add-result-4
 overflow_add-result-4 c = omega (arith, size_most c.args.f.path.len, size_most c.args.f.size, mtime_most c.args.f.mtime)
-
-pub returns : goal.returns
-unfolding file_size
-returns c = search rules

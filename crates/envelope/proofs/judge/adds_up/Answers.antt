@@ -1,8 +1,5 @@
-use Rattle.envelope.proofs.Loops.{summing_none, summing_stop, summing_on, summing_end}
+use Rattle.envelope.proofs.Loops.{summing_stop, summing_on, summing_end}
 use Rattle.envelope.proofs.judge.adds_up.Goals as goal
-
-pub loop-f-init : goal.loop-f-init
-loop-f-init c = summing_none _ _
 
 pub returns-then-left-f : goal.returns-then-left-f
 returns-then-left-f c = search summing_stop

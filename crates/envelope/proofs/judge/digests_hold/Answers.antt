@@ -1,8 +1,5 @@
-use Rattle.envelope.proofs.Loops.{digesting_none, contents_within, within_fits, digesting_stop, digesting_on, digesting_end}
+use Rattle.envelope.proofs.Loops.{contents_within, within_fits, digesting_stop, digesting_on, digesting_end}
 use Rattle.envelope.proofs.judge.digests_hold.Goals as goal
-
-pub loop-i-init : goal.loop-i-init
-loop-i-init c = digesting_none _ _ _ c.requires.1
 
 pub overflow_add-end : goal.overflow_add-end
 overflow_add-end c = search within_fits

@@ -1,9 +1,6 @@
 use Rattle.wire.proofs.Answers.{handed}
-use Rattle.manifest.proofs.Lists.{read_none, read_no, read_more, read_end}
+use Rattle.manifest.proofs.Lists.{read_no, read_more, read_end}
 use Rattle.manifest.proofs.files.run.Goals as goal
-
-pub loop-i-init : goal.loop-i-init
-loop-i-init c = search read_none
 
 pub returns-in_err-file : goal.returns-in_err-file
 returns-in_err-file c = search (handed _ _ c.from_residual.ensures, read_no, c.in_err-file.ensures)

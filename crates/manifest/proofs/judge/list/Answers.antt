@@ -1,9 +1,6 @@
 use Rattle.wire.proofs.Answers.{handed}
-use Rattle.manifest.proofs.Judging.{taken_few, judge_none, judge_no, sum_fits, judge_more, judge_end}
+use Rattle.manifest.proofs.Judging.{taken_few, judge_no, sum_fits, judge_more, judge_end}
 use Rattle.manifest.proofs.judge.list.Goals as goal
-
-pub loop-f-init : goal.loop-f-init
-loop-f-init c = search judge_none
 
 pub returns-in_err-len : goal.returns-in_err-len
 returns-in_err-len c = search (handed _ _ c.from_residual.ensures, judge_no, c.in_err-len.ensures)
