@@ -93,9 +93,9 @@ cbor_write_string_field_once κs args x y u v p q = let e = put_once p q in (e.0
 pub cbor_write_number_field_once : Once cbor-write-number-field.Kinds.ps cbor-write-number-field.Kinds.r cbor-write-number-field.Reads.Learnt
 cbor_write_number_field_once κs args x y u v p q = let e = put_once p q in (e.0, here e.1)
 
--- ---- the readers whose caller names the fault, once for every type of faults that its numbers tell
--- apart, as the laws of `Fault` say (cbor); its other parameters are what the toolchain passes of
--- such a type
+-- ---- the readers whose caller names the fault, once for every type of faults that its numbers
+-- tell apart, as the laws of `Fault` say (cbor); its other parameters are what the toolchain passes
+-- of such a type
 
 module _ (T : RattleType) (L : Laws T) (C : IsCopy T) (G : Ghosts T.Denot) (d : Dict) (F : from.Ghosts T.Denot Refusal) (e : Dict)
     (K : clone.Ghosts T.Denot) (f : Dict) (apart : (a b : T.Denot) → G.number_of_fault a ≡ G.number_of_fault b → a ≡ b) where

@@ -7,8 +7,10 @@ ghost use Rattle.scan.specs.Session.{scanned, line_of, started, ended, longer, n
 
 use wire::Refusal;
 
-// The phases. The first line has not ended: stays (1): `feed`, `close` and `report` take a session
-// of any phase, and `session_refused` (Inputs) says of it what it is not.
+// stays (1): `feed`, `close` and `report` take a session of any phase, and `session_refused`
+// (Inputs) says of it what it is not.
+//
+// The phases. The first line has not ended:
 pub const WAITING: u8 = 0;
 
 pub const COLLECTING: u8 = 1;

@@ -1,5 +1,5 @@
--- `payload_frame::carry` meets its contract: the id and the length, the payload, and then the frame.
--- Assumes nothing.
+-- `payload_frame::carry` meets its contract: the id and the length, the payload, and then the
+-- frame. Assumes nothing.
 use mathlib.Core.Path.{refl}
 use Rattle.wire.proofs.Answers.{err_is}
 use Rattle.payload_frame.proofs.Judging.{no_id, too_long, not_carried, carried}
