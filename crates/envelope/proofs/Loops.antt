@@ -39,12 +39,6 @@ same_test a b x y to fro = go (eq_or_ne a b)
     go (inl e) = eq-eqb a b e ∙ sym (eq-eqb x y (to e))
     go (inr e) = ne_eqb a b e ∙ sym (ne_eqb x y (λ h. e (fro h)))
 
-pub summing_none : (fs : List File) (n : ℕ) → Summing fs n n 0
-summing_none fs n = record { rest = refl }
-
-pub digesting_none : (m p : List ℕ) (fs : List File) → total fs ≡ length p → Digesting m p fs 0 0
-digesting_none m p fs e = record { rest = refl; left = omega arith }
-
 -- file k of fs
 module _ (fs : List File) (k : ℕ) (d : File) (here : k < length fs) where
   abbrev f : File

@@ -64,10 +64,6 @@ files_most pool prev (f ∷ fs) h =
 abbrev pub behind : List ℕ → Answer (List ℕ) → Answer (List ℕ)
 behind front v = then v (λ bs. done (front ++ bs))
 
-behind_none : (v : Answer (List ℕ)) → v ≡ behind [] v
-behind_none (done bs) = refl
-behind_none (refused_at e place) = refl
-
 behind_one : (front b : List ℕ) (v : Answer (List ℕ)) → behind front (then v (λ bs. done (b ++ bs))) ≡ behind (front ++ b) v
 behind_one front b (done bs) = ap done (sym (append_assoc front b bs))
 behind_one front b (refused_at e place) = refl
@@ -85,10 +81,6 @@ pub record Judging (pool : List ℕ) (fs : List File) (i sum : ℕ) (last : Span
 
 pub taken_few : (n : ℕ) (fs : List File) → n ≤ 64 → length (take n fs) ≤ 64
 taken_few n fs h = simp length-take (omega arith)
-
-pub judge_none : (pool : List ℕ) (fs : List File) → Judging pool fs 0 0 (record { start = 0; len = 0 })
-judge_none pool fs =
-    record { front = []; many = refl; small = omega arith; whole = behind_none (files_verdict pool [] fs) }
 
 module _ (pool : List ℕ) (fs : List File) (i sum : ℕ) (last : Span) (h : Judging pool fs i sum last) where
   pub judge_end : length fs ≤ i → done sum ≡ outcome (files_verdict pool [] fs)

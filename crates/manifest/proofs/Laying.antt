@@ -43,15 +43,6 @@ pub record Laying (pool : List ℕ) (fs : List File) (at : ℕ) (x y : List ℕ)
   pub judged : files_verdict pool (part_at pool last) (drop i fs) ≡ done rest
   pub left : Left at (form_of (files_verdict pool [] fs)) x y p rest
 
-pub lay_none : (pool : List ℕ) (m : Manifest) (at : ℕ) (x : List ℕ) → Room pool m at x (form_of (files_verdict pool [] (take m.count m.files)))
-    → Laying pool (take m.count m.files) at x x 0 at (record { start = 0; len = 0 })
-lay_none pool m at x r =
-    record {
-      rest = form_of (files_verdict pool [] (take m.count m.files));
-      judged = r.judged;
-      left = left_all at (form_of (files_verdict pool [] (take m.count m.files))) x r.room;
-    }
-
 module _ (pool : List ℕ) (fs : List File) (at : ℕ) (x y : List ℕ) (i p : ℕ) (last : Span) (h : Laying pool fs at x y i p last) where
   pub lay_end : at + length (form_of (files_verdict pool [] fs)) ≤ length x → length fs ≤ i → Put at (form_of (files_verdict pool [] fs)) x y p
   unfolding files_verdict
@@ -60,9 +51,6 @@ module _ (pool : List ℕ) (fs : List File) (at : ℕ) (x y : List ℕ) (i p : �
       let r : h.rest ≡ [] = sym (done_value (ap (files_verdict pool (part_at pool last)) (sym z) ∙ h.judged)) in
       let q : Left at (form_of (files_verdict pool [] fs)) x y p [] = subst (λ (r : List ℕ). Left at (form_of (files_verdict pool [] fs)) x y p r) r h.left in
       put_fits at (form_of (files_verdict pool [] fs)) x y p room (sym (over_none p y) ∙ q.whole) (omega (arith, q.ends))
-
-  pub lay_same : length y ≡ length x
-  lay_same = h.left.same
 
   pub lay_more : i < length fs → (d : File) (prev : List ℕ) → prev ≡ part_at pool last → (z : List ℕ) (q : ℕ) → Put p (form_of (file_verdict pool prev (get_or fs i d))) y z q
       → Laying pool fs at x z (i + 1) q (get_or fs i d).path

@@ -30,10 +30,6 @@ padded_set fs f i e h =
 abbrev pub behind : List File → Got (List File) → Got (List File)
 behind front g = then g (λ (fs, next). got (front ++ fs) next)
 
-behind_none : (g : Got (List File)) → g ≡ behind [] g
-behind_none (done (fs, next)) = refl
-behind_none (refused_at e place) = refl
-
 behind_one : (front : List File) (f : File) (g : Got (List File)) → behind front (then g (λ (fs, next). got (f ∷ fs) next)) ≡ behind (front ++ (f ∷ [])) g
 behind_one front f (done (fs, next)) = ap (λ (l : List File). got l next) (sym (append_assoc front (f ∷ []) fs))
 behind_one front f (refused_at e place) = refl
@@ -46,16 +42,6 @@ pub record Reading (s : List ℕ) (at count : ℕ) (files : List File) (i p : �
   pub many : length front ≡ i
   pub array : files ≡ padded front
   pub whole : files_at s count at [] ≡ behind front (files_at s (count - i) p (part_at s last))
-
-pub read_none : (s : List ℕ) (at count : ℕ) (files : List File) → files ≡ padded [] → Reading s at count files 0 at (record { start = 0; len = 0 })
-read_none s at count files e =
-    record {
-      most = omega arith;
-      front = [];
-      many = refl;
-      array = e;
-      whole = behind_none (files_at s count at []) ∙ ap (λ (k : ℕ). behind [] (files_at s k at [])) (sym (sub-zero count));
-    }
 
 module _ (s : List ℕ) (at count : ℕ) (files : List File) (i p : ℕ) (last : Span) (h : Reading s at count files i p last) where
   pub read_end : count ≤ i → done ((record { all = files; count = count }), p) ≡ files_answer (files_at s count at [])
