@@ -12,8 +12,9 @@ const MOST: usize = 300;
 // The words before the first slip: the verb and ROOM.
 const BEFORE_SLIPS: usize = 2;
 
-// Where the bytes of each slip stand in the pool, and how many they are. They are two tables, as
-// `recover::recover` takes them.
+// Where the bytes of each slip stand in the pool, and how many they are.
+//
+// stays (6): `recover::recover` takes two tables.
 fn find(call: Call, starts: &mut [usize], lens: &mut [usize]) {
     for (i, (start, len)) in starts.iter_mut().zip(lens.iter_mut()).enumerate() {
         let slip = call.place(BEFORE_SLIPS + i);

@@ -70,7 +70,9 @@ pub fn read(rt: HostRuntime, buffer: &mut [u8]) -> Result<usize, Error>
 }
 
 // Reads to the end, or until the buffer is full, and answers how many bytes came: all of them where
-// the buffer is not full. (How far a turn comes, the read says, so it is no `for`.)
+// the buffer is not full.
+//
+// stays (3): how far a turn comes, the read says, so it is no `for`.
 pub fn fill<R: Read>(from: &mut R, buffer: &mut [u8]) -> Result<usize, Error>
     ensures { ReadsAtMost result buffer.new }
 {

@@ -4,12 +4,12 @@
 ghost use Rattle.std.specs.Prelude.{◌≡◌, ◌≤◌, length};
 
 use crate::said;
-use collection::Answered;
 use scan::session::Session;
 use std::fs;
 use std::fs::{File, OpenOptions};
-use std::io::{Error, ErrorKind, Read, Write};
+use std::io::{Error, ErrorKind, Write};
 use std::path::PathBuf;
+use wire::Refusal;
 
 // A name has fewer bytes: the system wants a 0 behind it.
 pub(crate) const PATH_MAX: usize = 4096;
@@ -23,29 +23,12 @@ const BESIDE: usize = 11;
 // A link that leads to more links than this leads nowhere.
 const LINKS: u8 = 40;
 
-// Reads to the end of the file, or until the buffer is full. Answers how many bytes came: all of
-// them where the buffer is not full.
-fn load(file: &mut File, saved: &mut [u8]) -> Result<usize, Error> {
-    let mut len = 0;
-    while len < saved.len() {
-        let n = file.read(&mut saved[len..])?;
-        if n < 1 {
-            return Ok(len);
-        }
-        len += n;
-    }
-    Ok(len)
-}
-
 // ---- names
 
 // A name as std takes it, which is text. Of a name that is not UTF-8 nothing can be asked: such a
 // file is refused as one that the system lets us neither read nor write.
 fn text(name: &[u8]) -> Result<&str, Error> {
-    match str::from_utf8(name) {
-        Ok(text) => Ok(text),
-        Err(_) => Err(Error::from(ErrorKind::InvalidFilename)),
-    }
+    str::from_utf8(name).map_err(|_| Error::from(ErrorKind::InvalidFilename))
 }
 
 fn open_read(rt: HostRuntime, name: &[u8]) -> Result<File, Error> {
@@ -73,106 +56,97 @@ fn remove(rt: HostRuntime, name: &[u8]) {
 fn base(name: &[u8]) -> usize
     ensures { result ≤ length name.now }
 {
-    let mut i = name.len();
-    while i > 0 {
-        if name[i - 1] == b'/' {
-            return i;
-        }
-        i -= 1;
+    match name.iter().rposition(|&b| b == b'/') {
+        Some(slash) => slash + 1,
+        None => 0,
     }
-    i
 }
 
-// The link's text from an index of the name on. Answers the length of the name, 0 where there is no
-// room.
-fn behind(name: &mut [u8], at: usize, link: &[u8]) -> usize {
-    if name.len() < at {
-        return 0;
-    }
-    if name.len() - at < link.len() {
-        return 0;
+// The link's text from an index of the name on. Answers the length of the name; none where there is
+// no room.
+fn behind(name: &mut [u8], at: usize, link: &[u8]) -> Option<usize> {
+    if name.len() < at || name.len() - at < link.len() {
+        return None;
     }
     lend::copy(name, at, link);
-    at + link.len()
+    Some(at + link.len())
 }
 
 // The name that a link says: one without a slash in front counts from the link's own folder.
-fn follow(name: &mut [u8], len: usize, link: &[u8]) -> usize {
-    if link.len() < 1 {
-        return 0;
+fn follow(name: &mut [u8], len: usize, link: &[u8]) -> Option<usize> {
+    match link {
+        [] => None,
+        [b'/', ..] => behind(name, 0, link),
+        _ => {
+            let at = base(name.get(..len)?);
+            behind(name, at, link)
+        }
     }
-    if link[0] == b'/' {
-        return behind(name, 0, link);
-    }
-    if name.len() < len {
-        return 0;
-    }
-    let at = base(&name[0..len]);
-    behind(name, at, link)
 }
 
 // A name that is no link, or not there, is the file's own. Any other fault is told.
-fn unlinked(rt: HostRuntime, name: &[u8], error: Error) -> usize {
-    if error.kind() == ErrorKind::InvalidInput {
-        return name.len();
-    }
-    if error.kind() == ErrorKind::NotFound {
-        return name.len();
+fn unlinked(rt: HostRuntime, name: &[u8], error: Error) -> Option<usize> {
+    if matches!(error.kind(), ErrorKind::InvalidInput | ErrorKind::NotFound) {
+        return Some(name.len());
     }
     said::failed(rt, name, error);
-    0
+    None
 }
 
 // The file that a name means: where that is a symbolic link, what the link leads to, so that the
-// link stays. Answers the length of its name, 0 where there is none, which is told.
-fn meant(rt: HostRuntime, name: &[u8], real: &mut [u8]) -> usize {
+// link stays. Answers the length of its name; none where there is none, which is told.
+fn meant(rt: HostRuntime, name: &[u8], real: &mut [u8]) -> Option<usize> {
+    if name.is_empty() {
+        return None;
+    }
     lend::copy(real, 0, name);
     let mut n = name.len();
-    let mut turns = LINKS;
-    while turns > 0 {
-        if real.len() < n {
-            return 0;
+    for _ in 0..LINKS {
+        let now = real.get(..n)?;
+        let led = match read_link(rt, now) {
+            Ok(link) => follow(real, n, link.as_str().as_bytes()),
+            Err(error) => return unlinked(rt, now, error),
+        };
+        match led {
+            Some(len) => n = len,
+            None => break,
         }
-        match read_link(rt, &real[0..n]) {
-            Ok(link) => {
-                n = follow(real, n, link.as_str().as_bytes());
-            }
-            Err(error) => return unlinked(rt, &real[0..n], error),
-        }
-        if n == 0 {
-            said::no_file(rt, name);
-            return 0;
-        }
-        turns -= 1;
     }
     said::no_file(rt, name);
-    0
+    None
 }
 
 // Whether a name is that of a new file: what stands under such a name would be taken for one.
 pub(crate) fn is_new(real: &[u8]) -> bool {
-    let n = real.len();
-    if n < BESIDE {
-        return false;
-    }
-    lend::equal(&real[n - BESIDE..], b".pantry-new")
+    real.ends_with(b".pantry-new")
 }
 
-// The name of the new file beside that of this name. Answers its length, 0 where there can be none.
-fn new_name(real: &[u8], beside: &mut [u8]) -> usize
-    requires { length beside.old ≡ 4096 }
-    ensures { result ≤ 4096 }
-{
+// The name of the new file beside that of this name. Answers its length; none where there can be no
+// such file.
+fn new_name(real: &[u8], beside: &mut [u8]) -> Option<usize> {
     let n = real.len();
-    if PATH_MAX - BESIDE <= n {
-        return 0;
-    }
-    if is_new(real) {
-        return 0;
+    if PATH_MAX - BESIDE <= n || is_new(real) {
+        return None;
     }
     lend::copy(beside, 0, real);
     lend::copy(beside, n, b".pantry-new");
-    n + BESIDE
+    Some(n + BESIDE)
+}
+
+// What comes of the file that a name means, by its own name and that of the new file beside it; none
+// where one of the two is no name, which is told.
+fn at<T, F: FnOnce(&[u8], &[u8]) -> T>(rt: HostRuntime, name: &[u8], with: F) -> Option<T>
+    requires { F.IsAlwaysCallable with }
+{
+    let mut real = [0u8; PATH_MAX];
+    let n = meant(rt, name, &mut real)?;
+    let real = real.get(..n)?;
+    let mut beside = [0u8; PATH_MAX];
+    let Some(end) = new_name(real, &mut beside) else {
+        said::no_file(rt, name);
+        return None;
+    };
+    Some(with(real, beside.get(..end)?))
 }
 
 // ---- writing
@@ -191,15 +165,11 @@ fn claim(rt: HostRuntime, beside: &[u8], launched: bool) -> Result<File, Error> 
 
 // Tells why there is no new file.
 fn unclaimed(rt: HostRuntime, real: &[u8], beside: &[u8], error: Error) {
-    if error.kind() == ErrorKind::AlreadyExists {
-        said::busy(rt, beside);
-        return;
+    match error.kind() {
+        ErrorKind::AlreadyExists => said::busy(rt, beside),
+        ErrorKind::NotFound => said::no_folder(rt, real),
+        _ => said::failed(rt, real, error),
     }
-    if error.kind() == ErrorKind::NotFound {
-        said::no_folder(rt, real);
-        return;
-    }
-    said::failed(rt, real, error);
 }
 
 // Writes all of it, down to the disk.
@@ -218,25 +188,15 @@ fn sync_folder(rt: HostRuntime, real: &[u8]) -> Result<(), Error> {
         open_read(rt, &real[0..end])?
     };
     match folder.sync_all() {
-        Err(error) => {
-            if error.kind() == ErrorKind::InvalidInput {
-                return Ok(());
-            }
-            Err(error)
-        }
-        Ok(()) => Ok(()),
+        Err(error) if error.kind() == ErrorKind::InvalidInput => Ok(()),
+        synced => synced,
     }
 }
 
 // Puts bytes in the place of the file of this name, by the new file beside it. What fails is told
 // by the file's name.
 fn replace(rt: HostRuntime, real: &[u8], beside: &[u8], file: File, bytes: &[u8]) -> bool {
-    if let Err(error) = fill(file, bytes) {
-        said::failed(rt, real, error);
-        remove(rt, beside);
-        return false;
-    }
-    if let Err(error) = rename(rt, beside, real) {
+    if let Err(error) = fill(file, bytes).and_then(|()| rename(rt, beside, real)) {
         said::failed(rt, real, error);
         remove(rt, beside);
         return false;
@@ -261,78 +221,58 @@ fn put_at(rt: HostRuntime, real: &[u8], beside: &[u8], launched: bool, bytes: &[
 // The file that this name means then holds these bytes, whole and on the disk, or what it held
 // before.
 pub(crate) fn put(rt: HostRuntime, name: &[u8], launched: bool, bytes: &[u8]) -> bool {
-    let mut real = [0u8; PATH_MAX];
-    let n = meant(rt, name, &mut real);
-    if n == 0 {
-        return false;
-    }
-    if real.len() < n {
-        return false;
-    }
-    let mut beside = [0u8; PATH_MAX];
-    let end = new_name(&real[0..n], &mut beside);
-    if end == 0 {
-        said::no_file(rt, name);
-        return false;
-    }
-    put_at(rt, &real[0..n], &beside[0..end], launched, bytes)
+    at(rt, name, |real, beside| {
+        put_at(rt, real, beside, launched, bytes)
+    })
+    .unwrap_or(false)
 }
 
 // ---- keeping
 
 // What the file's collection and that of a session came to.
-#[derive(Drop)]
+#[derive(Clone, Copy)]
 enum Gathered {
     // The session has nothing that the file has not.
     Same,
     More,
-    Refused { no: u8 },
 }
 
 // Joins what was saved into c.
-fn join(rt: HostRuntime, s: Session, saved: &[u8], c: &mut [u8]) -> Gathered {
-    let r = pantry_work::resume(s, saved, c);
-    if let Answered::Refused { no } = r {
-        if no == wire::OTHER_DOCUMENT {
-            said::stranger(rt, saved, &c[..]);
+fn join(rt: HostRuntime, s: Session, saved: &[u8], c: &mut [u8]) -> Result<Gathered, Refusal> {
+    if let Err(why) = pantry_work::resume(s, saved, c) {
+        if why == Refusal::OtherDocument {
+            said::stranger(rt, saved, c);
         }
-        return Gathered::Refused { no };
+        return Err(why);
     }
     if lend::equal(saved, c) {
         said::nothing_new(rt);
-        return Gathered::Same;
+        return Ok(Gathered::Same);
     }
-    Gathered::More
+    Ok(Gathered::More)
 }
 
 // Tells why a file cannot be read, which is 11.
-fn unread(rt: HostRuntime, real: &[u8], error: Error) -> Gathered {
+fn unread(rt: HostRuntime, real: &[u8], error: Error) -> Refusal {
     said::failed(rt, real, error);
-    Gathered::Refused { no: wire::NO_ROOM }
+    Refusal::NoRoom
 }
 
 // Joins the file's collection into c. No file is as an empty collection. 11 is a file that the
 // system does not let us read.
-fn gather(rt: HostRuntime, real: &[u8], s: Session, c: &mut [u8]) -> Gathered {
+fn gather(rt: HostRuntime, real: &[u8], s: Session, c: &mut [u8]) -> Result<Gathered, Refusal> {
     let mut file = match open_read(rt, real) {
         Ok(file) => file,
-        Err(error) => {
-            if error.kind() == ErrorKind::NotFound {
-                return Gathered::More;
-            }
-            return unread(rt, real, error);
-        }
+        Err(error) if error.kind() == ErrorKind::NotFound => return Ok(Gathered::More),
+        Err(error) => return Err(unread(rt, real, error)),
     };
     let mut saved = [0u8; ENOUGH];
-    let len = match load(&mut file, &mut saved) {
+    let len = match edge::fill(&mut file, &mut saved) {
         Ok(len) => len,
-        Err(error) => return unread(rt, real, error),
+        Err(error) => return Err(unread(rt, real, error)),
     };
     drop(file);
-    if len <= saved.len() {
-        return join(rt, s, &saved[0..len], c);
-    }
-    Gathered::Refused { no: wire::NO_ROOM }
+    join(rt, s, &saved[..len], c)
 }
 
 // Nothing is written: what was claimed goes.
@@ -352,15 +292,12 @@ fn save(
     launched: bool,
     claimed: Result<File, Error>,
     c: &[u8],
-) -> u8 {
+) -> Result<(), Refusal> {
     let saved = match claimed {
         Ok(file) => replace(rt, real, beside, file, c),
         Err(_) => put_at(rt, real, beside, launched, c),
     };
-    if saved {
-        return wire::DONE;
-    }
-    wire::NO_ROOM
+    if saved { Ok(()) } else { Err(Refusal::NoRoom) }
 }
 
 // Whether the new file of another run is there.
@@ -378,41 +315,36 @@ fn keep_at(
     launched: bool,
     s: Session,
     c: &mut [u8],
-) -> u8 {
+) -> Result<(), Refusal> {
     let claimed = claim(rt, beside, launched);
     if is_taken(&claimed) {
         said::busy(rt, beside);
-        return wire::NO_ROOM;
+        return Err(Refusal::NoRoom);
     }
     match gather(rt, real, s, c) {
-        Gathered::More => save(rt, real, beside, launched, claimed, c),
-        Gathered::Same => {
+        Ok(Gathered::More) => save(rt, real, beside, launched, claimed, c),
+        Ok(Gathered::Same) => {
             leave(rt, beside, claimed);
-            wire::DONE
+            Ok(())
         }
-        Gathered::Refused { no } => {
+        Err(why) => {
             leave(rt, beside, claimed);
-            no
+            Err(why)
         }
     }
 }
 
-// Joins the file's collection into c, and keeps what that gives there. Answers 0 or the number of a
-// refusal: the join's, or 11 for a file that the system does not let us read or write.
-pub(crate) fn keep(rt: HostRuntime, name: &[u8], launched: bool, s: Session, c: &mut [u8]) -> u8 {
-    let mut real = [0u8; PATH_MAX];
-    let n = meant(rt, name, &mut real);
-    if n == 0 {
-        return wire::NO_ROOM;
-    }
-    if real.len() < n {
-        return wire::NO_ROOM;
-    }
-    let mut beside = [0u8; PATH_MAX];
-    let end = new_name(&real[0..n], &mut beside);
-    if end == 0 {
-        said::no_file(rt, name);
-        return wire::NO_ROOM;
-    }
-    keep_at(rt, &real[0..n], &beside[0..end], launched, s, c)
+// Joins the file's collection into c, and keeps what that gives there. A refusal is that of the
+// join, or 11 for a file that the system does not let us read or write.
+pub(crate) fn keep(
+    rt: HostRuntime,
+    name: &[u8],
+    launched: bool,
+    s: Session,
+    c: &mut [u8],
+) -> Result<(), Refusal> {
+    at(rt, name, |real, beside| {
+        keep_at(rt, real, beside, launched, s, c)
+    })
+    .unwrap_or(Err(Refusal::NoRoom))
 }

@@ -9,56 +9,21 @@ mod file;
 mod said;
 mod words;
 
+use edge::Status;
 use file::PATH_MAX;
-use finish::Finished;
 use scan::session;
 use scan::session::Session;
 use std::io::{Error, ErrorKind};
+use wire::Refusal;
 use words::Asked;
 
 // How much one read asks for.
 const CHUNK: usize = 65_536;
 
-// The status is told where it is asked for, with `--status-3` (R15.12).
-const DONE: u8 = b'0';
-
-const FAILED: u8 = b'1';
-
-const WRONG: u8 = b'2';
-
-// What one read brought.
-#[derive(Drop)]
-enum Turned {
-    More { session: Session },
-    End,
-}
-
 // The session at the end of the input; none where the input could not be read to its end (R15.8).
-#[derive(Drop)]
-enum Taken {
-    Whole { session: Session },
-    Failed,
-}
-
-// Reads once, and takes what came into the session and the notes.
-fn turn(
-    rt: HostRuntime,
-    s: Session,
-    input: &mut [u8],
-    line: &mut [u8],
-    c: &mut [u8],
-    notes: &mut [u64],
-) -> Result<Turned, Error> {
-    let n = edge::read(rt, input)?;
-    if n < 1 {
-        return Ok(Turned::End);
-    }
-    let session = notes::feed(&input[..n], s, line, c, notes);
-    Ok(Turned::More { session })
-}
-
-// A proved loop has to end, and nothing says that the input does: it counts down from a number that
-// no run uses up.
+//
+// A proved loop has to end, and nothing says that the input does: this one has more turns than any
+// run uses up.
 fn collect(
     rt: HostRuntime,
     input: &mut [u8],
@@ -70,82 +35,78 @@ fn collect(
         phase: session::WAITING,
         len: 0,
     };
-    let mut turns = u64::MAX;
-    while turns > 0 {
-        match turn(rt, s, input, line, c, notes)? {
-            Turned::More { session } => {
-                s = session;
-            }
-            Turned::End => return Ok(s),
+    for _ in 0..u64::MAX {
+        match edge::read(rt, input)? {
+            0 => return Ok(s),
+            n => s = notes::feed(&input[..n], s, line, c, notes),
         }
-        turns -= 1;
     }
     Err(Error::from(ErrorKind::TimedOut))
 }
 
 // Reads all of the input, or says that it could not: of a part nothing is given out and nothing
 // kept (R15.8).
-fn scanned(rt: HostRuntime, c: &mut [u8], notes: &mut [u64]) -> Taken {
+fn scanned(rt: HostRuntime, c: &mut [u8], notes: &mut [u64]) -> Option<Session> {
     let mut input = [0u8; CHUNK];
     let mut line = [0u8; session::LINE_BUFFER];
     match collect(rt, &mut input, &mut line, c, notes) {
-        Ok(session) => {
-            let session = notes::close(session, &line, c, notes);
-            Taken::Whole { session }
-        }
+        Ok(session) => Some(notes::close(session, &line, c, notes)),
         Err(error) => {
             edge::fail(rt, b"standard input", error);
-            Taken::Failed
+            None
         }
     }
 }
 
-// A write can also fail at the end, when the file is closed.
-fn printed(rt: HostRuntime, bytes: &[u8]) -> Result<(), Error> {
-    edge::print(rt, bytes)?;
-    edge::finish_output(rt)
-}
-
-fn print(rt: HostRuntime, bytes: &[u8]) -> u8 {
-    if let Err(error) = printed(rt, bytes) {
-        edge::fail(rt, b"standard output", error);
-        return FAILED;
+fn print(rt: HostRuntime, bytes: &[u8]) -> Status {
+    match edge::deliver(rt, bytes) {
+        Ok(()) => Status::Done,
+        Err(error) => {
+            edge::fail(rt, b"standard output", error);
+            Status::Failed
+        }
     }
-    DONE
 }
 
-fn deliver(rt: HostRuntime, bytes: &[u8], to: usize, launched: bool) -> u8 {
-    if to == 0 {
+fn deliver(rt: HostRuntime, bytes: &[u8], to: Option<usize>, launched: bool) -> Status {
+    let Some(to) = to else {
         return print(rt, bytes);
-    }
+    };
     let mut name = [0u8; PATH_MAX];
-    let word = edge::arg(rt, to, &mut name);
-    if file::put(rt, &name[..word.len], launched, bytes) {
-        return DONE;
+    let len = edge::arg(rt, to, &mut name).unwrap_or(0);
+    if file::put(rt, &name[..len], launched, bytes) {
+        return Status::Done;
     }
-    said::advice(rt, wire::NO_ROOM);
-    FAILED
+    said::advice(rt, Err(Refusal::NoRoom));
+    Status::Failed
 }
 
 // What stands in the collection is told in any case, and that it is complete only once the
 // ciphertext is where it belongs.
-fn give(rt: HostRuntime, s: Session, c: &[u8], notes: &[u64], to: usize, launched: bool) -> u8 {
+fn give(
+    rt: HostRuntime,
+    s: Session,
+    c: &[u8],
+    notes: &[u64],
+    to: Option<usize>,
+    launched: bool,
+) -> Status {
     said::standing(rt, c, notes);
     let mut out = [0u8; wire::MOST_CIPHERTEXT];
     match pantry_work::answer(s, c, &mut out) {
-        Finished::Done { len } => {
-            if out.len() < len {
-                return FAILED;
-            }
-            let status = deliver(rt, &out[0..len], to, launched);
-            if status == DONE {
-                said::advice(rt, wire::DONE);
+        Ok(len) => {
+            let Some(ciphertext) = out.get(..len) else {
+                return Status::Failed;
+            };
+            let status = deliver(rt, ciphertext, to, launched);
+            if status == Status::Done {
+                said::advice(rt, Ok(()));
             }
             status
         }
-        Finished::Refused { no, place: _ } => {
-            said::advice(rt, no);
-            FAILED
+        Err(refused) => {
+            said::advice(rt, Err(refused.why));
+            Status::Failed
         }
     }
 }
@@ -157,54 +118,55 @@ fn keep(
     c: &mut [u8],
     notes: &[u64],
     kept: usize,
-    to: usize,
+    to: Option<usize>,
     launched: bool,
-) -> u8 {
+) -> Status {
     let mut name = [0u8; PATH_MAX];
-    let word = edge::arg(rt, kept, &mut name);
-    let no = file::keep(rt, &name[..word.len], launched, s, c);
-    if no == wire::DONE {
-        return give(rt, s, &c[..], notes, to, launched);
+    let len = edge::arg(rt, kept, &mut name).unwrap_or(0);
+    match file::keep(rt, &name[..len], launched, s, c) {
+        Ok(()) => give(rt, s, c, notes, to, launched),
+        // Of two documents the file itself has told, by their ids.
+        Err(Refusal::OtherDocument) => Status::Failed,
+        Err(why) => {
+            said::advice(rt, Err(why));
+            Status::Failed
+        }
     }
-    // Of two documents the file itself has told, by their ids.
-    if no != wire::OTHER_DOCUMENT {
-        said::advice(rt, no);
-    }
-    FAILED
 }
 
 // Where the first line was no document id, no file is looked at.
-fn run(rt: HostRuntime, kept: usize, to: usize, launched: bool) -> u8 {
+fn run(rt: HostRuntime, kept: Option<usize>, to: Option<usize>, launched: bool) -> Status {
     said::waiting(rt);
     let mut c = [0u8; wire::COLLECTION_SIZE];
     let mut notes = [0u64; notes::SIZE];
-    let Taken::Whole { session: s } = scanned(rt, &mut c, &mut notes) else {
-        return FAILED;
+    let Some(s) = scanned(rt, &mut c, &mut notes) else {
+        return Status::Failed;
     };
     if s.phase != session::COLLECTING {
         said::first_line(rt, notes[notes::FAULT]);
-        return FAILED;
+        return Status::Failed;
     }
-    if kept == 0 {
-        return give(rt, s, &c, &notes, to, launched);
+    match kept {
+        None => give(rt, s, &c, &notes, to, launched),
+        Some(kept) => keep(rt, s, &mut c, &notes, kept, to, launched),
     }
-    keep(rt, s, &mut c, &notes, kept, to, launched)
 }
 
-fn obey(rt: HostRuntime, asked: Asked, launched: bool) -> u8 {
+// The status is told where it is asked for, with `--status-3` (R15.12).
+fn obey(rt: HostRuntime, asked: Asked, launched: bool) -> Status {
     match asked {
         Asked::Run { kept, to } => run(rt, kept, to, launched),
         Asked::Help => {
             said::help(rt);
-            DONE
+            Status::Done
         }
         Asked::Version => {
             said::version(rt);
-            DONE
+            Status::Done
         }
         Asked::Wrong { at, why } => {
             said::wrong(rt, at, why);
-            WRONG
+            Status::Wrong
         }
     }
 }
@@ -212,9 +174,9 @@ fn obey(rt: HostRuntime, asked: Asked, launched: bool) -> u8 {
 fn main(rt: HostRuntime) {
     let mut word = [0u8; PATH_MAX];
     let count = edge::arg_count(rt);
-    if words::asks_status(rt, count, &mut word) {
+    if edge::asks_status(rt) {
         let asked = words::parse(rt, 2, count, &mut word);
-        edge::tell_status(obey(rt, asked, true));
+        edge::tell_status(u8::from(obey(rt, asked, true)));
         return;
     }
     let asked = words::parse(rt, 1, count, &mut word);

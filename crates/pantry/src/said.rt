@@ -2,7 +2,7 @@
 use crate::file::PATH_MAX;
 use crate::words::Why;
 use std::io::Error;
-use wire::Wrote;
+use wire::Refusal;
 
 // Room for any line that `status` and `told` lay out.
 const ROOM: usize = 400;
@@ -14,69 +14,63 @@ fn say(rt: HostRuntime, words: &[u8]) {
     edge::tell(rt, words);
 }
 
-fn line(rt: HostRuntime, laid: Wrote, out: &[u8]) {
-    let Wrote::Done { len } = laid else {
-        return;
-    };
-    if len <= out.len() {
-        say(rt, &out[0..len]);
+// Tells the line that `lay` lays out.
+fn line<F: FnOnce(&mut [u8]) -> Result<usize, Refusal>>(rt: HostRuntime, lay: F)
+    requires { F.IsAlwaysCallable lay }
+{
+    let mut out = [0u8; ROOM];
+    if let Ok(len) = lay(&mut out)
+        && let Some(words) = out.get(..len)
+    {
+        say(rt, words);
     }
 }
 
 // Where the collection stands, which pages it lacks, and what the lines came to (R15.9).
 pub(crate) fn standing(rt: HostRuntime, c: &[u8], notes: &[u64]) {
-    let mut out = [0u8; ROOM];
-    let status = status::status(c, &mut out);
-    line(rt, status, &out);
-    let missing = told::pages::missing(c, &mut out);
-    line(rt, missing, &out);
-    let disputed = told::pages::disputed(c, &mut out);
-    line(rt, disputed, &out);
-    let lines = told::lines(notes, &mut out);
-    line(rt, lines, &out);
+    line(rt, |out| status::status(c, out));
+    line(rt, |out| told::pages::missing(c, out));
+    line(rt, |out| told::pages::disputed(c, out));
+    line(rt, |out| told::lines(notes, out));
 }
 
-pub(crate) fn advice(rt: HostRuntime, no: u8) {
-    let mut out = [0u8; ROOM];
-    let laid = told::words::advice(no, &mut out);
-    line(rt, laid, &out);
+// What is to be done where all is done, or where that was refused.
+pub(crate) fn advice(rt: HostRuntime, answer: Result<(), Refusal>) {
+    let no = match answer {
+        Ok(()) => 0,
+        Err(why) => u8::from(why),
+    };
+    line(rt, |out| told::words::advice(no, out));
 }
 
 pub(crate) fn first_line(rt: HostRuntime, fault: u64) {
-    let mut out = [0u8; ROOM];
-    let laid = told::words::first_advice(fault, &mut out);
-    line(rt, laid, &out);
+    line(rt, |out| told::words::first_advice(fault, out));
 }
 
 pub(crate) fn stranger(rt: HostRuntime, kept: &[u8], scanned: &[u8]) {
-    let mut out = [0u8; ROOM];
-    let laid = told::words::stranger(kept, scanned, &mut out);
-    line(rt, laid, &out);
+    line(rt, |out| told::words::stranger(kept, scanned, out));
 }
 
 // A name can hold anything, also what a terminal takes for an order: lend::plain shows that as `?`.
-// Answers how many bytes are shown.
-fn plain(name: &[u8], shown: &mut [u8]) -> usize {
-    lend::copy(shown, 0, name);
-    lend::plain(shown);
-    name.len()
+// It is told by `tell`, where there is room for it.
+fn name_plainly<F: FnOnce(&[u8])>(name: &[u8], tell: F)
+    requires { F.IsAlwaysCallable tell }
+{
+    let mut shown = [0u8; PATH_MAX];
+    if let Some(shown) = shown.get_mut(..name.len()) {
+        shown.copy_from_slice(name);
+        lend::plain(shown);
+        tell(shown);
+    }
 }
 
 fn say_name(rt: HostRuntime, name: &[u8]) {
-    let mut shown = [0u8; PATH_MAX];
-    let n = plain(name, &mut shown);
-    if n <= shown.len() {
-        say(rt, &shown[0..n]);
-    }
+    name_plainly(name, |shown| say(rt, shown));
 }
 
 // What the system says of a fault, at this file.
 pub(crate) fn failed(rt: HostRuntime, name: &[u8], error: Error) {
-    let mut shown = [0u8; PATH_MAX];
-    let n = plain(name, &mut shown);
-    if n <= shown.len() {
-        edge::fail(rt, &shown[0..n], error);
-    }
+    name_plainly(name, |shown| edge::fail(rt, shown, error));
 }
 
 pub(crate) fn no_file(rt: HostRuntime, name: &[u8]) {
@@ -153,19 +147,6 @@ pub(crate) fn version(rt: HostRuntime) {
     say(rt, b"pantry 1: Ethernity paper format, version 1\n");
 }
 
-// A word is shown as a name is, and not more of it than there is room for.
-fn show(rt: HostRuntime, at: usize, word: &mut [u8]) {
-    let found = edge::arg(rt, at, word);
-    lend::plain(word);
-    if found.long {
-        say(rt, word);
-        say(rt, b"...");
-    }
-    if found.len <= word.len() {
-        say(rt, &word[0..found.len]);
-    }
-}
-
 fn right(rt: HostRuntime, why: Why) {
     match why {
         Why::Unknown => say(
@@ -182,11 +163,12 @@ fn right(rt: HostRuntime, why: Why) {
     }
 }
 
-// The word with this index, and what would be right (R15.11).
+// The word with this index, shown as a name is and not more of it than there is room for, and what
+// would be right (R15.11).
 pub(crate) fn wrong(rt: HostRuntime, at: usize, why: Why) {
     let mut word = [0u8; SHOWN];
     say(rt, b"wrong word '");
-    show(rt, at, &mut word);
+    edge::tell_word(rt, at, &mut word, lend::plain);
     say(rt, b"': ");
     right(rt, why);
     say(rt, b"\n");

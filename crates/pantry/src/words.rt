@@ -3,7 +3,7 @@ use crate::file;
 use crate::file::PATH_MAX;
 
 // What is wrong with a word.
-#[derive(Drop)]
+#[derive(Clone, Copy)]
 pub(crate) enum Why {
     Unknown,
     NoName,
@@ -15,172 +15,128 @@ pub(crate) enum Why {
     NotAlone,
 }
 
-// A file is named by the index of its word; 0 is none.
-#[derive(Drop)]
+// A file is named by the index of its word.
+#[derive(Clone, Copy)]
 pub(crate) enum Asked {
-    Run { kept: usize, to: usize },
+    Run {
+        kept: Option<usize>,
+        to: Option<usize>,
+    },
     Help,
     Version,
     // The word with this index is wrong: the first that is.
-    Wrong { at: usize, why: Why },
+    Wrong {
+        at: usize,
+        why: Why,
+    },
 }
 
-// What the words ask for so far. Where `--to` came last, and waits for its name, there is its
-// index, and else 0.
+// What the words ask for so far. Where `--to` came last, and waits for its name, there is its index.
 #[derive(Clone, Copy)]
 struct Order {
-    kept: usize,
-    to: usize,
-    waits: usize,
+    kept: Option<usize>,
+    to: Option<usize>,
+    waits: Option<usize>,
 }
 
-// What one word makes of an order.
-#[derive(Drop)]
-enum Step {
-    On { order: Order },
-    Stop { asked: Asked },
+fn wrong(at: usize, why: Why) -> Result<Order, Asked> {
+    Err(Asked::Wrong { at, why })
 }
 
-fn wrong(at: usize, why: Why) -> Step {
-    Step::Stop {
-        asked: Asked::Wrong { at, why },
-    }
-}
-
-fn single(at: usize, alone: bool, asked: Asked) -> Step {
+fn single(at: usize, alone: bool, asked: Asked) -> Result<Order, Asked> {
     if alone {
-        return Step::Stop { asked };
+        return Err(asked);
     }
     wrong(at, Why::NotAlone)
 }
 
 // `--to` waits for the name behind it.
-fn wait(o: Order, at: usize) -> Step {
-    if o.to != 0 {
+fn wait(o: Order, at: usize) -> Result<Order, Asked> {
+    if o.to.is_some() || o.waits.is_some() {
         return wrong(at, Why::Twice);
     }
-    if o.waits != 0 {
-        return wrong(at, Why::Twice);
-    }
-    Step::On {
-        order: Order {
-            kept: o.kept,
-            to: 0,
-            waits: at,
-        },
-    }
+    Ok(Order {
+        waits: Some(at),
+        ..o
+    })
 }
 
-fn name(o: Order, at: usize) -> Step {
-    if o.waits != 0 {
-        return Step::On {
-            order: Order {
-                kept: o.kept,
-                to: at,
-                waits: 0,
-            },
-        };
+fn name(o: Order, at: usize) -> Result<Order, Asked> {
+    if o.waits.is_some() {
+        return Ok(Order {
+            to: Some(at),
+            waits: None,
+            ..o
+        });
     }
-    if o.kept != 0 {
+    if o.kept.is_some() {
         return wrong(at, Why::Second);
     }
-    Step::On {
-        order: Order {
-            kept: at,
-            to: o.to,
-            waits: 0,
-        },
-    }
+    Ok(Order {
+        kept: Some(at),
+        ..o
+    })
 }
 
+// What one more word makes of an order, or what the words ask for where it is the last that counts.
 // No word with a dash in front is a file (R15.11).
-fn next(o: Order, at: usize, alone: bool, word: &[u8]) -> Step {
-    if word.len() < 1 {
-        return wrong(at, Why::NoName);
-    }
+fn next(o: Order, at: usize, alone: bool, word: &[u8]) -> Result<Order, Asked> {
     if PATH_MAX <= word.len() {
         return wrong(at, Why::NoName);
     }
-    if lend::equal(word, b"--help") {
-        return single(at, alone, Asked::Help);
+    match word {
+        [] => wrong(at, Why::NoName),
+        b"--help" => single(at, alone, Asked::Help),
+        b"--version" => single(at, alone, Asked::Version),
+        b"--to" => wait(o, at),
+        [b'-', ..] => wrong(at, Why::Unknown),
+        _ if file::is_new(word) => wrong(at, Why::NewName),
+        _ => name(o, at),
     }
-    if lend::equal(word, b"--version") {
-        return single(at, alone, Asked::Version);
-    }
-    if lend::equal(word, b"--to") {
-        return wait(o, at);
-    }
-    if word[0] == b'-' {
-        return wrong(at, Why::Unknown);
-    }
-    if file::is_new(word) {
-        return wrong(at, Why::NewName);
-    }
-    name(o, at)
 }
 
-// Whether the words named KEPT and FILE, and both are one name.
-fn one_file(rt: HostRuntime, o: Order, word: &mut [u8]) -> bool {
-    if o.kept == 0 {
-        return false;
-    }
-    if o.to == 0 {
-        return false;
-    }
+// Where the words named KEPT and FILE, and both are one name, the index of FILE.
+fn one_file(rt: HostRuntime, o: Order, word: &mut [u8]) -> Option<usize> {
+    let kept = o.kept?;
+    let to = o.to?;
     let mut other = [0u8; PATH_MAX];
-    let kept = edge::arg(rt, o.kept, word);
-    let to = edge::arg(rt, o.to, &mut other);
-    lend::equal(&word[..kept.len], &other[..to.len])
+    let one = edge::arg(rt, kept, word).unwrap_or(0);
+    let two = edge::arg(rt, to, &mut other).unwrap_or(0);
+    if lend::equal(&word[..one], &other[..two]) {
+        return Some(to);
+    }
+    None
 }
 
-fn whole(o: Order) -> Asked {
-    let waits = o.waits;
-    if waits != 0 {
-        return Asked::Wrong {
-            at: waits,
-            why: Why::Lacks,
-        };
-    }
-    Asked::Run {
-        kept: o.kept,
-        to: o.to,
-    }
-}
-
-// What all words ask for: those from index first on, of so many. One that the buffer has no room
-// for comes back empty, and is no name.
-pub(crate) fn parse(rt: HostRuntime, first: usize, count: usize, word: &mut [u8]) -> Asked {
+// What the words from index first on order, of so many; or what they ask for where that is no order.
+// One that the buffer has no room for comes back empty, and is no name.
+fn ordered(rt: HostRuntime, first: usize, count: usize, word: &mut [u8]) -> Result<Order, Asked> {
     let mut o = Order {
-        kept: 0,
-        to: 0,
-        waits: 0,
+        kept: None,
+        to: None,
+        waits: None,
     };
-    let mut at = first;
-    while at < count {
+    for at in first..count {
         let alone = at == first && count - at == 1;
-        let found = edge::arg(rt, at, word);
-        match next(o, at, alone, &word[..found.len]) {
-            Step::On { order } => {
-                o = order;
-            }
-            Step::Stop { asked } => return asked,
+        let len = edge::arg(rt, at, word).unwrap_or(0);
+        o = next(o, at, alone, &word[..len])?;
+        if let Some(at) = one_file(rt, o, word) {
+            return wrong(at, Why::Same);
         }
-        if one_file(rt, o, word) {
-            return Asked::Wrong {
-                at: o.to,
-                why: Why::Same,
-            };
-        }
-        at += 1;
     }
-    whole(o)
+    match o.waits {
+        Some(at) => wrong(at, Why::Lacks),
+        None => Ok(o),
+    }
 }
 
-// Whether the first word asks for a status on descriptor 3.
-pub(crate) fn asks_status(rt: HostRuntime, count: usize, buffer: &mut [u8]) -> bool {
-    if count < 2 {
-        return false;
+// What all words ask for.
+pub(crate) fn parse(rt: HostRuntime, first: usize, count: usize, word: &mut [u8]) -> Asked {
+    match ordered(rt, first, count, word) {
+        Ok(o) => Asked::Run {
+            kept: o.kept,
+            to: o.to,
+        },
+        Err(asked) => asked,
     }
-    let found = edge::arg(rt, 1, buffer);
-    lend::equal(&buffer[..found.len], b"--status-3")
 }
