@@ -9,6 +9,7 @@ use super::Width;
 
 // ---- the widths
 
+// stays (2): two tables, of a byte and of a length, with an arm for each width.
 #[tactic(auto, unfolding(crate::specs::Form::first_of))]
 pub(super) fn first(w: Width) -> u8
     ensures { result ≡ first_of w }

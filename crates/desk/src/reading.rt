@@ -1,7 +1,6 @@
 // The input buffer: the bytes of the unfinished line are at its front, and a read puts more behind
 // them.
 
-use wire::Span;
 
 // A longer line is not understood (D1.5).
 pub(crate) const LINE_MOST: usize = 262_144;
@@ -30,11 +29,7 @@ impl Input {
 
     // The bytes that are held.
     pub(crate) fn bytes(&self) -> &[u8] {
-        let all = Span {
-            start: 0,
-            len: self.len,
-        };
-        lend::part(&self.bytes, all)
+        &self.bytes[..self.len.min(self.bytes.len())]
     }
 
     // Reads once behind the bytes that are held; false at the end of the input, and where it cannot

@@ -32,11 +32,7 @@ impl Register {
     }
 
     fn held(&self) -> &[u8] {
-        let all = Span {
-            start: 0,
-            len: self.len,
-        };
-        lend::part(&self.bytes, all)
+        &self.bytes[..self.len.min(SIZE)]
     }
 
     fn hold(&mut self, s: &[u8]) {

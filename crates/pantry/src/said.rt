@@ -73,6 +73,7 @@ pub(crate) fn failed(rt: HostRuntime, name: &[u8], error: Error) {
     name_plainly(name, |shown| edge::fail(rt, shown, error));
 }
 
+// stays (2): here and below, each says a sentence of its own behind the name.
 pub(crate) fn no_file(rt: HostRuntime, name: &[u8]) {
     say_name(rt, name);
     say(

@@ -8,29 +8,12 @@ ghost use Rattle.std.specs.Prelude.{◌≤◌};
 mod told;
 mod words;
 
+use edge::Status;
 use wire::Refusal;
 use words::{Order, Task, Wrong};
 
 // One byte more than can be printed: so many are enough to know that there are too many (R7.4).
 const INPUT: usize = 46_081;
-
-// What is told on descriptor 3, asked for with `--status-3` (R15.5).
-#[derive(Clone, Copy)]
-enum Status {
-    Done,
-    Failed,
-    Wrong,
-}
-
-impl From<Status> for u8 {
-    fn from(status: Status) -> u8 {
-        match status {
-            Status::Done => b'0',
-            Status::Failed => b'1',
-            Status::Wrong => b'2',
-        }
-    }
-}
 
 // How many bytes show that pages of this size are too many (R15.8), of so many that there is room
 // for.

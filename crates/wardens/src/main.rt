@@ -12,6 +12,7 @@ mod unite;
 mod words;
 
 use deal::Deal;
+use edge::Status;
 use std::io::Error;
 use words::{Order, Task, Wrong};
 
@@ -25,14 +26,6 @@ const NAME_SIZE: usize = 32;
 
 // A longer word is none.
 const WORD: usize = 4_096;
-
-// The status (R15.17).
-#[derive(Clone, Copy)]
-enum Status {
-    Done = 48,
-    Failed = 49,
-    Wrong = 50,
-}
 
 // What went wrong was told a person already.
 #[derive(Clone, Copy)]
@@ -145,7 +138,7 @@ fn main(rt: HostRuntime) {
     let count = edge::arg_count(rt);
     if edge::asks_status(rt) {
         let o = words::asked(rt, 2, count, &mut word, &mut key, &mut document);
-        edge::tell_status(obey(rt, o, &key, &document) as u8);
+        edge::tell_status(u8::from(obey(rt, o, &key, &document)));
         return;
     }
     let o = words::asked(rt, 1, count, &mut word, &mut key, &mut document);

@@ -171,6 +171,7 @@ pub(crate) fn shard(rt: HostRuntime, feeds: usize, why: Refusal) {
     say(rt, b"it is a key frame, but no share is in it\n");
 }
 
+// stays (2): here and below, each says a sentence of its own and nothing else.
 pub(crate) fn short(rt: HostRuntime, feeds: usize) {
     line(rt, feeds);
     say(rt, b" is too long for a slip\n");
