@@ -7,8 +7,9 @@ use native.Mathlib.Nat.{sub-zero}
 use native.Mathlib.Numerals.{add-one}
 use native.Mathlib.Omega.{arith}
 use borrow.Author.Tests.{le-leb, lt-leb}
-use lib.ListN.{length, take, drop, length-append, length-take, length-drop, drop_of_length-le}
-use lib.Seq.{take_all, drop-drop}
+use lib.ListN.{length, take, drop, length-append, length-drop, drop_of_length-le}
+use lib.Seq.{take_at, drop_at, take_all, drop-drop}
+use Rattle.std.proofs.lemmas.List.{nil_from_length}
 use Rattle.digits.specs.Private.{Laid}
 use Rattle.digits.proofs.Laying.{laid_whole}
 use Rattle.std.specs.Prelude.{Result, Ok, Err}
@@ -64,80 +65,83 @@ module _ (cs : List ℕ) (from to : ℕ) (e : to ≡ from + min 40 (length cs - 
   row_is : take (to - from) (drop from cs) ≡ take 40 (drop from cs)
   row_is = row_take (drop from cs) 40 (to - from) row_size
 
-  pub row_short : length (take (to - from) (drop from cs)) ≤ 40
-  row_short = rw row_is (omega (arith, length-take 40 (drop from cs)))
-
   row_left : drop to cs ≡ drop 40 (drop from cs)
   row_left =
       let q : to ≡ from + (to - from) = omega arith in
       ap (λ (k : ℕ). drop k cs) q ∙ sym (drop-drop (to - from) from cs) ∙ row_drop (drop from cs) 40 (to - from) row_size
+
+-- the row that comes off the front of what is left
+module _ (l row left : List ℕ) (parts : l ≡ row ++ left) (size : length row ≡ min 40 (length l)) where
+  row_first : row ≡ take 40 l
+  row_first = sym (take_at row left (length row) refl) ∙ ap (λ (k : List ℕ). take (length row) k) (sym parts) ∙ row_take l 40 (length row) size
+
+  row_behind : left ≡ drop 40 l
+  row_behind = sym (drop_at row left (length row) refl) ∙ ap (λ (k : List ℕ). drop (length row) k) (sym parts) ∙ row_drop l 40 (length row) size
 
 -- ---- all lines
 
 shifted : (a l r : List ℕ) → a ++ (10 ∷ (l ++ r)) ≡ a ++ (10 ∷ []) ++ l ++ r
 shifted a l r = sym (append_assoc (a ++ (10 ∷ [])) l r ∙ append_assoc a (10 ∷ []) (l ++ r))
 
--- from index start on stand the lines of the characters from `first` up to `from`
-pub record Lined (cs out₀ : List ℕ) (first start from at n : ℕ) (out : List ℕ) : Type 0 where
+-- from index start on stand the lines of the characters from `first` on, but for those that are left
+pub record Lined (cs out₀ : List ℕ) (first start : ℕ) (left : List ℕ) (at n : ℕ) (out : List ℕ) : Type 0 where
   pub laid : List ℕ
   pub stands : out ≡ over start laid out₀
   pub next : at ≡ start + length laid
-  pub whole : fed (numbered 2 (rows 19 (drop first cs))) ≡ laid ++ fed (numbered (suc n) (rows (20 - n) (drop from cs)))
-  pub reached : from ≤ length cs
-  pub full : from < length cs → from ≡ 40 * n
+  pub whole : fed (numbered 2 (rows 19 (drop first cs))) ≡ laid ++ fed (numbered (suc n) (rows (20 - n) left))
+  pub full : 0 < length left → length left + 40 * n ≤ 800
   pub few : n ≤ 20
   pub short : at + 1 ≤ 43 * n
 
-module _ (cs out₀ : List ℕ) (first start : ℕ) (most : length cs ≤ 800) (room : 859 ≤ length out₀) where
-  pub lined_none : first ≤ length cs → (first < length cs → first ≡ 40) → start + 1 ≤ 43 → Lined cs out₀ first start first start 1 out₀
-  lined_none h e l =
-      record { laid = []; stands = sym (over_none start out₀); next = omega arith; whole = refl; reached = h; full = λ m. omega (arith, e m); few = omega arith; short = omega arith }
+module _ (cs out₀ : List ℕ) (first start : ℕ) where
+  pub lined_none : (left : List ℕ) → left ≡ drop first cs → length cs ≤ 800 → (first < length cs → first ≡ 40) → start + 1 ≤ 43 → Lined cs out₀ first start left start 1 out₀
+  lined_none left d most e l =
+      let s : length left ≡ length cs - first = ap length d ∙ length-drop first cs in
+      record { laid = []; stands = sym (over_none start out₀); next = omega arith; whole = rw d refl; full = λ m. omega (arith, s, e (omega (arith, s))); few = omega arith; short = omega arith }
 
-  module _ (from at n : ℕ) (out : List ℕ) (l : Lined cs out₀ first start from at n out) where
+  module _ (left : List ℕ) (at n : ℕ) (out : List ℕ) (l : Lined cs out₀ first start left at n out) where
     pub lined_same : length out ≡ length out₀
     lined_same = ap length l.stands ∙ length_over start l.laid out₀
 
-    module _ (more : from < length cs) where
+    module _ (more : 0 < length left) where
       pub lined_few : n < 20
       lined_few = omega (arith, l.full more)
 
       pub lined_room : at + 1 + 42 ≤ 859
       lined_room = omega (arith, lined_few, l.short)
 
-      pub lined_next : (to : ℕ) (x y : List ℕ) (end : ℕ) → to ≡ from + min 40 (length cs - from) → x ≡ over at (10 ∷ []) out
-          → Laid (at + 1) 42 (with_check (n + 1) (take (to - from) (drop from cs))) x y end → Lined cs out₀ first start to end (n + 1) y
+      pub lined_next : (row rest : List ℕ) (x y : List ℕ) (end : ℕ) → 859 ≤ length out₀ → left ≡ row ++ rest → length row ≡ min 40 (length left)
+          → x ≡ over at (10 ∷ []) out → Laid (at + 1) 42 (with_check (n + 1) row) x y end → Lined cs out₀ first start rest end (n + 1) y
       unfolding numbered fed
-      lined_next to x y end e q p =
-          let row : List ℕ = take (to - from) (drop from cs) in
-          let r : row ≡ take 40 (drop from cs) = row_is cs from to e in
-          let d : drop to cs ≡ drop 40 (drop from cs) = row_left cs from to e in
-          let some : 1 ≤ length (drop from cs) = rw (length-drop from cs) (omega arith) in
+      lined_next row rest x y end room parts size q p =
+          let r : row ≡ take 40 left = row_first left row rest parts size in
+          let d : rest ≡ drop 40 left = row_behind left row rest parts size in
+          let sum : length left ≡ length row + length rest = ap length parts ∙ length-append row rest in
           let k : 20 - n ≡ suc (20 - (n + 1)) = omega (arith, lined_few) in
           let line : List ℕ = with_check (n + 1) row in
           let x' : x ≡ over start (l.laid ++ (10 ∷ [])) out₀ = over_then start at l.laid (10 ∷ []) out₀ out x q l.stands l.next (omega (arith, lined_room)) in
           let m : at + 1 ≡ start + length (l.laid ++ (10 ∷ [])) = omega (arith, l.next, length-append l.laid (10 ∷ [])) in
           let y' : y ≡ over start (l.laid ++ (10 ∷ []) ++ line) out₀ = over_then start (at + 1) (l.laid ++ (10 ∷ [])) line out₀ x y p.stands x' m (omega (arith, lined_room, p.short)) in
-          let rest : List ℕ = fed (numbered (suc (suc n)) (rows (20 - (n + 1)) (drop 40 (drop from cs)))) in
-          let z : fed (numbered (suc n) (rows (20 - n) (drop from cs))) ≡ 10 ∷ (with_check (suc n) (take 40 (drop from cs)) ++ rest) = rw (k, rows_step (20 - (n + 1)) (drop from cs) some) refl in
+          let more_lines : List ℕ = fed (numbered (suc (suc n)) (rows (20 - (n + 1)) (drop 40 left))) in
+          let z : fed (numbered (suc n) (rows (20 - n) left)) ≡ 10 ∷ (with_check (suc n) (take 40 left) ++ more_lines) = rw (k, rows_step (20 - (n + 1)) left more) refl in
           record {
             laid = l.laid ++ (10 ∷ []) ++ line;
             stands = y';
             next = omega (arith, p.next, m, length-append (l.laid ++ (10 ∷ [])) line);
             whole = l.whole ∙ ap (λ (s : List ℕ). l.laid ++ s) z ∙ rw (d, r, add-one n) (shifted l.laid _ _);
-            reached = omega arith;
-            full = λ h. omega (arith, l.full more);
+            full = λ h. omega (arith, l.full more, sum, size);
             few = omega (arith, lined_few);
             short = omega (arith, p.next, p.short, l.short);
           }
 
-    pub lined_end : length cs ≤ from → Laid start 859 (fed (numbered 2 (rows 19 (drop first cs)))) out₀ out at × (at ≤ 859)
+    pub lined_end : length left ≡ 0 → Laid start 859 (fed (numbered 2 (rows 19 (drop first cs)))) out₀ out at × (at ≤ 859)
     unfolding numbered fed
     lined_end h =
         let e : fed (numbered 2 (rows 19 (drop first cs))) ≡ l.laid = l.whole ∙ none in
         (record { next = rw e l.next; short = rw e (omega (arith, l.next, l.short, l.few)); stands = rw e l.stands }, omega (arith, l.short, l.few))
       where
-        none : l.laid ++ fed (numbered (suc n) (rows (20 - n) (drop from cs))) ≡ l.laid
-        none = rw (drop_of_length-le cs {i = from} h, rows_none (20 - n)) (append-nil l.laid)
+        none : l.laid ++ fed (numbered (suc n) (rows (20 - n) left)) ≡ l.laid
+        none = rw (nil_from_length left h, rows_none (20 - n)) (append-nil l.laid)
 
 -- the first line, and behind it the others
 module _ (cs out : List ℕ) (room : 859 ≤ length out) (some : length cs ≡ 0 → ⊥) (first : ℕ) (e : first ≡ 0 + min 40 (length cs - 0)) where

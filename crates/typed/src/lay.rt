@@ -42,15 +42,12 @@ fn further(chars: &[u8], first: usize, out: &mut [u8], start: usize) -> usize
     requires { (length chars.now ≤ 800) × (first ≤ length chars.now) × (first < length chars.now → first ≡ 40) × (start + 1 ≤ 43) × (859 ≤ length out.old) }
     ensures { Laid start 859 (fed (numbered 2 (rows 19 (drop first chars.now)))) out.old out.new result × (result ≤ 859) }
 {
-    let mut from = first;
     let mut at = start;
     let mut number: u8 = 1;
-    while from < chars.len() {
+    for row in chars[first..].chunks(ROW) {
         number += 1;
         lend::put(out, at, b'\n');
-        let end = row_end(from, chars.len());
-        at = line(out, at + 1, number, &chars[from..end]);
-        from = end;
+        at = line(out, at + 1, number, row);
     }
     at
 }
