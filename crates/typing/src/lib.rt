@@ -23,6 +23,8 @@ use wire::{Refusal, RefusedAt};
 #[derive(Clone, Copy)]
 pub enum Fault {
     // Nothing: the page is a good frame, the line a right one.
+    //
+    // stays (1): `words` takes it and has no words, and `fault_of` and `told_number` speak of it.
     Good,
     // There are no lines.
     Nothing,
