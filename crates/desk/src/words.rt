@@ -1,7 +1,7 @@
 // A line's words, and what they stand for.
 //
-// The bytes of a word of hex stand in `pool` at half the word's place in the line: two digits make a
-// byte, so the bytes of two words never meet, and the pool is half as long as the longest line.
+// The bytes of a word of hex stand in `pool` at half the word's place in the line: two digits make
+// a byte, so the bytes of two words never meet, and the pool is half as long as the longest line.
 
 use crate::reading::LINE_MOST;
 use crate::reply::UNTOUCHED;
@@ -45,8 +45,8 @@ pub(crate) fn places() -> [Span; MOST] {
     [Span { start: 0, len: 0 }; MOST]
 }
 
-// One more word, between two places; none where it is empty, as between two spaces or at either end,
-// or one too many (D1.5). Answers how many there are then.
+// One more word, between two places; none where it is empty, as between two spaces or at either
+// end, or one too many (D1.5). Answers how many there are then.
 fn add(words: &mut [Span], n: usize, from: usize, to: usize) -> Option<usize> {
     if from < to && n < words.len() {
         words[n] = Span {
@@ -58,8 +58,8 @@ fn add(words: &mut [Span], n: usize, from: usize, to: usize) -> Option<usize> {
     None
 }
 
-// Where the words of the line stand, with one space between each two (D1.1); none where one is empty
-// or there are too many (D1.5).
+// Where the words of the line stand, with one space between each two (D1.1); none where one is
+// empty or there are too many (D1.5).
 pub(crate) fn split<'a>(line: &[u8], words: &'a mut [Span]) -> Option<&'a [Span]> {
     let mut n = 0;
     let mut from = 0;
@@ -151,8 +151,8 @@ impl<'a> Call<'a> {
         values::decimal(self.word(k)).unwrap_or(0)
     }
 
-    // How much the line asks for as its ROOM; 0 where that word is none. It is the first argument of
-    // recover, which any number of slips follow (D2.14), and the last of every other verb.
+    // How much the line asks for as its ROOM; 0 where that word is none. It is the first argument
+    // of recover, which any number of slips follow (D2.14), and the last of every other verb.
     pub(crate) fn room_asked(&self) -> usize {
         let k = match self.word(0) {
             b"recover" => 1,

@@ -61,8 +61,8 @@ fn frames(call: Call, room: &mut [u8], out: &mut Output) -> bool {
     true
 }
 
-// A shard takes the nine values that reading prints, and what gets signed of it all but SIG; whether
-// the type is known is the library's to say (D2.8).
+// A shard takes the nine values that reading prints, and what gets signed of it all but SIG;
+// whether the type is known is the library's to say (D2.8).
 fn shards(call: Call, room: &mut [u8], out: &mut Output) -> bool {
     match call.word(0) {
         b"shard-write"
@@ -101,8 +101,8 @@ fn shards(call: Call, room: &mut [u8], out: &mut Output) -> bool {
     true
 }
 
-// The verbs that take numbers: varints (D2.1), pages (D2.5), floats (D2.12) and secrets, where it is
-// the library's to say whether the numbers and the coefficients go with the secret (D2.14).
+// The verbs that take numbers: varints (D2.1), pages (D2.5), floats (D2.12) and secrets, where it
+// is the library's to say whether the numbers and the coefficients go with the secret (D2.14).
 fn numbers(call: Call, room: &mut [u8], out: &mut Output) -> bool {
     match call.word(0) {
         b"varint-write" if call.has(&[Number, Room]) => {

@@ -87,7 +87,8 @@ impl<'a> Pages<'a> {
         let mut h = blake2b::start();
         let mut cursor = Cursor { page: 0, at: 0 };
         let mut end = BLOCK;
-        // stays (3): the last block is hashed by another call, so a `for` would never reach its end.
+        // stays (3): the last block is hashed by another call, so a `for` would never reach its
+        // end.
         loop {
             let mut b = [0u8; BLOCK];
             let next = self.pull(cursor, &mut b);

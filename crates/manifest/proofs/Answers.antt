@@ -1,5 +1,5 @@
--- How a chain of items goes on under an answer that is a struct, and how long the array of files is.
--- Assumes nothing.
+-- How a chain of items goes on under an answer that is a struct, and how long the array of files
+-- is. Assumes nothing.
 use Prim.Native.Nat.{ℕ, ◌+◌, ◌-◌, ◌≤◌}
 use mathlib.Core.Path.{◌≡◌, sym, ap, ◌∙◌}
 use mathlib.Core.List.{List}

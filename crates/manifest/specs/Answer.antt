@@ -1,4 +1,5 @@
--- What `read` answers: the value in a struct every field of which is fixed, and the position past it.
+-- What `read` answers: the value in a struct every field of which is fixed, and the position past
+-- it.
 use Rattle.std.specs.Prelude.{◌-◌, None, List, ◌++◌, length, replicate}
 use Rattle.wire.specs.Answer.{then, Got, got}
 use Rattle.wire.specs.Sizes.{most_files}

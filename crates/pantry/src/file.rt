@@ -133,8 +133,8 @@ fn new_name(real: &[u8], beside: &mut [u8]) -> Option<usize> {
     Some(n + BESIDE)
 }
 
-// What comes of the file that a name means, by its own name and that of the new file beside it; none
-// where one of the two is no name, which is told.
+// What comes of the file that a name means, by its own name and that of the new file beside it;
+// none where one of the two is no name, which is told.
 fn at<T, F: FnOnce(&[u8], &[u8]) -> T>(rt: HostRuntime, name: &[u8], with: F) -> Option<T>
     requires { F.IsAlwaysCallable with }
 {

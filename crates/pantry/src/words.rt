@@ -31,7 +31,8 @@ pub(crate) enum Asked {
     },
 }
 
-// What the words ask for so far. Where `--to` came last, and waits for its name, there is its index.
+// What the words ask for so far. Where `--to` came last, and waits for its name, there is its
+// index.
 #[derive(Clone, Copy)]
 struct Order {
     kept: Option<usize>,
@@ -108,8 +109,8 @@ fn one_file(rt: HostRuntime, o: Order, word: &mut [u8]) -> Option<usize> {
     None
 }
 
-// What the words from index first on order, of so many; or what they ask for where that is no order.
-// One that the buffer has no room for comes back empty, and is no name.
+// What the words from index first on order, of so many; or what they ask for where that is no
+// order. One that the buffer has no room for comes back empty, and is no name.
 fn ordered(rt: HostRuntime, first: usize, count: usize, word: &mut [u8]) -> Result<Order, Asked> {
     let mut o = Order {
         kept: None,

@@ -83,7 +83,8 @@ module _ (l row left : List ℕ) (parts : l ≡ row ++ left) (size : length row 
 shifted : (a l r : List ℕ) → a ++ (10 ∷ (l ++ r)) ≡ a ++ (10 ∷ []) ++ l ++ r
 shifted a l r = sym (append_assoc (a ++ (10 ∷ [])) l r ∙ append_assoc a (10 ∷ []) (l ++ r))
 
--- from index start on stand the lines of the characters from `first` on, but for those that are left
+-- from index start on stand the lines of the characters from `first` on, but for those that are
+-- left
 pub record Lined (cs out₀ : List ℕ) (first start : ℕ) (left : List ℕ) (at n : ℕ) (out : List ℕ) : Type 0 where
   pub laid : List ℕ
   pub stands : out ≡ over start laid out₀

@@ -67,6 +67,8 @@ fn read_page(rt: HostRuntime) -> Status {
 }
 
 // A word that is wrong comes before the input (R15.16).
+//
+// stays (7): the task is what the words said, and each arm has a call of its own.
 fn obey(rt: HostRuntime, task: Task) -> Status {
     match task {
         Task::Help => {

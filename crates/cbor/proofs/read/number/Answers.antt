@@ -1,4 +1,5 @@
--- `cbor::read::number` meets its contract: each return is where its tests and its call led. Assumes nothing.
+-- `cbor::read::number` meets its contract: each return is where its tests and its call led.
+-- Assumes nothing.
 use Rattle.cbor.specs.Item.{number_at}
 use Rattle.wire.proofs.Answers.{reads, off}
 use Rattle.cbor.proofs.Answers.{handed_fault}

@@ -1,5 +1,5 @@
--- `finish::Pages::gather` meets its contract. The loop's invariant: the data of the pages passed stand in
--- front. Assumes nothing.
+-- `finish::Pages::gather` meets its contract. The loop's invariant: the data of the pages passed
+-- stand in front. Assumes nothing.
 use Rattle.finish.proofs.Gathering.{Gathering}
 use Rattle.finish.proofs.Pages.gather.Given as goal
 

@@ -1,5 +1,5 @@
--- `finish::Pages::id_of_data` meets its contract. The loop's invariant: the state is that after the blocks
--- before the cursor. Assumes nothing.
+-- `finish::Pages::id_of_data` meets its contract. The loop's invariant: the state is that after the
+-- blocks before the cursor. Assumes nothing.
 use Prim.Native.Nat.{◌-◌}
 use Rattle.finish.proofs.Pulling.{Absorbing}
 use Rattle.finish.proofs.Pages.id_of_data.Given as goal

@@ -1,5 +1,5 @@
--- `finish::Pages::pull` meets its contract. The loop's invariant: what was pulled so far, and what stands
--- behind the cursor, are what stood behind it at first. Assumes nothing.
+-- `finish::Pages::pull` meets its contract. The loop's invariant: what was pulled so far, and what
+-- stands behind the cursor, are what stood behind it at first. Assumes nothing.
 use Rattle.finish.proofs.Pulling.{Pulling}
 use Rattle.finish.proofs.Pages.pull.Given as goal
 

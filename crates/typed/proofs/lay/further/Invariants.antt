@@ -1,5 +1,5 @@
--- `typed::lay::further` meets its contract: the lines of all rows but those that are left stand in front.
--- Assumes nothing.
+-- `typed::lay::further` meets its contract: the lines of all rows but those that are left stand in
+-- front. Assumes nothing.
 use mathlib.Core.Path.{◌≡◌}
 use Rattle.std.specs.Slice.Iter.{chunks_rest, chunks_size}
 use Rattle.typed.proofs.Laying.{Lined}
