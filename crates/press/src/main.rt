@@ -23,7 +23,8 @@ fn enough(size: u16, room: usize) -> usize
     (usize::from(size) * wire::MOST_PAGES + 1).min(room)
 }
 
-// stays (7): here and in `obey` the task is what the words said, and each arm has a call of its own.
+// stays (7): here and in `obey` the task is what the words said, and each arm has a call of its
+// own.
 fn made(task: Task, c: &[u8], size: usize, out: &mut [u8]) -> Result<usize, Refusal> {
     match task {
         Task::Typed => sheet::typed(c, size, out),
