@@ -1,7 +1,6 @@
 // The input buffer: the bytes of the unfinished line are at its front, and a read puts more behind
 // them.
 
-
 // A longer line is not understood (D1.5).
 pub(crate) const LINE_MOST: usize = 262_144;
 
