@@ -169,7 +169,7 @@ fn right(rt: HostRuntime, why: Why) {
 pub(crate) fn wrong(rt: HostRuntime, at: usize, why: Why) {
     let mut word = [0u8; SHOWN];
     say(rt, b"wrong word '");
-    edge::tell_word(rt, at, &mut word, lend::plain);
+    edge::tell_word(rt, at, &mut word);
     say(rt, b"': ");
     right(rt, why);
     say(rt, b"\n");
