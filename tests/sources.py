@@ -12,9 +12,12 @@ KIT = ("io",)
 EVERYWHERE = {"std", "core"}
 NOT_OURS = {".git", "target", "bin", "out", "__pycache__"}
 PUBLIC = re.compile(r'^\s*pub (?:extern "C" )?fn (\w+)')
-METHODS = re.compile(r"^impl (\w+) \{")
+METHODS = re.compile(r"^impl(?:<[^<>]*>)? (\w+)(?:<[^<>]*>)? \{")
+# the methods of a trait, which the toolchain names by both: `U8FromKind`
+OF_TRAIT = re.compile(r"^impl(?:<[^<>]*>)? (\w+)(?:<(\w+)>)? for (\w+)(?:<[^<>]*>)? \{")
 ANY = re.compile(r'^\s*(?:pub(?:\((?:super|crate)\))? )?(?:extern "C" )?fn (\w+)')
 CALL = re.compile(r"((?:\w+::)*\w+)\(")
+TURBOFISH = re.compile(r"::<[^<>()]*>")
 # a clause that goes on in further lines, and a clause as a whole
 OPEN_CLAUSE = re.compile(r"^\s*(?:requires|ensures)\b[^{]*\{$")
 # a library that takes this asks something of the system, so no contract can say what it answers
@@ -96,8 +99,11 @@ def owned(lines):
     """Each line, with the type whose methods it stands among, as a list of no or one name."""
     owner = []
     for line in lines:
-        methods = METHODS.match(line)
-        owner = [methods[1]] if methods else [] if line.startswith("}") else owner
+        methods, trait = METHODS.match(line), OF_TRAIT.match(line)
+        if methods or trait:
+            owner = [methods[1] if methods else f"{trait[3][0].upper()}{trait[3][1:]}{trait[1]}{trait[2] or ''}"]
+        elif line.startswith("}"):
+            owner = []
         yield owner, line
 
 
@@ -186,18 +192,19 @@ def reached(root, crate):
     call, and so on.
 
     A call is told by its name alone: a path must be the end of the function's whole name, and a
-    bare name one in the same file or, where there is none, one that is imported there.
+    bare name one in the same file or, where there is none, one that is imported there. A method is
+    called by its name, also that of a trait through a type parameter.
     """
     texts = bodies(root, crate)
 
     def meant(caller, path):
-        words = path.removeprefix("super::").split("::")
+        words = re.sub(r"^[A-Z]::", "", path.removeprefix("super::")).split("::")
         beside = "::".join([*caller.split("::")[:-1], path])
         if len(words) == 1 and beside in texts:
             return {beside}
         return {name for name in texts if name.split("::")[-len(words):] == words}
 
-    calls = {name: set().union(*(meant(name, path) for path in CALL.findall(text))) for name, text in texts.items()}
+    calls = {name: set().union(*(meant(name, path) for path in CALL.findall(TURBOFISH.sub("", text)))) for name, text in texts.items()}
     for middle in calls:
         for name in calls:
             calls[name] |= calls[middle] if middle in calls[name] else set()

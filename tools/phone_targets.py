@@ -29,6 +29,18 @@ ARM = "aarch64-linux-gnu"
 NAMING = re.compile(r'^target .*\n| "(?:target-(?:cpu|features)|tune-cpu)"="[^"]*"', re.MULTILINE)
 FUNCTION = re.compile(r"^define [^@\n]*@(stilt_\w+)\(", re.MULTILINE)
 POINTER_AS_NUMBER = re.compile(r"\b(?:ptrtoint|inttoptr)\b")
+# Where two slices lie, to see whether they overlap: such a number becomes no pointer again.
+ADDRESS = re.compile(r"\bptrtoaddr\b(?= \(?ptr )")
+# A pair of a small number and a pointer, read at once: as the module lays it out, the pointer
+# stands 8 bytes behind the number.
+PAIR = re.compile(r"^( *)(%[\w.]+) = load \{ (i\d+), ptr \}, ptr (%[\w.]+), align \d+$", re.MULTILINE)
+PAIRS = r"""\1\2.number = load \3, ptr \4
+\1\2.place = getelementptr i8, ptr \4, i64 8
+\1\2.pointer = load ptr, ptr \2.place
+\1\2.half = insertvalue { \3, ptr } poison, \3 \2.number, 0
+\1\2 = insertvalue { \3, ptr } \2.half, ptr \2.pointer, 1"""
+# Any other that has a pointer behind something else.
+POINTER_BEHIND = re.compile(r"(?:load|store) \{ [^}]*, ptr\b")
 
 # What an archive may want of the C library.
 FROM_C = {"memcmp", "memcpy", "memmove", "memset"}
@@ -112,14 +124,24 @@ def for_arm(proved, text, into, triple):
     return path
 
 
+def refused(text):
+    """The module, unless pointers of 32 bits would make another of it."""
+    if POINTER_AS_NUMBER.search(text):
+        raise SystemExit("the module takes pointers for numbers, which have other sizes in wasm32")
+    if POINTER_BEHIND.search(PAIR.sub("", text)):
+        raise SystemExit("the module reads a pointer at a place that is another in wasm32")
+    return text
+
+
 def for_wasm(proved, text, into):
     """The module for WebAssembly. It imports nothing: the linker refuses what is not defined.
 
     A pointer that was taken for a number of 64 bits could not be told from one that is none, so a
-    module that does so is refused.
+    module that does so is refused. An address that is only compared has 32 bits there: it is
+    widened to the 64 that the module takes it for. And where a pair is read at once, its pointer is
+    read where the module put it. clang does neither of itself.
     """
-    if POINTER_AS_NUMBER.search(text):
-        raise SystemExit("the module takes pointers for numbers, which have other sizes in wasm32")
+    text = PAIR.sub(PAIRS, ADDRESS.sub("ptrtoint", refused(text)))
     path = place(into, "phone.wasm")
     # The kit's linker is one program for several formats, and the name that it is called by says
     # for which.
