@@ -1,6 +1,6 @@
 -- What is read of a block, by the tests that the code makes. Assumes nothing.
 use mathlib.Core.Path.{◌≡◌, refl, sym, ap, ◌∙◌}
-use mathlib.Core.Bool.{Bool, true, false}
+use mathlib.Core.Bool.{Bool, true, false, ◌&&◌}
 use mathlib.Core.Logic.{⊎_elim}
 use mathlib.Core.List.{List, [], ◌∷◌}
 use Prim.Native.Nat.{ℕ, zero, suc, ◌+◌, ◌-◌, ◌≤◌, ◌<◌}
@@ -134,7 +134,14 @@ read_fits b = go (eqb (get_or b 2 0) 0) (eqb (get_or b 2 0) 1)
 
 -- ---- whether given bytes are held
 
+pub holding_is : (p : Slot) (d : List ℕ) → holding p d ≡ (eqb (state_of p) 1 && same (data_of p) d)
+unfolding holding is_held state_of data_of
+holding_is absent d = refl
+holding_is (held x) d = refl
+holding_is disputed d = refl
+
 module _ (p : Slot) (d : List ℕ) where
+  -- For the reader: a page that is not held holds no data
   pub holds_not : (state_of p ≡ 1 → ⊥) → false ≡ holding p d
   holds_not n = go p n
     where
@@ -143,6 +150,7 @@ module _ (p : Slot) (d : List ℕ) where
       go (held x) h = absurd (h (unfold state_of in refl))
       go disputed h = unfold holding is_held in refl
 
+  -- For the reader: one that is held, its own alone
   pub holds_data : (x : List ℕ) (r : Bool) → state_of p ≡ 1 → x ≡ data_of p → r ≡ same x d → r ≡ holding p d
   holds_data x r one ex er = er ∙ rw ex (go p one)
     where

@@ -4,6 +4,7 @@ use mathlib.Core.Path.{◌≡◌, refl, sym, ◌∙◌}
 use mathlib.Core.Bool.{Bool, true, false, not}
 use mathlib.Core.List.{List}
 use Prim.Native.Nat.{ℕ, ◌≤◌}
+use lib.Dec.{eqb}
 use lib.ListN.{length}
 use native.Mathlib.Omega.{arith}
 use borrow.Author.Tests.{not-true, not-false}
@@ -37,11 +38,19 @@ same_no page.Disputed page.Absent e n = omega arith
 same_no page.Disputed page.Held e n = omega arith
 same_no page.Disputed page.Disputed e n = cc
 
+-- held, by the number
+pub same_held : (s : PageState) → sameb the_type s page.Held ≡ eqb (state_number s) 1
+same_held page.Absent = refl
+same_held page.Held = refl
+same_held page.Disputed = refl
+
 -- r is what the code finds of s and t, and n the number of s
 module _ (s t : PageState) (r : Bool) (n : ℕ) (said : state_number s ≡ n) where
+  -- For the reader: an equal state has the same number
   pub eq_yes : r ≡ sameb the_type s t → r ≡ true → n ≡ state_number t
   eq_yes e h = sym said ∙ same_yes s t (sym e ∙ h)
 
+  -- For the reader: and no other has
   pub eq_no : r ≡ sameb the_type s t → r ≡ false → n ≡ state_number t → ⊥
   eq_no e h k = same_no s t (sym e ∙ h) (said ∙ k)
 

@@ -101,12 +101,14 @@ fn write(out: &mut [u8], at: usize, id: &[u8], index: u8, state: PageState, byte
     seal(out, at);
 }
 
-// stays (5): at, id and index go together here and below, but each caller would build a struct for
-// one call. stays (2): hold, dispute and vacate are one function, `write`, under the names of its
-// three states.
-//
 // The block of a page that is held with these bytes, from the position on. Nothing changes where
 // there is no such block or no room.
+//
+// stays (5): at, id and index go together here and below, but each caller would build a struct for
+// one call.
+//
+// stays (2): hold, dispute and vacate are one function, `write`, under the names of its three
+// states.
 pub fn hold(out: &mut [u8], at: usize, id: &[u8], index: u8, bytes: &[u8])
     ensures { out.new ≡ with_page at id.now index (held bytes.now) out.old }
 {
@@ -175,6 +177,7 @@ pub fn contents(c: &[u8], at: usize) -> &[u8]
 }
 
 // True exactly where the block at the position is held, with these bytes as its data.
+#[tactic(auto, using(crate::proofs::States::same_held, crate::proofs::Reading::holding_is))]
 pub fn holds(c: &[u8], at: usize, bytes: &[u8]) -> bool
     ensures { result ≡ holding (read_slot (block_at at c.now)) bytes.now }
 {

@@ -13,3 +13,4 @@ pub mod Packing
 pub mod Floats
 pub mod Shortest
 pub mod Computed
+pub mod Begins

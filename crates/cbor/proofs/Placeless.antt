@@ -1,8 +1,11 @@
 -- What a reader of items refuses has no place. Assumes nothing.
 use Prim.Native.Nat.{ℕ, ◌+◌, ◌/◌, ◌%◌}
+use mathlib.Core.Path.{◌≡◌, refl}
+use mathlib.Core.Bool.{Bool, true, false}
 use mathlib.Core.List.{List}
 use lib.Dec.{ltb, leb, eqb}
 use lib.ListN.{length}
+use Rattle.wire.specs.Answer.{choose, Answer, done, refused_at, refused, place_of, then}
 use Rattle.wire.specs.Refusal.{number}
 use Rattle.wire.specs.declared.Refusal.{Refusal}
 use Rattle.wire.specs.declared.Refusal.TheVariants.{OutOfRange}
@@ -61,3 +64,35 @@ module _ (s : List ℕ) where
   pub number_field_placeless : (at : ℕ) (name : List ℕ) (least most : ℕ) → Placeless (number_field_at s at name least most)
   unfolding number_field_at
   number_field_placeless at name least most = placeless_then (key_at s at name) _ (key_placeless at name) (λ (_, p). number_placeless p 0 least most OutOfRange)
+
+-- ---- whatever fault a caller names, also one that R2.2 has no name for, it comes without a place
+
+module _ {A : Type 0} where
+  then_nowhere : {B : Type 0} (g : Answer B) (f : B → Answer A) → place_of g ≡ 0 → ((b : B) → place_of (f b) ≡ 0) → place_of (then g f) ≡ 0
+  then_nowhere (done b) f p q = q b
+  then_nowhere (refused_at e place) f p q = p
+
+  demand_nowhere : (t : Bool) (e : ℕ) (a : Answer A) → place_of a ≡ 0 → place_of (choose t a (refused e)) ≡ 0
+  demand_nowhere true e a p = p
+  demand_nowhere false e a p = refl
+
+module _ (s : List ℕ) where
+  number_nowhere : (at kind least most fault : ℕ) → place_of (number_at s at kind least most fault) ≡ 0
+  unfolding number_at
+  number_nowhere at kind least most fault =
+      let h = head_placeless s at kind in
+      then_nowhere (head_at s at kind) _ h.none (λ v. search demand_nowhere)
+
+  string_nowhere : (at kind least most fault : ℕ) → place_of (string_at s at kind least most fault) ≡ 0
+  unfolding string_at
+  string_nowhere at kind least most fault =
+      then_nowhere (number_at s at kind least most fault) _ (number_nowhere at kind least most fault) (λ (len, next).
+      let c = contents_placeless s next len in c.none)
+
+  -- For the reader: of a number, and of the string of a field
+  pub number_string_nowhere : (at : ℕ) (name : List ℕ) (kind least most fault : ℕ)
+      → (place_of (number_at s at kind least most fault) ≡ 0) × (place_of (string_field_at s at name kind least most fault) ≡ 0)
+  unfolding string_field_at
+  number_string_nowhere at name kind least most fault =
+      let k = key_placeless s at name in
+      (number_nowhere at kind least most fault, then_nowhere (key_at s at name) _ k.none (λ (_, p). string_nowhere p kind least most fault))

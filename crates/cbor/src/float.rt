@@ -72,6 +72,7 @@ fn shape_of(w: Width) -> Shape
 }
 
 // Whether a float begins with this byte: F9, FA or FB.
+#[tactic(auto, using(crate::proofs::Begins::begins_within, crate::proofs::Begins::begins_below, crate::proofs::Begins::begins_above))]
 pub fn begins(x: u64) -> bool
     ensures { result ≡ is_float x }
 {

@@ -40,6 +40,7 @@ fn chunk(s: &[u8], at: usize) -> Result<Span, Refusal>
 
 // Where the manifest and the payload stand in the envelope that s is; or the first fault, from the
 // front on: 3, 4, 5 or 7.
+#[tactic(auto, using(crate::proofs::Answers::chain), unfolding(crate::specs::Cover::cover_at))]
 pub fn read(s: &[u8]) -> Result<Cover, Refusal>
     ensures { told result ≡ cover_at s.now }
 {

@@ -95,6 +95,30 @@ module _ (at : ℕ) (bs l : List ℕ) where
         stands = rw (hex_next bs i h, ← p) (over_then at (at + 2 * i) (hex_of (take i bs)) two l x y e g.stands (omega arith) (omega arith));
       }
 
+  none : (two : List ℕ) → [] ≡ take 0 two
+  none [] = refl
+  none (b ∷ bs) = refl
+
+  -- the two digits put one by one
+  two_put : (p : ℕ) (two x : List ℕ) → length two ≡ 2 → p + 2 ≤ length x → set (set x p (get_or two 0 0)) (p + 1) (get_or two 1 0) ≡ over p two x
+  two_put p two x k room =
+      let first : set x p (get_or two 0 0) ≡ over p (take 1 two) x =
+      ap (λ (r : List ℕ). set r p (get_or two 0 0)) (sym (over_none p x))
+      ∙ ap (λ (s : List ℕ). set (over p s x) p (get_or two 0 0)) (none two)
+      ∙ ap (λ (k : ℕ). set (over p (take 0 two) x) k (get_or two 0 0)) (omega arith)
+      ∙ over_next p two x 0 (omega arith) (omega arith) in
+      ap (λ (r : List ℕ). set r (p + 1) (get_or two 1 0)) first
+      ∙ over_next p two x 1 (omega arith) (omega arith)
+      ∙ ap (λ (r : List ℕ). over p r x) (take_all 2 two (omega arith))
+
+  pub hexed_put : (i : ℕ) (two x : List ℕ) → at + 2 * length bs ≤ length l → i < length bs → two ≡ hex_of (get_or bs i 0 ∷ [])
+      → Hexed at bs l i x → Hexed at bs l (i + 1) (set (set x (at + 2 * i) (get_or two 0 0)) (at + 2 * i + 1) (get_or two 1 0))
+  hexed_put i two x room h p g =
+      let k : length two ≡ 2 = ap length p ∙ hex_length (get_or bs i 0 ∷ []) in
+      hexed_on i two x (set (set x (at + 2 * i) (get_or two 0 0)) (at + 2 * i + 1) (get_or two 1 0)) room h p
+      (length-set (set x (at + 2 * i) (get_or two 0 0)) (at + 2 * i + 1) (get_or two 1 0) ∙ length-set x (at + 2 * i) (get_or two 0 0))
+      (two_put (at + 2 * i) two x k (omega (arith, g.size))) g
+
   pub hexed_end : (i : ℕ) (x : List ℕ) → length bs ≤ i → Hexed at bs l i x → x ≡ over at (hex_of bs) l
   hexed_end i x h g = g.stands ∙ rw (take_all i bs h)
 

@@ -39,6 +39,8 @@ module _ (s : List ℕ) (c : Cover) (next : ℕ) (e : got c next ≡ cover_at s)
   unfolding envelope_at
   read_fine h = rw (← e, ← f, ← g, ← h)
 
+pub ruleset reading = (handed_at, handed_own, read_cover, read_faulty, read_fine)
+
 -- ---- writing
 
 module _ (m p out : List ℕ) where

@@ -17,6 +17,7 @@ use wire::RefusedAt;
 
 // Where the manifest and the payload stand in the envelope that s is, once both agree; or the
 // refusal and its place.
+#[tactic(auto, using(crate::proofs::Answers::reading))]
 pub fn read(s: &[u8]) -> Result<Cover, RefusedAt>
     ensures { told_at result ≡ envelope_at s.now }
 {

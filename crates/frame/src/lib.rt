@@ -113,6 +113,7 @@ pub fn read(s: &[u8]) -> Result<Frame, Refusal>
 
 // The frame of these parts, whatever they are, at the front of out, and its length; or 11 and
 // nothing changed.
+//
 // stays (1): any byte may be laid as the type, so `kind` is no `Kind` here
 pub fn lay(
     kind: u8,

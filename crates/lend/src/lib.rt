@@ -21,12 +21,23 @@ pub fn put(out: &mut [u8], at: usize, b: u8)
     }
 }
 
+// A loop and no `copy_from_slice`: of that the compiler makes `memmove`, and a program in C that
+// calls the phone's library need bring no more of C's library than `memcpy` and `memset`.
+fn copy_fitting(out: &mut [u8], at: usize, src: &[u8])
+    requires { at + length src.now ≤ length out.old }
+    ensures { out.new ≡ over at src.now out.old }
+{
+    for (i, b) in src.iter().enumerate() {
+        out[at + i] = *b;
+    }
+}
+
 // All of src stands from the index on. Nothing changes where it does not fit.
 pub fn copy(out: &mut [u8], at: usize, src: &[u8])
     ensures { out.new ≡ over at src.now out.old }
 {
     if at <= out.len() && src.len() <= out.len() - at {
-        out[at..at + src.len()].copy_from_slice(src);
+        copy_fitting(out, at, src);
     }
 }
 
@@ -48,6 +59,7 @@ pub fn clear(out: &mut [u8], at: usize, n: usize)
 
 // True exactly where a and b hold the same bytes (`same_eq`, `same_refl`). `==` of slices compares
 // whole groups of bytes at once.
+#[tactic(auto, using(crate::proofs::Sames::pointwise_same))]
 pub fn equal(a: &[u8], b: &[u8]) -> bool
     ensures { result ≡ same a.now b.now }
 {

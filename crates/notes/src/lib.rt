@@ -23,6 +23,7 @@ pub enum Kind {
     Long,
 }
 
+// The index of a kind among the notes.
 impl From<Kind> for usize {
     ghost from_gives = { λ kind n. n ≡ kind_number kind };
 

@@ -25,6 +25,7 @@ pub(super) enum Flaw {
     Strange,
 }
 
+// The number of a flaw, as the notes have it.
 impl From<Flaw> for u64 {
     ghost from_gives = { λ flaw n. n ≡ flaw_number flaw };
 

@@ -1,7 +1,7 @@
 // The files that the pantry keeps and puts in place (R15.7). A new one is written beside the old
 // one and takes its place once it is whole and on the disk, so that a crash leaves the one or the
 // other.
-ghost use Rattle.std.specs.Prelude.{◌≡◌, ◌≤◌, length};
+ghost use Rattle.std.specs.Prelude.{◌≡◌, ◌≤◌, length, IfSome};
 
 use crate::said;
 use scan::session::Session;
@@ -123,7 +123,9 @@ pub(crate) fn is_new(real: &[u8]) -> bool {
 
 // The name of the new file beside that of this name. Answers its length; none where there can be no
 // such file.
-fn new_name(real: &[u8], beside: &mut [u8]) -> Option<usize> {
+fn new_name(real: &[u8], beside: &mut [u8]) -> Option<usize>
+    ensures { IfSome result (λ n. n ≤ 4096) }
+{
     let n = real.len();
     if PATH_MAX - BESIDE <= n || is_new(real) {
         return None;

@@ -5,6 +5,7 @@ use mathlib.Core.List.{List}
 use borrow.Author.Tests.{eq-eqb, ne_eqb, le-leb, lt-leb}
 use lib.ListN.{length}
 use Rattle.std.specs.Prelude.{Result, Ok, Err}
+use Rattle.std.specs.Borrow.{Bor}
 use Rattle.wire.specs.Answer.{Answer, done, refused_at, refused, then}
 use Rattle.wire.specs.Writing.{Written}
 use Rattle.wire.specs.Refusal.{number}
@@ -18,8 +19,8 @@ use Rattle.auth.specs.declared.Claimed.{Claimed}
 use Rattle.shard.specs.Shard.{shard_at}
 use Rattle.shard.specs.Answer.{shard_told}
 use Rattle.shard.specs.declared.Shard.{Shard}
-use Rattle.payload_frame.specs.Payload.{payload_frame_of}
-use Rattle.payload_frame.specs.Private.{accepted}
+use Rattle.payload_frame.specs.Payload.{payload_frame_of, key_frame, auth_frame}
+use Rattle.payload_frame.specs.Private.{accepted, Reads}
 
 -- what a payload's reader said, without its value
 abbrev pub bare : {A : Type 0} → Answer A → Answer Unit
@@ -61,3 +62,19 @@ shard_accepted s (Err e) h = rw (← h)
 pub auth_accepted : (s : List ℕ) (r : Result Claimed Refusal) → claim_told r ≡ auth_at s → accepted r ≡ bare (auth_at s)
 auth_accepted s (Ok t) h = rw (← h)
 auth_accepted s (Err e) h = rw (← h)
+
+-- what `carry` promises, of a call whose post P says what the reader promises
+module _ (id contents x z : List ℕ) (r : Result ℕ Refusal) where
+  pub key_kept : {P : Bor (List ℕ) → Result Shard Refusal → Type 0}
+      → ((g : Answer Unit) → Reads P contents g → Written 0 (payload_frame_of 0x4B id contents g) x z r)
+      → ((s : Bor (List ℕ)) (q : Result Shard Refusal) → P s q → shard_told q ≡ shard_at s.now)
+      → Written 0 (key_frame id contents) x z r
+  key_kept f h =
+      rw (← frame_bare 0x4B id contents (shard_at contents)) (f (bare (shard_at contents)) (λ s q e w. shard_accepted contents q (rw (← e) (h s q w))))
+
+  pub auth_kept : {P : Bor (List ℕ) → Result Claimed Refusal → Type 0}
+      → ((g : Answer Unit) → Reads P contents g → Written 0 (payload_frame_of 0x41 id contents g) x z r)
+      → ((s : Bor (List ℕ)) (q : Result Claimed Refusal) → P s q → claim_told q ≡ auth_at s.now)
+      → Written 0 (auth_frame id contents) x z r
+  auth_kept f h =
+      rw (← frame_bare 0x41 id contents (auth_at contents)) (f (bare (auth_at contents)) (λ s q e w. auth_accepted contents q (rw (← e) (h s q w))))

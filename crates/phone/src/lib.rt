@@ -107,7 +107,7 @@ pub extern "C" fn stilt_status(c: &[u8], pages: &mut [u8]) -> u64
             n.stands,
             u64::from(u32::from_le_bytes([n.total, n.held, n.missing, n.disputed])),
         ),
-        Err(why) => refused(why),
+        Err(fault) => refused(fault),
     }
 }
 
@@ -142,7 +142,7 @@ pub extern "C" fn stilt_base64(text: &[u8], out: &mut [u8]) -> u64
 {
     match text::base64_read(text, out) {
         Ok(len) => pack(0, 0, (len as u64) % COUNTS),
-        Err(why) => refused(why),
+        Err(flaw) => refused(flaw),
     }
 }
 
@@ -155,6 +155,6 @@ pub extern "C" fn stilt_typed(text: &[u8], out: &mut [u8]) -> u64
 {
     match typed::read(text, out) {
         Ok(n) => pack(0, 0, n as u64),
-        Err(e) => refused_at(e),
+        Err(line) => refused_at(line),
     }
 }

@@ -141,6 +141,10 @@ fn lay<L: Lines>(c: &[u8], size: usize, n: usize, out: &mut [u8]) -> usize
 // The room aside is made before anything is tested. With the test in front, the kit's LLVM at -O3
 // put the test before the stack frame too, and making so large a frame it overwrote the register
 // that held the length of c: every document was too large.
+//
+// Out of line: each form has a room of its own, and where both were inlined into one caller that
+// had 95 kB more of stack in every run, also where it prints neither.
+#[inline(never)]
 fn sheet<L: Lines>(c: &[u8], size: usize, out: &mut [u8]) -> Result<usize, Refusal>
     ensures { Written 0 (sheet_verdict L.of c.now size) out.old out.new result }
 {

@@ -57,7 +57,7 @@ fn framed(bytes: &[u8], out: &mut [u8]) -> Result<usize, RefusedAt>
     requires { length bytes.now ≤ 800 }
     ensures { ReadLines (framed bytes.now) out.old out.new result }
 {
-    frame::read(bytes)?;
+    let _frame = frame::read(bytes)?;
     let mut scan = [0u8; SCAN_ROOM];
     let len = lay::scan(bytes, &mut scan);
     let given = lend::give(&scan[..len], out)?;

@@ -25,8 +25,8 @@ abbrev pub place_of : {A : Type 0} → Answer A → ℕ
 place_of (done a) = 0
 place_of (refused_at e place) = place
 
--- one thing after another: the first refusal decides (R2.1). In the code this is a `let .. else`
--- (R18.4)
+-- one thing after another: the first refusal decides (R2.1). In the code this is a `?`, or a
+-- `let .. else` (R18.4)
 abbrev pub then : {A B : Type 0} → Answer A → (A → Answer B) → Answer B
 then (done a) f = f a
 then (refused_at e place) f = refused_at e place

@@ -88,6 +88,7 @@ pub struct RefusedAt {
     pub place: u8,
 }
 
+// The refusal of a rule that names no place (R2.3).
 impl From<Refusal> for RefusedAt {
     ghost from_gives = { Placeless };
 

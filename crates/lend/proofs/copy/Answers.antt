@@ -1,13 +1,9 @@
 -- `lend::copy` meets its contract: what does not fit changes nothing. Assumes nothing.
-use mathlib.Core.Path.{refl, sym}
+use mathlib.Core.Path.{sym}
 use native.Mathlib.Omega.{arith}
 use Rattle.wire.proofs.Overs.{over_out}
-use Rattle.lend.proofs.Parts.{put_over}
 use Rattle.lend.proofs.copy.Goals as goal
 use Rattle.lend.proofs.copy.Goals.{else-at-out-via-then-at-out+else-src-out, else-at-out-via-else-at-out}
-
-pub returns-then-src-out : goal.returns-then-src-out
-returns-then-src-out c = put_over _ _ _ _ _ refl c.copy_from_slice.ensures.after c.if-at-out.true c.if-src-out.true
 
 pub returns-else-at-out : goal.returns-else-at-out
 returns-else-at-out c =

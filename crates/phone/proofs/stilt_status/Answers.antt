@@ -15,4 +15,4 @@ returns-in-Ok c =
     }
 
 pub returns-in-Err : goal.returns-in-Err
-returns-in-Err c = record { value = search (packs packed_numbers told); pages_after = search rules }
+returns-in-Err c = record { value = packs packed_numbers told _ _ _ _ _ _ c.of.ensures c.in-Err.is (omega arith); pages_after = search rules }

@@ -1,4 +1,5 @@
 -- `stilt_typed` meets its contract. Assumes nothing.
+use native.Mathlib.Omega.{arith}
 use borrow.Author.Rules.{rules}
 use Rattle.wire.specs.Reading.{told_at}
 use Rattle.phone.specs.Packed.{packed_typed}
@@ -12,4 +13,4 @@ pub returns-in-Ok : goal.returns-in-Ok
 returns-in-Ok c = record { value = search (packs packed_typed told_at); out_after = search rules }
 
 pub returns-in-Err : goal.returns-in-Err
-returns-in-Err c = record { value = search (packs packed_typed told_at); out_after = search rules }
+returns-in-Err c = record { value = packs packed_typed told_at _ _ _ _ _ _ c.read.ensures c.in-Err.is (omega arith); out_after = search rules }
