@@ -120,14 +120,22 @@ def functions(path):
 CONVERSION = re.compile(r"^impl From<(\w+)> for (\w+) \{$")
 
 
+FROM_GIVES = re.compile(r"^    ghost from_gives = \{ (.*) \};$", re.MULTILINE)
+
+
 def conversions(root):
-    """The conversions of the libraries, each by the name that the toolchain gives its function:
-    `wire::U8FromRefusal::from`. What it promises is its impl's `from_gives`."""
+    """The conversions of the libraries: each by the name that the toolchain gives its function,
+    `wire::U8FromRefusal::from`, its file, what it promises, which is its impl's `from_gives`, and
+    the first paragraph of the comment above it."""
     for path in promising(root):
         with open(path, encoding="utf-8") as file:
-            for found in filter(None, map(CONVERSION.match, file.read().split("\n"))):
+            lines = file.read().split("\n")
+        for number, found in enumerate(map(CONVERSION.match, lines)):
+            if found:
                 name = f"{found[2][0].upper()}{found[2][1:]}From{found[1]}"
-                yield "::".join([*module(root, path), name, "from"])
+                gives = FROM_GIVES.search("\n".join(lines[number:lines.index("}", number)]))
+                comment = comment_above(lines, number, "//")
+                yield "::".join([*module(root, path), name, "from"]), path, gives[1] if gives else "", comment[0] if comment else ""
 
 
 def body_at(lines, number):

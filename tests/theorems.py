@@ -10,7 +10,13 @@ THEOREM = re.compile(
     r"^pub (\S+) : Once(?:(Seen)|) (\S+)\.Kinds\.ps \3\.Kinds\.r (?(2)\(λ κs x\. x\.now\) )\3\.Reads\.Learnt$"
 )
 # of a function that takes any type with a trait: once for all of them, in a module that has the
-# type and what the toolchain passes of it
+# type, what the toolchain passes of it, and the law of the trait that every such type proves
+# (Fault: cbor). With any other premise it is no theorem of one answer.
+MODULE = (
+    "module _ (T : RattleType) (L : Laws T) (C : IsCopy T) (G : Ghosts T.Denot) (d : Dict) "
+    "(F : from.Ghosts T.Denot Refusal) (e : Dict) (K : clone.Ghosts T.Denot) (f : Dict) "
+    "(apart : (a b : T.Denot) → G.number_of_fault a ≡ G.number_of_fault b → a ≡ b) where"
+)
 GENERIC = re.compile(
     r"^  pub (\S+) : Once(?:(Seen)|) \((\S+)\.Kinds\.ps ([A-Z ]+)\) \(\3\.Kinds\.r \4\) \(\3\.Reads\.Learnt \4(?: \w)*\)$"
 )
@@ -18,18 +24,24 @@ GENERIC = re.compile(
 
 def whole(lines, number):
     """The statement that begins at a line, as one line."""
-    end = number + 1
-    while end < len(lines) and lines[end].startswith("      "):
+    begins, end = len(lines[number]) - len(lines[number].lstrip()), number + 1
+    while end < len(lines) and lines[end].startswith(" " * (begins + 4)):
         end += 1
     return " ".join([lines[number], *(line.strip() for line in lines[number + 1:end])])
 
 
+def in_module(lines, number):
+    """Whether a statement stands in a module that has the premises of MODULE, and no others."""
+    heads = [at for at in range(number) if lines[at] and not lines[at].startswith((" ", "--"))]
+    return bool(heads) and whole(lines, heads[-1]) == MODULE
+
+
 class Theorem:
     """The theorem of a function: its file and name, whether it is only of what is seen through an
-    answer, and the comment above it."""
+    answer, whether it is of every type of faults, and the comment above it."""
 
-    def __init__(self, path, name, seen, comment):
-        self.path, self.name, self.seen, self.comment = path, name, seen, comment
+    def __init__(self, path, name, seen, generic, comment):
+        self.path, self.name, self.seen, self.generic, self.comment = path, name, seen, generic, comment
 
 
 def theorem_of(function):
@@ -54,11 +66,11 @@ def theorems(root):
     for path, lines, facades in statements(root, "proofs"):
         file = os.path.basename(path)
         for number, line in enumerate(lines):
-            found = THEOREM.match(line) or (GENERIC.match(whole(lines, number)) if line.startswith("  pub ") else None)
+            found = THEOREM.match(line) or (GENERIC.match(whole(lines, number)) if line.startswith("  pub ") and in_module(lines, number) else None)
             function = facades.get(found[3]) if found else None
             if function and found[1] == theorem_of(function):
                 comment = " ".join(comment_above(lines, number, "--"))
-                proved[function] = Theorem(path, found[1], bool(found[2]), comment)
+                proved[function] = Theorem(path, found[1], bool(found[2]), line.startswith(" "), comment)
             elif function:
                 faults.append(f"{file}: the theorem of {function} is named {found[1]}")
             elif STATED.match(line):

@@ -42,8 +42,8 @@ PAIRS = r"""\1\2.number = load \3, ptr \4
 # Any other that has a pointer behind something else.
 POINTER_BEHIND = re.compile(r"(?:load|store) \{ [^}]*, ptr\b")
 
-# What an archive may want of the C library.
-FROM_C = {"memcmp", "memcpy", "memmove", "memset"}
+# What an archive may want of the C library, and no more: include/stiltbasket.h says so.
+FROM_C = {"memcpy", "memset"}
 
 # One page of WebAssembly's memory, which comes in pages of 64 KiB. It is the first, so that a stack
 # that ran over would leave the memory, which is a trap, and overwrite nothing.
@@ -108,7 +108,7 @@ def place(into, *names):
 
 
 def held_to_c(path):
-    """The object file or archive, unless it wants more than a C library has everywhere."""
+    """The object file or archive, unless it wants more than the header says."""
     more = wanted(path) - FROM_C
     if more:
         raise SystemExit(f"{path} wants {', '.join(sorted(more))}")
